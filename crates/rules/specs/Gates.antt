@@ -1,0 +1,44 @@
+-- The gates (01, "Gates"): one list of input and output types, from which the wires in and out follow.
+use Prim.Native.Nat.{ℕ, zero, suc}
+use mathlib.Core.List.{List, [], _∷_}
+use mathlib.Core.Option.{Option, none, some}
+use lib.ListN.{length}
+use Rattle.rules.specs.Types.{Wire, Bit, Qubit, Ty, wire, _⊗_, Circ, wires}
+
+-- The types of a gate: it is a constant of type Circ from input to output (01: "Gate types are Circ of these").
+pub data GateType : Type 0 where
+  _to_ : Ty → Ty → GateType
+
+infix 50 _to_
+-- 01: "0 H, 1 X, 2 Z, 3 S, 4 T: Qubit to Qubit. 5 CNOT: a pair of Qubits to the same. 6 Meas: Qubit to Bit.
+-- 7 BX, 8 BZ: a pair of Bit and Qubit to the same."
+abbrev pub gateTable : List GateType
+gateTable =
+    (wire Qubit to wire Qubit)
+    ∷ (wire Qubit to wire Qubit)
+    ∷ (wire Qubit to wire Qubit)
+    ∷ (wire Qubit to wire Qubit)
+    ∷ (wire Qubit to wire Qubit)
+    ∷ (wire Qubit ⊗ wire Qubit to wire Qubit ⊗ wire Qubit)
+    ∷ (wire Qubit to wire Bit)
+    ∷ (wire Bit ⊗ wire Qubit to wire Bit ⊗ wire Qubit)
+    ∷ (wire Bit ⊗ wire Qubit to wire Bit ⊗ wire Qubit)
+    ∷ []
+
+-- What stands at a place of a list, if anything.
+abbrev pub nth : {A : Type 0} → List A → ℕ → Option A
+nth [] n = none
+nth (a ∷ l) zero = some a
+nth (a ∷ l) (suc n) = nth l n
+
+-- The types of the gate with this number; none for a number that is no gate.
+abbrev pub gateType : ℕ → Option GateType
+gateType n = nth gateTable n
+
+abbrev pub outputWires : Option GateType → List Wire
+outputWires none = []
+outputWires (some (T to U)) = wires U
+
+-- The wires that a gate makes, left to right.
+abbrev pub gateOutputs : ℕ → List Wire
+gateOutputs n = outputWires (gateType n)

@@ -1,0 +1,13 @@
+pub mod Types
+pub mod Gates
+pub mod Terms
+pub mod Circuits
+pub mod Typing
+pub mod Contexts
+pub mod Steps
+pub mod Sizes
+pub mod Demand3
+pub mod Next
+pub mod Inference
+pub mod Cases
+pub mod Theorems

@@ -1,0 +1,7 @@
+-- The theorems about the rules. Nothing here needs to be believed.
+pub mod Deterministic
+pub mod Labels
+pub mod Substitution
+pub mod Appending
+pub mod Counting
+pub mod Safety

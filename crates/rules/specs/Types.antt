@@ -1,0 +1,57 @@
+-- Types (000, section 2.3; 01, "Program file" and "Typing").
+use Prim.Native.Nat.{ℕ, _+_}
+use mathlib.Core.Bool.{Bool, true, false, _&&_}
+use mathlib.Core.List.{List, [], _∷_, _++_}
+
+-- The type of one wire. 000, definition 2.4, calls these the wire types; 01 has two of them.
+pub data Wire : Type 0 where
+  Bit Qubit : Wire
+  deriving Discrete as Wire-discrete
+
+infixr 68 _⊗_
+infixr 66 _⊸_
+infixr 70 !_
+-- 000, 2.3: A, B ::= α | A ⊗ B | A ⊸ B | !A | Circ(T, U). In 01: Bit and Qubit, pair, function, reusable, circuit.
+pub data Ty : Type 0 where
+  wire : Wire → Ty
+  _⊗_ : Ty → Ty → Ty
+  _⊸_ : Ty → Ty → Ty
+  !_ : Ty → Ty
+  Circ : Ty → Ty → Ty
+  deriving Discrete as Ty-discrete
+
+-- 01: "Wire types are Bit, Qubit and pairs of wire types" (000: the simple M-types T, U ::= α | T ⊗ U).
+abbrev pub isWireType : Ty → Bool
+isWireType (wire α) = true
+isWireType (A ⊗ B) = isWireType A && isWireType B
+isWireType (A ⊸ B) = false
+isWireType (! A) = false
+isWireType (Circ T U) = false
+
+-- 01: "The types that may be copied and dropped are the reusable kind and Circ, and no others".
+abbrev pub copyable : Ty → Bool
+copyable (wire α) = false
+copyable (A ⊗ B) = false
+copyable (A ⊸ B) = false
+copyable (! A) = true
+copyable (Circ T U) = true
+
+-- The wires of a wire type, left to right (01: "one new label for each wire of T, left to right"). Other types have none.
+abbrev pub wires : Ty → List Wire
+wires (wire α) = α ∷ []
+wires (A ⊗ B) = wires A ++ wires B
+wires (A ⊸ B) = []
+wires (! A) = []
+wires (Circ T U) = []
+
+-- The entries of a type in preorder, as 01's type section writes it.
+abbrev pub entries : Ty → ℕ
+entries (wire α) = 1
+entries (A ⊗ B) = 1 + (entries A + entries B)
+entries (A ⊸ B) = 1 + (entries A + entries B)
+entries (! A) = 1 + entries A
+entries (Circ T U) = 1 + (entries T + entries U)
+
+-- 01: "No type of a node may exceed 512 entries."
+abbrev pub most-entries : ℕ
+most-entries = 512
