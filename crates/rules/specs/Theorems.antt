@@ -2,6 +2,8 @@
 pub mod Deterministic
 pub mod Labels
 pub mod Substitution
+pub mod Wires
 pub mod Appending
 pub mod Counting
+pub mod Inferring
 pub mod Safety
