@@ -183,23 +183,40 @@ same A B = isYes (Ty-discrete Wire-discrete A B)
 abbrev pub if-bounded : Ty → Option Ty
 if-bounded A = if-true (leb (entries A) most-entries) A
 
-abbrev pub gateTyped : GateType → Ty
-gateTyped (T to U) = Circ T U
+-- The type that a rule gives a node from the types of its parts, if it applies.
+abbrev pub gateNodeType : GateType → Ty
+gateNodeType (T to U) = Circ T U
+
+abbrev pub abstractionType : Ty → Ty → Option Ty
+abstractionType A B = if-bounded (A ⊸ B)
+
+abbrev pub applicationType : Ty → Ty → Option Ty
+applicationType F A = given (asFunction F) λ p. if-true (same (p .0) A) (p .1)
+
+abbrev pub pairType : Ty → Ty → Option Ty
+pairType A B = if-bounded (A ⊗ B)
+
+abbrev pub liftType : Ty → Option Ty
+liftType A = if-bounded (! A)
+
+abbrev pub boxType : Ty → Ty → Option Ty
+boxType T A =
+    given (asReusable A) λ F. given (asFunction F) λ p.
+    if-true (same T (p .0) && (isWireType T && isWireType (p .1))) (Circ T (p .1))
+
+abbrev pub applyType : Ty → Ty → Option Ty
+applyType F A = given (asCirc F) λ p. if-true (same (p .0) A) (p .1)
 
 abbrev pub infer : List Ty → LabelContext → Term → Option Ty
 infer Γ Q (variable n) = nth Γ n
 infer Γ Q (label ℓ) = Option·map wire (Q ℓ)
-infer Γ Q (gate n) = Option·map gateTyped (gateType n)
+infer Γ Q (gate n) = Option·map gateNodeType (gateType n)
 infer Γ Q (constant b) = none
-infer Γ Q (abstraction A M) = given (infer (A ∷ Γ) Q M) λ B. if-bounded (A ⊸ B)
-infer Γ Q (application M N) =
-    given (infer Γ Q M) λ F. given (infer Γ Q N) λ A. given (asFunction F) λ p. if-true (same (p .0) A) (p .1)
-infer Γ Q (pair M N) = given (infer Γ Q M) λ A. given (infer Γ Q N) λ B. if-bounded (A ⊗ B)
+infer Γ Q (abstraction A M) = given (infer (A ∷ Γ) Q M) λ B. abstractionType A B
+infer Γ Q (application M N) = given (infer Γ Q M) λ F. given (infer Γ Q N) λ A. applicationType F A
+infer Γ Q (pair M N) = given (infer Γ Q M) λ A. given (infer Γ Q N) λ B. pairType A B
 infer Γ Q (let-in M N) = given (infer Γ Q M) λ A. given (asPair A) λ p. infer (p .1 ∷ p .0 ∷ Γ) Q N
-infer Γ Q (lift M) = given (infer Γ Q M) λ A. if-bounded (! A)
+infer Γ Q (lift M) = given (infer Γ Q M) liftType
 infer Γ Q (force M) = given (infer Γ Q M) asReusable
-infer Γ Q (box T M) =
-    given (infer Γ Q M) λ A. given (asReusable A) λ F. given (asFunction F) λ p.
-    if-true (same T (p .0) && (isWireType T && isWireType (p .1))) (Circ T (p .1))
-infer Γ Q (apply M N) =
-    given (infer Γ Q M) λ F. given (infer Γ Q N) λ A. given (asCirc F) λ p. if-true (same (p .0) A) (p .1)
+infer Γ Q (box T M) = given (infer Γ Q M) λ A. boxType T A
+infer Γ Q (apply M N) = given (infer Γ Q M) λ F. given (infer Γ Q N) λ A. applyType F A

@@ -1,5 +1,6 @@
 pub mod Types
 pub mod Gates
+pub mod GateCodes
 pub mod Terms
 pub mod Circuits
 pub mod Typing

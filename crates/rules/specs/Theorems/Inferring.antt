@@ -14,7 +14,7 @@ use Rattle.rules.specs.Typing.{LabelContext, Bounded, _∣_⊢_∶_}
 use Rattle.rules.specs.Inference.{Plain, plain-var, plain-label, plain-gate, plain-circ, plain-abs, plain-app}
 use Rattle.rules.specs.Inference.{plain-tuple, plain-let, plain-lift, plain-force, plain-box, plain-apply}
 use Rattle.rules.specs.Inference.{Counted, source, asPair, asFunction, asReusable, asCirc, given, if-true, isYes}
-use Rattle.rules.specs.Inference.{same, if-bounded, gateTyped, infer}
+use Rattle.rules.specs.Inference.{same, if-bounded, gateNodeType, infer}
 use Rattle.rules.specs.Theorems.Counting.{closed→plain, has→counted, counted→has}
 
 -- If something follows, there was something that it follows from.
@@ -143,7 +143,7 @@ infer→plain Γ Q (label ℓ) A e = go (Q ℓ) refl e
         subst (Plain Γ Q (label ℓ)) x (plain-label h)
 infer→plain Γ Q (gate n) A e = go (gateType n) refl e
   where
-    go : (o : Option GateType) → gateType n ≡ o → Option·map gateTyped o ≡ some A → Plain Γ Q (gate n) A
+    go : (o : Option GateType) → gateType n ≡ o → Option·map gateNodeType o ≡ some A → Plain Γ Q (gate n) A
     go none h k = absurd (Option·some-ne-none A (sym k))
     go (some (T to U)) h k =
         let x : Circ T U ≡ A = cc in
@@ -197,7 +197,7 @@ pub plain→infer : {Γ : List Ty} {Q : LabelContext} {M : Term} {A : Ty}
     → IsTrue (source M) → Plain Γ Q M A → infer Γ Q M ≡ some A
 plain→infer s (plain-var e) = e
 plain→infer s (plain-label e) = ap (Option·map wire) e
-plain→infer s (plain-gate e) = ap (Option·map gateTyped) e
+plain→infer s (plain-gate e) = ap (Option·map gateNodeType) e
 plain→infer s (plain-circ t b c d) = absurd s
 plain→infer s (plain-abs {A = A} {B = B} b d) =
     ap (λ o. given o λ C. if-bounded (A ⊸ C)) (plain→infer s d) ∙ some-bounded (A ⊸ B) b

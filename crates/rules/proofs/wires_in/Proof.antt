@@ -1,0 +1,30 @@
+-- `rules::wires_in` meets its contract: column 0 of a gate's row. Assumes nothing.
+use mathlib.Core.Path.{_≡_, refl, _∙_}
+use lib.ListN.{length}
+use borrow.Author.Needs.{needs}
+use Rattle.rules.specs.Gates.{gateTable}
+use Rattle.rules.specs.GateCodes.{codeAt, inputWires, row, cellOf, wiresIn}
+use Rattle.rules.proofs.GateTable.{of-gate, of-no-gate}
+use Rattle.rules.proofs.wires_in.Statement.{statement}
+use Rattle.rules.proofs.wires_in.Tie as tie
+
+cell-requires : tie.Need-cell-requires
+cell-requires c κs = search needs
+
+wide-requires : tie.Need-wide-requires
+wide-requires c κs = search needs
+
+returns : tie.Need-returns
+unfolding cellOf wiresIn
+returns c =
+    let n = c .before .before .before .args .n in
+    c .wide .ensures
+    ∙ c .before .cell .ensures
+    ∙ of-gate (λ g. codeAt (row g) 0 ≡ length (inputWires g)) gateTable (λ g. refl) n (c .before .before .if1 .taken)
+
+returns-2 : tie.Need-returns-2
+unfolding wiresIn
+returns-2 c = of-no-gate (λ g. 0 ≡ length (inputWires g)) gateTable refl (c .before .args .n) (c .if1 .left)
+
+pub wires-in-spec : {M : Type 1} → statement M
+wires-in-spec = tie.close (tie.spec cell-requires wide-requires returns returns-2)
