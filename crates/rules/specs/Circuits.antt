@@ -19,13 +19,10 @@ abbrev pub outputs : List Gate → List Wire
 outputs [] = []
 outputs ((n on ws) ∷ gs) = outputs gs ++ gateOutputs n
 
--- The types of all wires of a circuit, by number. 01: "inputs from 0, then each gate's outputs, next numbers in order".
-abbrev pub made : Circuit → List Wire
-made (circuit I gs) = I ++ outputs gs
-
--- How many wires a circuit has made: the number of the next one.
+-- How many wires a circuit has made: the number of the next one. I ++ outputs gs has their types, by number. 01: "inputs
+-- from 0, then each gate's outputs, next numbers in order".
 abbrev pub wireCount : Circuit → ℕ
-wireCount C = length (made C)
+wireCount (circuit I gs) = length (I ++ outputs gs)
 
 -- k numbers from n on.
 abbrev pub numbers : ℕ → ℕ → List ℕ
@@ -37,16 +34,10 @@ abbrev pub madeBy : List Wire → List Gate → List ℕ
 madeBy I [] = numbers 0 (length I)
 madeBy I ((n on ws) ∷ gs) = madeBy I gs ++ numbers (length (I ++ outputs gs)) (length (gateOutputs n))
 
-abbrev pub wiresMade : Circuit → List ℕ
-wiresMade (circuit I gs) = madeBy I gs
-
 -- The wires taken, once for each slot. 01: "taken by a gate that has it among its inputs".
 abbrev pub taken : List Gate → List ℕ
 taken [] = []
 taken ((n on ws) ∷ gs) = ws ++ taken gs
-
-abbrev pub wiresTaken : Circuit → List ℕ
-wiresTaken (circuit I gs) = taken gs
 
 abbrev pub one-if : Bool → ℕ
 one-if true = 1
@@ -109,12 +100,12 @@ renameTuple ℓs next (both t u) = both (renameTuple ℓs next t) (renameTuple �
 
 -- 000, definition 2.13: the circuit after append. 01: "Apply copies the constant's gates in order".
 abbrev pub appended : Circuit → Tuple → Boxed → Circuit
-appended (circuit I hs) k (boxed T gs r) = circuit I (map (renameGate (labels k) (length (I ++ outputs hs))) gs ++ hs)
+appended (circuit I hs) k (boxed T gs r) = circuit I (map (renameGate (labels k) (wireCount (circuit I hs))) gs ++ hs)
 
 -- 000, definition 2.13: the tuple that append gives. 01: "The result tuple is renamed likewise; a wire of the argument
 -- that none of the copied gates took keeps its number."
 abbrev pub returned : Circuit → Tuple → Boxed → Tuple
-returned (circuit I hs) k (boxed T gs r) = renameTuple (labels k) (length (I ++ outputs hs)) r
+returned (circuit I hs) k (boxed T gs r) = renameTuple (labels k) (wireCount (circuit I hs)) r
 
 -- A gate as a boxed circuit of one gate (000, 2.2: the gate H is written (ℓ, H, ℓ')).
 abbrev pub gateBoxed : ℕ → Ty → Ty → Boxed
