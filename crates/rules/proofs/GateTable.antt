@@ -84,12 +84,13 @@ within [] i d e h = absurd (omega arith)
 within (a ∷ l) zero d e h = refl
 within (a ∷ l) (suc i) d e h = within l i d e (omega arith)
 
--- What the table has at a gate and a column, and what there is elsewhere.
-pub cell-inside : (n column : ℕ)
+-- The code's table at a gate and a column, and what there is elsewhere.
+pub table-inside : (n column : ℕ)
     → n < length gateTable
     → column < columns
-    → getD (getD (rows gateTable) n []) column 0 ≡ codeAt (row (gateType n)) column
-cell-inside n column h k =
+    → getD (getD (rows gateTable) n []) column 0 ≡ cellOf n column
+unfolding cellOf
+table-inside n column h k =
     ap (λ r. getD r column 0) (row-at gateTable n)
     ∙ of-gate
     (λ g. getD (row g) column 0 ≡ codeAt (row g) column)
@@ -98,35 +99,64 @@ cell-inside n column h k =
     n
     h
 
-pub cell-outside : (n column : ℕ) → columns ≤ column → 255 ≡ codeAt (row (gateType n)) column
-cell-outside n column h =
-    let short : length (row (gateType n)) ≤ columns = leb→le _ columns (at-each (λ g. leb (length (row g)) columns) gateTable tt n) in
+pub no-such-gate : (n column : ℕ) → length gateTable ≤ n → 255 ≡ cellOf n column
+unfolding cellOf
+no-such-gate n column h = of-no-gate (λ g. 255 ≡ codeAt (row g) column) gateTable refl n h
+
+pub no-such-column : (n column : ℕ) → columns ≤ column → 255 ≡ cellOf n column
+unfolding cellOf
+no-such-column n column h =
+    let short : length (row (gateType n)) ≤ columns
+    = leb→le _ columns (at-each (λ g. leb (length (row g)) columns) gateTable tt n) in
     sym (List·getD-eq-default (row (gateType n)) 255 (omega arith))
 
--- A list of codes of each gate that stands in its row from a column on, in a number of places.
-module _ (codes : Option GateType → List ℕ) (column places : ℕ) where
-  abbrev fits : Option GateType → Bool
-  fits g = leb (length (codes g)) places
+-- A number of each gate that stands in a column.
+module _ (number : Option GateType → ℕ) (column : ℕ) where
+  abbrev pub has-number : Option GateType → Bool
+  has-number none = true
+  has-number (some g) = eqb (codeAt (row (some g)) column) (number (some g))
 
-  abbrev agrees : Option GateType → ℕ → Bool
-  agrees g i = eqb (codeAt (row g) (column + i)) (codeAt (codes g) i)
+  pub number-at : IsTrue (tests has-number gateTable)
+      → (n : ℕ)
+      → n < length gateTable
+      → cellOf n column ≡ number (gateType n)
+  unfolding cellOf
+  number-at t n h =
+      of-gate
+      (λ g. IsTrue (has-number g) → codeAt (row g) column ≡ number g)
+      gateTable
+      (λ g. eqb→eq (codeAt (row (some g)) column) (number (some g)))
+      n
+      h
+      (at-each has-number gateTable t n)
 
-  abbrev pub stands : Option GateType → Bool
-  stands g = fits g && below (agrees g) places
+-- Codes of each gate that stand in its row from a column on, in a number of places; and behind these places there are none.
+module _ (codes : Option GateType → List ℕ) (places : ℕ) where
+  abbrev pub has-codes : ℕ → Option GateType → Bool
+  has-codes column g = below (λ i. eqb (codeAt (row g) (column + i)) (codeAt (codes g) i)) places
 
-  pub code-inside : IsTrue (tests stands gateTable)
+  pub code-at : (column : ℕ)
+      → IsTrue (tests (has-codes column) gateTable)
       → (n i : ℕ)
       → i < places
       → cellOf n (column + i) ≡ codeAt (codes (gateType n)) i
   unfolding cellOf
-  code-inside t n i h =
-      let g = gateType n in
-      let all-agree = and-right (fits g) (below (agrees g) places) (at-each stands gateTable t n) in
-      eqb→eq (codeAt (row g) (column + i)) (codeAt (codes g) i) (at-below (agrees g) places all-agree i h)
+  code-at column t n i h =
+      eqb→eq
+      (codeAt (row (gateType n)) (column + i))
+      (codeAt (codes (gateType n)) i)
+      (at-below
+      (λ i. eqb (codeAt (row (gateType n)) (column + i)) (codeAt (codes (gateType n)) i))
+      places
+      (at-each (has-codes column) gateTable t n)
+      i
+      h)
 
-  pub code-outside : IsTrue (tests stands gateTable) → (n i : ℕ) → places ≤ i → 255 ≡ codeAt (codes (gateType n)) i
-  code-outside t n i h =
-      let g = gateType n in
-      let short : length (codes g) ≤ places
-      = leb→le (length (codes g)) places (and-left (fits g) (below (agrees g) places) (at-each stands gateTable t n)) in
-      sym (List·getD-eq-default (codes g) 255 (omega arith))
+  abbrev pub has-room : Option GateType → Bool
+  has-room g = leb (length (codes g)) places
+
+  pub no-code-at : IsTrue (tests has-room gateTable) → (n i : ℕ) → places ≤ i → 255 ≡ codeAt (codes (gateType n)) i
+  no-code-at t n i h =
+      let short : length (codes (gateType n)) ≤ places
+      = leb→le (length (codes (gateType n))) places (at-each has-room gateTable t n) in
+      sym (List·getD-eq-default (codes (gateType n)) 255 (omega arith))

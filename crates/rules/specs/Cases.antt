@@ -54,6 +54,7 @@ two-labels = Qubit ∷ Qubit ∷ []
 abbrev pub qubit : Ty
 qubit = wire Qubit
 
+-- 01: "0 H, 1 X, 2 Z", "5 CNOT", "6 Meas".
 abbrev pub H : ℕ
 H = 0
 

@@ -90,18 +90,9 @@ row (some g) =
     ++ filled most-slots (map wireCode (outputWires (some g)))
     ++ filled most-type (circCodes (some g))
 
--- The columns at which the lists of codes begin, and how many columns there are.
-abbrev pub inputs-column : ℕ
-inputs-column = 3
-
-abbrev pub outputs-column : ℕ
-outputs-column = inputs-column + most-slots
-
-abbrev pub type-column : ℕ
-type-column = outputs-column + most-slots
-
+-- How many columns a row has, and what stands in one of them.
 abbrev pub columns : ℕ
-columns = type-column + most-type
+columns = 3 + most-slots + most-slots + most-type
 
 unfoldable pub cellOf : ℕ → ℕ → ℕ
 cellOf n column = codeAt (row (gateType n)) column

@@ -86,7 +86,7 @@ pub fn wires_in(n: usize) -> usize
     }
 }
 
-// How many wires the gate makes.
+// How many wires the gate makes; 0 where there is no such gate.
 pub fn wires_out(n: usize) -> usize
     ensures { λ r. ⌜ r ≡ wiresOut n ⌝ }
 {
@@ -97,7 +97,7 @@ pub fn wires_out(n: usize) -> usize
     }
 }
 
-// The type of the wire that the gate takes in a slot.
+// The type of the wire that the gate takes in a slot; NONE where there is no such wire.
 pub fn wire_in_type(n: usize, slot: usize) -> u8
     ensures { λ r. ⌜ r ≡ wireInType n slot ⌝ }
 {
@@ -108,7 +108,7 @@ pub fn wire_in_type(n: usize, slot: usize) -> u8
     }
 }
 
-// The type of the wire that the gate makes in a slot.
+// The type of the wire that the gate makes in a slot; NONE where there is no such wire.
 pub fn wire_out_type(n: usize, slot: usize) -> u8
     ensures { λ r. ⌜ r ≡ wireOutType n slot ⌝ }
 {
@@ -119,14 +119,14 @@ pub fn wire_out_type(n: usize, slot: usize) -> u8
     }
 }
 
-// How many entries the gate's type has, Circ from its input to its output.
+// How many entries the gate's type has, Circ from its input to its output; 0 where there is no such gate.
 pub fn type_entries(n: usize) -> usize
     ensures { λ r. ⌜ r ≡ typeEntries n ⌝ }
 {
     if n < GATES { wide(cell(n, ENTRIES)) } else { 0 }
 }
 
-// Entry i of the gate's type in preorder.
+// Entry i of the gate's type in preorder; NONE where there is no such entry.
 pub fn type_code(n: usize, i: usize) -> u8
     ensures { λ r. ⌜ r ≡ typeCode n i ⌝ }
 {

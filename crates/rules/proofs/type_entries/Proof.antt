@@ -1,10 +1,11 @@
--- `rules::type_entries` meets its contract: column 2 of a gate's row. Assumes nothing.
+-- `rules::type_entries` meets its contract: its column has the number of entries of the type, by a test at each gate.
+-- Assumes nothing.
 use mathlib.Core.Path.{_≡_, refl, _∙_}
 use lib.ListN.{length}
 use borrow.Author.Needs.{needs}
 use Rattle.rules.specs.Gates.{gateTable}
-use Rattle.rules.specs.GateCodes.{codeAt, circCodes, row, cellOf, typeEntries}
-use Rattle.rules.proofs.GateTable.{of-gate, of-no-gate}
+use Rattle.rules.specs.GateCodes.{circCodes, typeEntries}
+use Rattle.rules.proofs.GateTable.{of-no-gate, number-at}
 use Rattle.rules.proofs.type_entries.Statement.{statement}
 use Rattle.rules.proofs.type_entries.Tie as tie
 
@@ -15,12 +16,12 @@ wide-requires : tie.Need-wide-requires
 wide-requires c κs = search needs
 
 returns : tie.Need-returns
-unfolding cellOf typeEntries
+unfolding typeEntries
 returns c =
     let n = c .before .before .before .args .n in
     c .wide .ensures
     ∙ c .before .cell .ensures
-    ∙ of-gate (λ g. codeAt (row g) 2 ≡ length (circCodes g)) gateTable (λ g. refl) n (c .before .before .if1 .taken)
+    ∙ number-at (λ g. length (circCodes g)) _ tt n (c .before .before .if1 .taken)
 
 returns-2 : tie.Need-returns-2
 unfolding typeEntries

@@ -1,13 +1,13 @@
--- `rules::wire_in_type` meets its contract: the columns from `inputs-column` on have the types of the wires in,
--- by a test at each gate. Assumes nothing.
+-- `rules::wire_in_type` meets its contract: its columns have the types of the wires in, by a test at each gate.
+-- Assumes nothing.
 use Prim.Native.Nat.{ℕ}
 use mathlib.Core.Path.{_∙_}
 use mathlib.Core.List.{List, map}
 use mathlib.Core.Option.{Option}
 use borrow.Author.Needs.{needs}
 use Rattle.rules.specs.Gates.{GateType}
-use Rattle.rules.specs.GateCodes.{wireCode, inputWires, most-slots, inputs-column, cellOf, wireInType}
-use Rattle.rules.proofs.GateTable.{code-inside, code-outside}
+use Rattle.rules.specs.GateCodes.{wireCode, inputWires, most-slots, wireInType}
+use Rattle.rules.proofs.GateTable.{code-at, no-code-at}
 use Rattle.rules.proofs.wire_in_type.Statement.{statement}
 use Rattle.rules.proofs.wire_in_type.Tie as tie
 
@@ -21,14 +21,14 @@ cell-requires : tie.Need-cell-requires
 cell-requires c κs = search needs
 
 returns : tie.Need-returns
-unfolding cellOf wireInType
+unfolding wireInType
 returns c =
     let a = c .before .before .args in
-    c .cell .ensures ∙ code-inside codes inputs-column most-slots tt (a .n) (a .slot) (c .before .if1 .taken)
+    c .cell .ensures ∙ code-at codes most-slots _ tt (a .n) (a .slot) (c .before .if1 .taken)
 
 returns-2 : tie.Need-returns-2
 unfolding wireInType
-returns-2 c = code-outside codes inputs-column most-slots tt (c .before .args .n) (c .before .args .slot) (c .if1 .left)
+returns-2 c = no-code-at codes most-slots tt (c .before .args .n) (c .before .args .slot) (c .if1 .left)
 
 pub wire-in-type-spec : {M : Type 1} → statement M
 wire-in-type-spec = tie.close (tie.spec add-cell cell-requires returns returns-2)

@@ -1,13 +1,13 @@
--- `rules::wire_out_type` meets its contract: the columns from `outputs-column` on have the types of the wires out,
--- by a test at each gate. Assumes nothing.
+-- `rules::wire_out_type` meets its contract: its columns have the types of the wires out, by a test at each gate.
+-- Assumes nothing.
 use Prim.Native.Nat.{ℕ}
 use mathlib.Core.Path.{_∙_}
 use mathlib.Core.List.{List, map}
 use mathlib.Core.Option.{Option}
 use borrow.Author.Needs.{needs}
 use Rattle.rules.specs.Gates.{GateType, outputWires}
-use Rattle.rules.specs.GateCodes.{wireCode, most-slots, outputs-column, cellOf, wireOutType}
-use Rattle.rules.proofs.GateTable.{code-inside, code-outside}
+use Rattle.rules.specs.GateCodes.{wireCode, most-slots, wireOutType}
+use Rattle.rules.proofs.GateTable.{code-at, no-code-at}
 use Rattle.rules.proofs.wire_out_type.Statement.{statement}
 use Rattle.rules.proofs.wire_out_type.Tie as tie
 
@@ -24,11 +24,11 @@ returns : tie.Need-returns
 unfolding wireOutType
 returns c =
     let a = c .before .before .args in
-    c .cell .ensures ∙ code-inside codes _ most-slots tt (a .n) (a .slot) (c .before .if1 .taken)
+    c .cell .ensures ∙ code-at codes most-slots _ tt (a .n) (a .slot) (c .before .if1 .taken)
 
 returns-2 : tie.Need-returns-2
 unfolding wireOutType
-returns-2 c = code-outside codes outputs-column most-slots tt (c .before .args .n) (c .before .args .slot) (c .if1 .left)
+returns-2 c = no-code-at codes most-slots tt (c .before .args .n) (c .before .args .slot) (c .if1 .left)
 
 pub wire-out-type-spec : {M : Type 1} → statement M
 wire-out-type-spec = tie.close (tie.spec add-cell cell-requires returns returns-2)

@@ -1,10 +1,11 @@
--- `rules::wires_in` meets its contract: column 0 of a gate's row. Assumes nothing.
+-- `rules::wires_in` meets its contract: its column has the number of wires in, by a test at each gate.
+-- Assumes nothing.
 use mathlib.Core.Path.{_≡_, refl, _∙_}
 use lib.ListN.{length}
 use borrow.Author.Needs.{needs}
 use Rattle.rules.specs.Gates.{gateTable}
-use Rattle.rules.specs.GateCodes.{codeAt, inputWires, row, cellOf, wiresIn}
-use Rattle.rules.proofs.GateTable.{of-gate, of-no-gate}
+use Rattle.rules.specs.GateCodes.{inputWires, wiresIn}
+use Rattle.rules.proofs.GateTable.{of-no-gate, number-at}
 use Rattle.rules.proofs.wires_in.Statement.{statement}
 use Rattle.rules.proofs.wires_in.Tie as tie
 
@@ -15,12 +16,12 @@ wide-requires : tie.Need-wide-requires
 wide-requires c κs = search needs
 
 returns : tie.Need-returns
-unfolding cellOf wiresIn
+unfolding wiresIn
 returns c =
     let n = c .before .before .before .args .n in
     c .wide .ensures
     ∙ c .before .cell .ensures
-    ∙ of-gate (λ g. codeAt (row g) 0 ≡ length (inputWires g)) gateTable (λ g. refl) n (c .before .before .if1 .taken)
+    ∙ number-at (λ g. length (inputWires g)) _ tt n (c .before .before .if1 .taken)
 
 returns-2 : tie.Need-returns-2
 unfolding wiresIn

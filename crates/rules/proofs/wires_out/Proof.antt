@@ -1,10 +1,11 @@
--- `rules::wires_out` meets its contract: column 1 of a gate's row. Assumes nothing.
+-- `rules::wires_out` meets its contract: its column has the number of wires out, by a test at each gate.
+-- Assumes nothing.
 use mathlib.Core.Path.{_≡_, refl, _∙_}
 use lib.ListN.{length}
 use borrow.Author.Needs.{needs}
 use Rattle.rules.specs.Gates.{gateTable, outputWires}
-use Rattle.rules.specs.GateCodes.{codeAt, row, cellOf, wiresOut}
-use Rattle.rules.proofs.GateTable.{of-gate, of-no-gate}
+use Rattle.rules.specs.GateCodes.{wiresOut}
+use Rattle.rules.proofs.GateTable.{of-no-gate, number-at}
 use Rattle.rules.proofs.wires_out.Statement.{statement}
 use Rattle.rules.proofs.wires_out.Tie as tie
 
@@ -15,12 +16,12 @@ wide-requires : tie.Need-wide-requires
 wide-requires c κs = search needs
 
 returns : tie.Need-returns
-unfolding cellOf wiresOut
+unfolding wiresOut
 returns c =
     let n = c .before .before .before .args .n in
     c .wide .ensures
     ∙ c .before .cell .ensures
-    ∙ of-gate (λ g. codeAt (row g) 1 ≡ length (outputWires g)) gateTable (λ g. refl) n (c .before .before .if1 .taken)
+    ∙ number-at (λ g. length (outputWires g)) _ tt n (c .before .before .if1 .taken)
 
 returns-2 : tie.Need-returns-2
 unfolding wiresOut
