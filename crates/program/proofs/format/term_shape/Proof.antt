@@ -1,0 +1,58 @@
+-- `format::term_shape` meets its contract: first the arms of one kind, then those of a range, then every other kind.
+use native.Mathlib.Omega.{arith}
+use mathlib.Core.Path.{sym}
+use Rattle.program.specs.Laws.{two-part-terms, one-part-terms, no-terms-below, no-terms-above}
+use Rattle.program.specs.Format.{termShape}
+use Rattle.program.proofs.format.term_shape.Statement.{statement}
+use Rattle.program.proofs.format.term_shape.Tie as tie
+
+returns : tie.Need-returns
+unfolding termShape
+returns c = rw (c .match .keys1)
+
+returns-2 : tie.Need-returns-2
+unfolding termShape
+returns-2 c = rw (c .match .keys2)
+
+returns-3 : tie.Need-returns-3
+unfolding termShape
+returns-3 c = rw (c .match .keys3)
+
+returns-4 : tie.Need-returns-4
+unfolding termShape
+returns-4 c = rw (c .match .keys4)
+
+returns-5 : tie.Need-returns-5
+unfolding termShape
+returns-5 c = rw (c .match .keys5)
+
+returns-6 : tie.Need-returns-6
+unfolding termShape
+returns-6 c = rw (c .match .keys6)
+
+returns-7 : tie.Need-returns-7
+returns-7 c = sym (two-part-terms (c .before .before .before .args .kind) (omega arith) (omega arith))
+
+returns-8 : tie.Need-returns-8
+returns-8 c = sym (one-part-terms (c .before .before .before .before .args .kind) (omega arith) (omega arith))
+
+returns-9 : tie.Need-returns-9
+returns-9 c = sym (no-terms-below (c .before .before .args .kind) (omega arith))
+
+returns-10 : tie.Need-returns-10
+returns-10 c = sym (no-terms-above (c .before .before .before .before .args .kind) (omega arith))
+
+pub term-shape-spec : {M : Type 1} → statement M
+term-shape-spec =
+    tie.close
+    (tie.spec
+    returns
+    returns-2
+    returns-3
+    returns-4
+    returns-5
+    returns-6
+    returns-7
+    returns-8
+    returns-9
+    returns-10)

@@ -1,0 +1,88 @@
+-- The program file (01, "Program file").
+use Prim.Native.Nat.{ℕ, _+_, _*_}
+use mathlib.Core.Bool.{Bool, true, false, _&&_, cond}
+use mathlib.Core.List.{List}
+use lib.Dec.{eqb, leb, ltb}
+use lib.ListN.{getD}
+use Rattle.rules.specs.GateCodes.{isGate}
+use Rattle.program.specs.declared.format.Argument.{Argument}
+use Rattle.program.specs.declared.format.Argument.the-variants.{Zero, LabelNumber, GateNumber, TypePosition, BinderCount}
+use Rattle.program.specs.declared.format.Shape.{Shape}
+use Rattle.program.specs.declared.format.Shape.the-variants.{Node, Unknown}
+
+-- A 16-bit number, low byte first, at byte i of the file.
+unfoldable pub wordAt : List ℕ → ℕ → ℕ
+wordAt f i = getD f i 0 + 256 * getD f (i + 1) 0
+
+-- 01: "Three 16-bit sizes, low byte first: L labels, P type entries, N term entries. Let E = L+P+N."
+abbrev pub labelCount : List ℕ → ℕ
+labelCount f = wordAt f 0
+
+abbrev pub typeCount : List ℕ → ℕ
+typeCount f = wordAt f 2
+
+abbrev pub termCount : List ℕ → ℕ
+termCount f = wordAt f 4
+
+-- Entries are numbered from 0: labels, types, terms. The first term entry, and the number of all entries.
+abbrev pub firstTerm : List ℕ → ℕ
+firstTerm f = labelCount f + typeCount f
+
+abbrev pub entryCount : List ℕ → ℕ
+entryCount f = firstTerm f + termCount f
+
+-- 01: "Then two parallel arrays: E kind bytes, E 16-bit arguments, low byte first."
+unfoldable pub kindAt : List ℕ → ℕ → ℕ
+kindAt f e = getD f (6 + e) 0
+
+unfoldable pub argumentAt : List ℕ → ℕ → ℕ
+argumentAt f e = wordAt f (6 + entryCount f + 2 * e)
+
+abbrev pub within : ℕ → ℕ → ℕ → Bool
+within least greatest k = leb least k && leb k greatest
+
+-- 01: "label section: 0 Bit, 1 Qubit."
+unfoldable pub labelShape : ℕ → Shape
+labelShape k = cond (leb k 1) (Node 0 Zero) Unknown
+
+-- 01: "type section: 0 Bit, 1 Qubit (no parts); 2 pair, 3 function, 5 circuit (two parts); 4 reusable (one)."
+unfoldable pub typeShape : ℕ → Shape
+typeShape k =
+    cond (leb k 1) (Node 0 Zero)
+    (cond (within 2 3 k) (Node 2 Zero) (cond (eqb k 4) (Node 1 Zero) (cond (eqb k 5) (Node 2 Zero) Unknown)))
+
+-- 01: "term section: 16 variable, 17 label, 26 gate (no parts); 18 abstraction, 22 lift, 23 force, 24 box (one);
+-- 19 application, 20 pair, 21 let, 25 apply (two)." "A label or gate has its number. Abstraction and box have a type
+-- position, 0 to P−1. Every other argument is 0."
+unfoldable pub termShape : ℕ → Shape
+termShape k =
+    cond (eqb k 16) (Node 0 BinderCount)
+    (cond (eqb k 17) (Node 0 LabelNumber)
+    (cond (eqb k 18) (Node 1 TypePosition)
+    (cond (within 19 21 k) (Node 2 Zero)
+    (cond (within 22 23 k) (Node 1 Zero)
+    (cond (eqb k 24) (Node 1 TypePosition)
+    (cond (eqb k 25) (Node 2 Zero) (cond (eqb k 26) (Node 0 GateNumber) Unknown)))))))
+
+-- The shape of an entry, by its section.
+unfoldable pub shapeAt : List ℕ → ℕ → Shape
+shapeAt f e =
+    cond (ltb e (labelCount f)) (labelShape (kindAt f e))
+    (cond (ltb e (firstTerm f)) (typeShape (kindAt f e)) (termShape (kindAt f e)))
+
+abbrev pub isKnown : Shape → Bool
+isKnown (Node parts argument) = true
+isKnown Unknown = false
+
+-- Whether an argument is allowed, in a file with this many labels and type entries. Of a variable every argument is:
+-- refusal 9 is about its binder.
+abbrev pub argumentAllowed : ℕ → ℕ → Argument → ℕ → Bool
+argumentAllowed labels types Zero a = eqb a 0
+argumentAllowed labels types LabelNumber a = ltb a labels
+argumentAllowed labels types GateNumber a = isGate a
+argumentAllowed labels types TypePosition a = ltb a types
+argumentAllowed labels types BinderCount a = true
+
+abbrev pub shapeAllows : ℕ → ℕ → Shape → ℕ → Bool
+shapeAllows labels types (Node parts argument) a = argumentAllowed labels types argument a
+shapeAllows labels types Unknown a = false

@@ -1,0 +1,12 @@
+pub mod Refusals
+pub mod Format
+pub mod Sized
+pub mod Walks
+pub mod Reading
+pub mod Laws
+pub mod Walking
+pub mod ReadLaws
+pub mod Packed
+pub mod Examples
+pub mod Trees
+pub mod Theorems

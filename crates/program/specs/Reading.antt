@@ -1,0 +1,102 @@
+-- What `read` answers (01, "When each operation says no", Read). "Each test covers the whole file before the next."
+use Prim.Native.Nat.{ℕ, suc, _+_, _*_, _-_}
+use mathlib.Core.Bool.{Bool, true, false, not, _&&_, cond}
+use mathlib.Core.List.{List, [], _∷_}
+use lib.Dec.{eqb, leb, ltb}
+use lib.ListN.{length}
+use Rattle.program.specs.Format.{wordAt, labelCount, typeCount, termCount, firstTerm, entryCount, kindAt, argumentAt}
+use Rattle.program.specs.Format.{within, shapeAt, isKnown, shapeAllows}
+use Rattle.program.specs.Walks.{firstFrom, walkFrom}
+use Rattle.program.specs.declared.Refusal.{Refusal}
+use Rattle.program.specs.declared.Refusal.the-variants.{Form}
+use Rattle.program.specs.declared.ReadAnswer.{ReadAnswer}
+use Rattle.program.specs.declared.ReadAnswer.the-variants.{Accepted, Refused}
+use Rattle.program.specs.declared.Found.{Found}
+use Rattle.program.specs.declared.Found.the-variants.{At, Nothing}
+use Rattle.program.specs.declared.walk.Subject.the-variants.{TypeEnd, WireType, TermEnd, Scope}
+use Rattle.program.specs.declared.walk.Walked.{Walked}
+use Rattle.program.specs.declared.walk.Walked.the-variants.{To, Stopped, Out}
+
+abbrev pub refused : ℕ → ℕ → ReadAnswer
+refused number place = Refused (Form number place)
+
+abbrev pub reaches : Walked → Bool
+reaches (To e) = true
+reaches (Stopped e) = false
+reaches Out = false
+
+abbrev pub runsOut : Walked → Bool
+runsOut (To e) = false
+runsOut (Stopped e) = false
+runsOut Out = true
+
+-- 2: "a size outside its range": L 0 to 64, P 0 to 512, N 1 to 2,048.
+unfoldable pub sizesRight : List ℕ → Bool
+sizesRight f = leb (labelCount f) 64 && (leb (typeCount f) 512 && within 1 2048 (termCount f))
+
+-- 4: "a kind not of its section".
+unfoldable pub kindWrong : List ℕ → ℕ → Bool
+kindWrong f e = not (isKnown (shapeAt f e))
+
+-- 5: "an argument not allowed".
+unfoldable pub argumentWrong : List ℕ → ℕ → Bool
+argumentWrong f e = not (shapeAllows (labelCount f) (typeCount f) (shapeAt f e) (argumentAt f e))
+
+-- 6: "the type at any position, used or not, runs out".
+unfoldable pub typeWrong : List ℕ → ℕ → Bool
+typeWrong f e = runsOut (walkFrom TypeEnd f (firstTerm f - e) e (0 ∷ []))
+
+-- 7: "a Circ or box with a part or type that is no wire type".
+unfoldable pub circWrong : List ℕ → ℕ → Bool
+circWrong f e = not (reaches (walkFrom WireType f (firstTerm f - (e + 1)) (e + 1) (0 ∷ 0 ∷ [])))
+
+unfoldable pub boxWrong : List ℕ → ℕ → Bool
+boxWrong f e =
+    not (reaches (walkFrom WireType f (typeCount f - argumentAt f e) (labelCount f + argumentAt f e) (0 ∷ [])))
+
+unfoldable pub wiresWrong : List ℕ → ℕ → Bool
+wiresWrong f e =
+    cond (ltb e (labelCount f)) false
+    (cond (ltb e (firstTerm f)) (eqb (kindAt f e) 5 && circWrong f e) (eqb (kindAt f e) 24 && boxWrong f e))
+
+-- 9: "a variable with no binder; first entry."
+abbrev pub scopeAnswer : List ℕ → Walked → ReadAnswer
+scopeAnswer f (To e) = Accepted (labelCount f) (typeCount f) (termCount f)
+scopeAnswer f (Stopped e) = refused 9 e
+scopeAnswer f Out = Accepted (labelCount f) (typeCount f) (termCount f)
+
+unfoldable pub readScope : List ℕ → ReadAnswer
+readScope f = scopeAnswer f (walkFrom Scope f (termCount f) (firstTerm f) (0 ∷ []))
+
+-- 8: "the term section is not one whole term; place E if it runs out, else the first entry left over."
+abbrev pub wholeAnswer : List ℕ → Walked → ReadAnswer
+wholeAnswer f (To e) = let later = readScope f in cond (eqb e (entryCount f)) later (refused 8 e)
+wholeAnswer f (Stopped e) = refused 8 e
+wholeAnswer f Out = refused 8 (entryCount f)
+
+unfoldable pub readWhole : List ℕ → ReadAnswer
+readWhole f = wholeAnswer f (walkFrom TermEnd f (termCount f) (firstTerm f) (0 ∷ []))
+
+-- A test that finds an entry refuses it; else the next test decides.
+abbrev pub orElse : ℕ → Found → ReadAnswer → ReadAnswer
+orElse number (At e) later = refused number e
+orElse number Nothing later = later
+
+unfoldable pub readWires : List ℕ → ReadAnswer
+readWires f = let later = readWhole f in orElse 7 (firstFrom (wiresWrong f) 0 (entryCount f)) later
+
+unfoldable pub readTypes : List ℕ → ReadAnswer
+readTypes f = let later = readWires f in orElse 6 (firstFrom (typeWrong f) (labelCount f) (typeCount f)) later
+
+unfoldable pub readArguments : List ℕ → ReadAnswer
+readArguments f = let later = readTypes f in orElse 5 (firstFrom (argumentWrong f) 0 (entryCount f)) later
+
+unfoldable pub readKinds : List ℕ → ReadAnswer
+readKinds f = let later = readArguments f in orElse 4 (firstFrom (kindWrong f) 0 (entryCount f)) later
+
+-- 1: "under 6 bytes." 3: "length is not 6 + 3E."
+unfoldable pub readOf : List ℕ → ReadAnswer
+readOf f =
+    let later = readKinds f in
+    cond (ltb (length f) 6) (refused 1 0)
+    (cond (sizesRight f) (cond (eqb (length f) (6 + 3 * entryCount f)) later (refused 3 0)) (refused 2 0))

@@ -1,0 +1,52 @@
+//! The nine gates, with their wires and types.
+
+use crate::trees::{Type, Wire};
+use std::rc::Rc;
+
+/// A gate: its name, the wires it takes and the wires it makes.
+#[derive(Clone, Copy, PartialEq, Eq, Debug)]
+pub struct Gate {
+    pub name: &'static str,
+    pub takes: &'static [Wire],
+    pub makes: &'static [Wire],
+}
+
+const ONE: &[Wire] = &[Wire::Qubit];
+const TWO: &[Wire] = &[Wire::Qubit, Wire::Qubit];
+const UNDER: &[Wire] = &[Wire::Bit, Wire::Qubit];
+
+const fn gate(name: &'static str, takes: &'static [Wire], makes: &'static [Wire]) -> Gate {
+    Gate { name, takes, makes }
+}
+
+/// A gate's number is its place here.
+pub const GATES: [Gate; 9] = [
+    gate("H", ONE, ONE),
+    gate("X", ONE, ONE),
+    gate("Z", ONE, ONE),
+    gate("S", ONE, ONE),
+    gate("T", ONE, ONE),
+    gate("CNOT", TWO, TWO),
+    gate("Meas", ONE, &[Wire::Bit]),
+    gate("BX", UNDER, UNDER),
+    gate("BZ", UNDER, UNDER),
+];
+
+impl Gate {
+    /// Circ from the wires taken to the wires made.
+    pub fn circuit_type(&self) -> Rc<Type> {
+        Rc::new(Type::Circuit(
+            wires_type(self.takes),
+            wires_type(self.makes),
+        ))
+    }
+}
+
+/// The type of one wire, or the pair of two.
+fn wires_type(wires: &[Wire]) -> Rc<Type> {
+    match wires {
+        [one] => one.as_type(),
+        [first, second] => Rc::new(Type::Pair(first.as_type(), second.as_type())),
+        _ => unreachable!("a gate has one or two wires on each side"),
+    }
+}
