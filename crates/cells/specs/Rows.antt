@@ -1,0 +1,174 @@
+-- A cell that is written: row n of four words.
+use Prim.Native.Nat.{ℕ, _+_, _*_, _%_, _≤_, _<_}
+use native.Mathlib.Omega.{arith}
+use mathlib.Core.Path.{_≡_, refl, sym, _∙_, subst}
+use mathlib.Core.Logic.{_≢_}
+use mathlib.Core.List.{List}
+use lib.ListN.{length, getD, set, length-set}
+use lib.Seq.{getD-set-same, getD-set-other, set-out}
+use Rattle.rules.specs.Types.{Wire, Bit, Qubit, Ty, wire, _⊗_, _⊸_, !_, Circ, entries, most-entries}
+use Rattle.rules.specs.GateCodes.{wireCode}
+use Rattle.cells.specs.Cells.{cellKind, cellFirst, cellSecond, cellSize, kindOf, Row, Agree, Room}
+use Rattle.cells.specs.Cells.{Denotes, wire-cell, pair-cell, function-cell, reusable-cell, circuit-cell}
+use Rattle.cells.specs.Cells.{Made, made-pair, made-function, made-circuit}
+use Rattle.cells.specs.Laws.{row-of, denotes-kept}
+
+abbrev pub withOne : List ℕ → ℕ → ℕ → List ℕ
+withOne w n kind = set w (4 * n) (kind % 65536)
+
+abbrev pub withTwo : List ℕ → ℕ → ℕ → ℕ → List ℕ
+withTwo w n kind first = set (withOne w n kind) (4 * n + 1) (first % 65536)
+
+abbrev pub withThree : List ℕ → ℕ → ℕ → ℕ → ℕ → List ℕ
+withThree w n kind first second = set (withTwo w n kind first) (4 * n + 2) (second % 65536)
+
+-- The words with row n written; a word has 16 bits.
+unfoldable pub withCell : List ℕ → ℕ → ℕ → ℕ → ℕ → ℕ → List ℕ
+withCell w n kind first second size = set (withThree w n kind first second) (4 * n + 3) (size % 65536)
+
+module _ (w : List ℕ) (n kind first second size : ℕ) where
+  pub length-withCell : length (withCell w n kind first second size) ≡ length w
+  unfolding withCell
+  length-withCell = simp length-set
+
+  -- Past the end of the buffer nothing changes.
+  pub past-the-end : length w ≤ 4 * n → withCell w n kind first second size ≡ w
+  unfolding withCell
+  past-the-end h =
+      set-out (withThree w n kind first second) (4 * n + 3) (size % 65536) (simp length-set (omega arith))
+      ∙ set-out (withTwo w n kind first) (4 * n + 2) (second % 65536) (simp length-set (omega arith))
+      ∙ set-out (withOne w n kind) (4 * n + 1) (first % 65536) (simp length-set (omega arith))
+      ∙ set-out w (4 * n) (kind % 65536) (omega arith)
+
+  -- No word of another row changes.
+  other-word : (k : ℕ)
+      → k ≢ 4 * n
+      → k ≢ 4 * n + 1
+      → k ≢ 4 * n + 2
+      → k ≢ 4 * n + 3
+      → getD (withCell w n kind first second size) k 0 ≡ getD w k 0
+  unfolding withCell
+  other-word k h0 h1 h2 h3 =
+      getD-set-other (withThree w n kind first second) (4 * n + 3) k (size % 65536) 0 h3
+      ∙ getD-set-other (withTwo w n kind first) (4 * n + 2) k (second % 65536) 0 h2
+      ∙ getD-set-other (withOne w n kind) (4 * n + 1) k (first % 65536) 0 h1
+      ∙ getD-set-other w (4 * n) k (kind % 65536) 0 h0
+
+  pub word-above-row : (k : ℕ) → 4 * n + 4 ≤ k → getD (withCell w n kind first second size) k 0 ≡ getD w k 0
+  word-above-row k h = other-word k (omega arith) (omega arith) (omega arith) (omega arith)
+
+  -- The first n cells are as they were.
+  pub agree-withCell : Agree w (withCell w n kind first second size) n
+  agree-withCell =
+      record { words-same = λ k h. other-word k (omega arith) (omega arith) (omega arith) (omega arith) }
+
+  -- The row that was written.
+  module _ (room : 4 * n + 4 ≤ length w) where
+    pub kind-written : kind < 65536 → cellKind (withCell w n kind first second size) n ≡ kind
+    unfolding withCell
+    kind-written h =
+        getD-set-other (withThree w n kind first second) (4 * n + 3) (4 * n) (size % 65536) 0 (omega arith)
+        ∙ getD-set-other (withTwo w n kind first) (4 * n + 2) (4 * n) (second % 65536) 0 (omega arith)
+        ∙ getD-set-other (withOne w n kind) (4 * n + 1) (4 * n) (first % 65536) 0 (omega arith)
+        ∙ getD-set-same w (4 * n) (kind % 65536) 0 (omega arith)
+        ∙ omega arith
+
+    pub first-written : first < 65536 → cellFirst (withCell w n kind first second size) n ≡ first
+    unfolding withCell
+    first-written h =
+        getD-set-other (withThree w n kind first second) (4 * n + 3) (4 * n + 1) (size % 65536) 0 (omega arith)
+        ∙ getD-set-other (withTwo w n kind first) (4 * n + 2) (4 * n + 1) (second % 65536) 0 (omega arith)
+        ∙ getD-set-same (withOne w n kind) (4 * n + 1) (first % 65536) 0 (simp length-set (omega arith))
+        ∙ omega arith
+
+    pub second-written : second < 65536 → cellSecond (withCell w n kind first second size) n ≡ second
+    unfolding withCell
+    second-written h =
+        getD-set-other (withThree w n kind first second) (4 * n + 3) (4 * n + 2) (size % 65536) 0 (omega arith)
+        ∙ getD-set-same (withTwo w n kind first) (4 * n + 2) (second % 65536) 0 (simp length-set (omega arith))
+        ∙ omega arith
+
+    pub size-written : size < 65536 → cellSize (withCell w n kind first second size) n ≡ size
+    unfolding withCell
+    size-written h =
+        getD-set-same (withThree w n kind first second) (4 * n + 3) (size % 65536) 0 (simp length-set (omega arith))
+        ∙ omega arith
+
+    -- It is the row of a type of this kind and size.
+    row-written : (A : Ty)
+        → kind ≡ kindOf A
+        → size ≡ entries A
+        → entries A ≤ most-entries
+        → Row (withCell w n kind first second size) (n + 1) n A
+    row-written A k s b =
+        record {
+          below = omega arith;
+          kind = kind-written (kind-fits A k) ∙ k;
+          size = size-written (omega arith) ∙ s;
+          bounded = b;
+        }
+      where
+        kind-fits : (A : Ty) → kind ≡ kindOf A → kind < 65536
+        kind-fits (wire Bit) k = omega arith
+        kind-fits (wire Qubit) k = omega arith
+        kind-fits (A ⊗ B) k = omega arith
+        kind-fits (A ⊸ B) k = omega arith
+        kind-fits (! A) k = omega arith
+        kind-fits (Circ T U) k = omega arith
+
+  -- A cell that was there before is the first or the second part.
+  first-denotes : {A : Ty} → Room w n → Denotes w n first A
+      → Denotes (withCell w n kind first second size) (n + 1) (cellFirst (withCell w n kind first second size) n) A
+  first-denotes {A} room d =
+      let f : first < n = row-of d .below in
+      let m : n < 65536 = room .number-fits in
+      subst (λ j. Denotes (withCell w n kind first second size) (n + 1) j A)
+      (sym (first-written (room .row-fits) (omega arith)))
+      (denotes-kept agree-withCell (omega arith) d)
+
+  second-denotes : {A : Ty} → Room w n → Denotes w n second A
+      → Denotes (withCell w n kind first second size) (n + 1) (cellSecond (withCell w n kind first second size) n) A
+  second-denotes {A} room d =
+      let f : second < n = row-of d .below in
+      let m : n < 65536 = room .number-fits in
+      subst (λ j. Denotes (withCell w n kind first second size) (n + 1) j A)
+      (sym (second-written (room .row-fits) (omega arith)))
+      (denotes-kept agree-withCell (omega arith) d)
+
+-- The new cell denotes the type of its kind and parts: of two parts, of one, of none.
+pub two-parts-written : (w : List ℕ) (n kind first second size : ℕ) {A B C : Ty}
+    → Made kind A B C → Room w n → Denotes w n first A → Denotes w n second B
+    → size ≡ entries C
+    → entries C ≤ most-entries
+    → Denotes (withCell w n kind first second size) (n + 1) n C
+two-parts-written w n kind first second size (made-pair {A = A} {B = B}) room d e s b =
+    pair-cell
+    (row-written w n 2 first second size (room .row-fits) (A ⊗ B) refl s b)
+    (first-denotes w n 2 first second size room d)
+    (second-denotes w n 2 first second size room e)
+two-parts-written w n kind first second size (made-function {A = A} {B = B}) room d e s b =
+    function-cell
+    (row-written w n 3 first second size (room .row-fits) (A ⊸ B) refl s b)
+    (first-denotes w n 3 first second size room d)
+    (second-denotes w n 3 first second size room e)
+two-parts-written w n kind first second size (made-circuit {T = T} {U = U}) room d e s b =
+    circuit-cell
+    (row-written w n 5 first second size (room .row-fits) (Circ T U) refl s b)
+    (first-denotes w n 5 first second size room d)
+    (second-denotes w n 5 first second size room e)
+
+pub one-part-written : (w : List ℕ) (n first second size : ℕ) {A : Ty}
+    → Room w n → Denotes w n first A
+    → size ≡ entries (! A)
+    → entries (! A) ≤ most-entries
+    → Denotes (withCell w n 4 first second size) (n + 1) n (! A)
+one-part-written w n first second size {A} room d s b =
+    reusable-cell
+    (row-written w n 4 first second size (room .row-fits) (! A) refl s b)
+    (first-denotes w n 4 first second size room d)
+
+pub wire-written : (w : List ℕ) (n first second : ℕ) (α : Wire)
+    → 4 * n + 4 ≤ length w
+    → Denotes (withCell w n (wireCode α) first second 1) (n + 1) n (wire α)
+wire-written w n first second α room =
+    wire-cell (row-written w n (wireCode α) first second 1 room (wire α) refl refl (omega arith))
