@@ -96,7 +96,13 @@ impl Type {
 
     /// How many entries the type has.
     pub fn size(&self) -> usize {
-        1 + self.parts().iter().map(|part| part.size()).sum::<usize>()
+        match self {
+            Type::Bit | Type::Qubit => 1,
+            Type::Reusable(part) => 1 + part.size(),
+            Type::Pair(first, second)
+            | Type::Function(first, second)
+            | Type::Circuit(first, second) => 1 + first.size() + second.size(),
+        }
     }
 
     /// How many entries its longest branch has.

@@ -1,0 +1,93 @@
+-- `slots::between` meets its contract: by the kind, and by the parts that are found. Assumes nothing.
+use mathlib.Core.Path.{sym, _∙_}
+use Rattle.memory.specs.Words.{words}
+use Rattle.typing.specs.Ends.{between-other, between-no-pair, between-pair}
+use borrow.Author.Needs.{needs}
+use Rattle.typing.proofs.slots.between.Statement.{statement}
+use Rattle.typing.proofs.slots.between.Tie as tie
+
+kind-at-requires : tie.Need-kind-at-requires
+kind-at-requires c κs = search needs
+
+returns : tie.Need-returns
+returns c =
+    let s = c .before .before .before .before .args in
+    between-other (s .file .now) (words (s .work .now)) (s .e) (s .binders) (s .lifts) (s .cell)
+    (λ k. c .if1 .taken (c .before .kind-at .ensures ∙ k))
+
+pair-parts-requires : tie.Need-pair-parts-requires
+pair-parts-requires c κs = search needs
+
+enum-known-parts : tie.Need-enum-known-parts
+enum-known-parts c = search needs
+
+enum-told : tie.Need-enum-told
+enum-told c = search needs
+
+same-length : tie.Need-same-length
+same-length c = search needs
+
+returns-2 : tie.Need-returns-2
+returns-2 c =
+    let s = c .before .before .before .before .before .before .before .before .args in
+    between-no-pair (s .file .now) (words (s .work .now)) (s .e) (s .binders) (s .lifts) (s .cell) (c .before .before .pair-parts .result)
+    (sym (c .before .before .before .before .before .kind-at .ensures) ∙ c .before .before .before .before .if1 .left)
+    (c .before .before .pair-parts .ensures)
+    (c .enum-told .given .1)
+
+add-new-cell : tie.Need-add-new-cell
+add-new-cell c = search needs
+
+add-new-cell-2 : tie.Need-add-new-cell-2
+add-new-cell-2 c = search needs
+
+new-cell-requires : tie.Need-new-cell-requires
+new-cell-requires c κs = search needs
+
+add-new-cell-3 : tie.Need-add-new-cell-3
+add-new-cell-3 c = search needs
+
+add-new-cell-4 : tie.Need-add-new-cell-4
+add-new-cell-4 c = search needs
+
+add-new-cell-5 : tie.Need-add-new-cell-5
+add-new-cell-5 c = search needs
+
+new-cell-requires-2 : tie.Need-new-cell-requires-2
+new-cell-requires-2 c κs = search needs
+
+same-length-2 : tie.Need-same-length-2
+same-length-2 c = search needs
+
+returns-3 : tie.Need-returns-3
+returns-3 c =
+    let s = c .before .before .before .before .before .before .before .before .before .before .before .before .before .before .before .before .before .args in
+    let found = c .before .before .before .before .before .before .before .before .before .parts .given in
+    between-pair (s .file .now) (words (s .work .now)) (s .e) (s .binders) (s .lifts) (s .cell) (c .before .before .before .before .before .before .before .before .before .before .before .pair-parts .result)
+    (sym (c .before .before .before .before .before .before .before .before .before .before .before .before .before .before .kind-at .ensures) ∙ c .before .before .before .before .before .before .before .before .before .before .before .before .before .if1 .left)
+    (c .before .before .before .before .before .before .before .before .before .before .before .pair-parts .ensures)
+    (found .0 .0) (found .0 .1 .0) (words (c .before .before .before .before .before .before .new-cell .last .0)) (words (c .before .before .new-cell2 .last .0))
+    (found .1)
+    (c .before .before .before .before .before .before .new-cell .ensures .0)
+    (c .before .before .new-cell2 .ensures .0)
+
+pub between-spec : {M : Type 1} → statement M
+between-spec =
+    tie.close
+    (tie.spec
+    kind-at-requires
+    returns
+    pair-parts-requires
+    enum-known-parts
+    enum-told
+    same-length
+    returns-2
+    add-new-cell
+    add-new-cell-2
+    new-cell-requires
+    add-new-cell-3
+    add-new-cell-4
+    add-new-cell-5
+    new-cell-requires-2
+    same-length-2
+    returns-3)

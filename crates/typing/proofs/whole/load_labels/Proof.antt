@@ -1,0 +1,80 @@
+-- `whole::load_labels` meets its contract. The invariant: the slots passed are written. The measure: what is left of them.
+-- Assumes nothing.
+use Prim.Native.Nat.{_+_, _-_, _≤_}
+use native.Mathlib.Omega.{arith}
+use mathlib.Core.Path.{_≡_, refl, _∙_, ap}
+use lib.ListN.{length}
+use borrow.Author.Needs.{needs}
+use Rattle.memory.specs.Words.{words}
+use Rattle.cells.specs.Rows.{withCell}
+use Rattle.typing.specs.Loading.{slotsLoaded, no-slot, next-slot}
+use Rattle.typing.proofs.whole.load_labels.Statement.{statement}
+use Rattle.typing.proofs.whole.load_labels.Tie as tie
+
+abbrev Inv-loop : tie.InvT-loop
+Inv-loop file work₀ i₀ work i =
+    (i ≤ 64) × (words work ≡ slotsLoaded file (words work₀) i) × (length work ≡ length work₀)
+
+abbrev μ-loop : tie.MeasureT-loop
+μ-loop file work₀ i₀ work i = 64 - i
+
+loop-holds : tie.Need-loop-holds Inv-loop μ-loop
+loop-holds c =
+    let s = c .before .before .args in
+    (omega arith, no-slot (s .file .now) (words (s .work .now)), refl)
+
+add-new-cell : tie.Need-add-new-cell Inv-loop μ-loop
+add-new-cell c = search needs
+
+kind-at-requires : tie.Need-kind-at-requires Inv-loop μ-loop
+kind-at-requires c κs = tt
+
+wide-requires : tie.Need-wide-requires Inv-loop μ-loop
+wide-requires c κs = tt
+
+new-cell-requires : tie.Need-new-cell-requires Inv-loop μ-loop
+new-cell-requires c κs = tt
+
+add-i : tie.Need-add-i Inv-loop μ-loop
+add-i c = search needs
+
+loop-less : tie.Need-loop-less Inv-loop μ-loop
+loop-less c = search needs
+
+loop-again : tie.Need-loop-again Inv-loop μ-loop
+loop-again c =
+    let s = c .before .before .before .before .before .before .before .before .before .before .args in
+    let l = c .before .before .before .before .before .before .before .loop in (
+      omega arith,
+      c .before .before .new-cell .ensures .0
+          ∙ ap (λ w. withCell w (2700 + l .i) (c .before .before .before .wide .result) 0 0 0) (l .inv .1)
+          ∙ next-slot (s .file .now) (words (s .work .now)) (l .i) (c .before .before .before .wide .result) (c .before .before .before .wide .ensures ∙ c .before .before .before .before .kind-at .ensures),
+      c .before .before .new-cell .ensures .1 ∙ l .inv .2,
+    )
+
+same-length : tie.Need-same-length Inv-loop μ-loop
+same-length c = c .before .loop .inv .2
+
+returns : tie.Need-returns Inv-loop μ-loop
+returns c =
+    let s = c .before .before .before .before .args in
+    let l = c .before .loop in
+    let all : l .i ≡ 64 = omega arith in
+    l .inv .1 ∙ ap (slotsLoaded (s .file .now) (words (s .work .now))) all
+
+pub load-labels-spec : {M : Type 1} → statement M
+load-labels-spec =
+    tie.close
+    (tie.spec
+    Inv-loop
+    μ-loop
+    loop-holds
+    add-new-cell
+    kind-at-requires
+    wide-requires
+    new-cell-requires
+    add-i
+    loop-less
+    loop-again
+    same-length
+    returns)

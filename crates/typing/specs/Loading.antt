@@ -1,0 +1,281 @@
+-- The memory as it is before the program's term is looked at: the types of the gates and of the file, and the labels.
+use Prim.Native.Nat.{ℕ, zero, suc, _+_, _*_, _-_, _≤_, _<_}
+use native.Mathlib.Numerals.{add-one}
+use native.Mathlib.Omega.{arith}
+use mathlib.Core.Path.{_≡_, refl, sym, _∙_, ap, subst}
+use mathlib.Core.Bool.{Bool, true, false}
+use mathlib.Core.List.{List, []}
+use mathlib.Core.Option.{Option, none, some, Option·map, Option·some-ne-none}
+use lib.Dec.{T as IsTrue, eqb}
+use lib.ListN.{length, getD, take, drop, length-take, length-drop}
+use lib.Seq.{getD-take, getD-drop}
+use borrow.Author.Tests.{eqb-true, eqb-false}
+use Rattle.rules.specs.Types.{Wire, Bit, Qubit, Ty, wire, entries}
+use Rattle.rules.specs.Gates.{nth}
+use Rattle.rules.specs.GateCodes.{wireCode}
+use Rattle.rules.specs.Terms.{Term}
+use Rattle.program.specs.Format.{labelCount, typeCount, firstTerm, entryCount, kindAt}
+use Rattle.program.specs.Trees.{TypeAt, bit-at, qubit-at, tensor-at, function-at, reusable-at, circ-at}
+use Rattle.program.specs.Trees.{TypeAtPosition, at-position, AcceptedFile, labelsBelow}
+use Rattle.cells.specs.Cells.{Denotes, Agree, made-pair, made-function, made-circuit}
+use Rattle.cells.specs.Laws.{agree-refl, agree-less, agree-trans, denotes-kept}
+use Rattle.cells.specs.Rows.{withCell, length-withCell, agree-withCell, kind-written, first-written, second-written}
+use Rattle.cells.specs.Load.{Stands, stands-wire, stands-one, stands-two, loadCodes, codesOf, length-loadCodes, agree-loadCodes}
+use Rattle.cells.specs.Load.{codes-denote}
+use Rattle.cells.specs.GateCells.{gateCells, gate-cells, GatesLoaded, loadAllGates, gates-loaded}
+use Rattle.typing.specs.Checking.{Binder, _under_}
+use Rattle.typing.specs.Layout.{slotCell, slotLifts, slotUses, typeCell}
+use Rattle.typing.specs.Scope.{Slot, Loaded, Environment, nth-below}
+use Rattle.typing.specs.Heads.{term-ends}
+use Rattle.typing.specs.Inferring.{Ready}
+use Rattle.typing.specs.ReadBack.{type-ends, some-entry}
+
+-- The slots of the labels: the cells 0 and 1 are Bit and Qubit. All 64 are written, those behind the last label too.
+unfoldable pub slotsLoaded : List ℕ → List ℕ → ℕ → List ℕ
+slotsLoaded f w zero = w
+slotsLoaded f w (suc k) = withCell (slotsLoaded f w k) (2700 + k) (kindAt f k) 0 0 0
+
+pub no-slot : (f w : List ℕ) → w ≡ slotsLoaded f w 0
+unfolding slotsLoaded
+no-slot f w = refl
+
+pub next-slot : (f w : List ℕ) (k kind : ℕ)
+    → kind ≡ kindAt f k → withCell (slotsLoaded f w k) (2700 + k) kind 0 0 0 ≡ slotsLoaded f w (k + 1)
+unfolding slotsLoaded
+next-slot f w k kind q =
+    ap (λ c. withCell (slotsLoaded f w k) (2700 + k) c 0 0 0) q ∙ ap (slotsLoaded f w) (sym (add-one k))
+
+length-slots : (f w : List ℕ) (k : ℕ) → length (slotsLoaded f w k) ≡ length w
+unfolding slotsLoaded
+length-slots f w zero = refl
+length-slots f w (suc k) = length-withCell (slotsLoaded f w k) (2700 + k) (kindAt f k) 0 0 0 ∙ length-slots f w k
+
+agree-slots : (f w : List ℕ) (k : ℕ) → Agree w (slotsLoaded f w k) 2700
+unfolding slotsLoaded
+agree-slots f w zero = agree-refl w 2700
+agree-slots f w (suc k) =
+    agree-trans (agree-slots f w k)
+    (agree-less 2700 (omega arith) (agree-withCell (slotsLoaded f w k) (2700 + k) (kindAt f k) 0 0 0))
+
+-- What stands in a slot that is loaded.
+record Fresh (f w : List ℕ) (i : ℕ) : Type 0 where
+  cell-is : kindAt f i < 65536 → slotCell w i ≡ kindAt f i
+  lifts-are : slotLifts w i ≡ 0
+  uses-are : slotUses w i ≡ 0
+
+slot-loaded : (f w : List ℕ) (k i : ℕ) → i < k → k ≤ 64 → 27440 ≤ length w → Fresh f (slotsLoaded f w k) i
+unfolding slotsLoaded
+slot-loaded f w zero i h b room = absurd (omega arith)
+slot-loaded f w (suc k) i h b room = go (eqb i k) refl (λ l. slot-loaded f w k i l (omega arith) room)
+  where
+    before : List ℕ
+    before = slotsLoaded f w k
+
+    after : List ℕ
+    after = withCell before (2700 + k) (kindAt f k) 0 0 0
+
+    long : 4 * (2700 + k) + 4 ≤ length before
+    long = omega (arith, length-slots f w k)
+
+    this : Fresh f after k
+    this =
+        record {
+          cell-is = λ fits. kind-written before (2700 + k) (kindAt f k) 0 0 0 long fits;
+          lifts-are = first-written before (2700 + k) (kindAt f k) 0 0 0 long (omega arith);
+          uses-are = second-written before (2700 + k) (kindAt f k) 0 0 0 long (omega arith);
+        }
+
+    other : i < k → Fresh f before i → Fresh f after i
+    other l x =
+        let a = agree-withCell before (2700 + k) (kindAt f k) 0 0 0 in
+        record {
+          cell-is = λ fits. a .words-same (4 * (2700 + i)) (omega arith) ∙ x .cell-is fits;
+          lifts-are = a .words-same (4 * (2700 + i) + 1) (omega arith) ∙ x .lifts-are;
+          uses-are = a .words-same (4 * (2700 + i) + 2) (omega arith) ∙ x .uses-are;
+        }
+
+    go : (t : Bool) → eqb i k ≡ t → (i < k → Fresh f before i) → Fresh f after i
+    go true q x = subst (λ j. Fresh f after j) (sym (eqb-true i k q)) this
+    go false q x =
+        let l : i < k = omega (arith, eqb-false i k q) in
+        other l (x l)
+
+-- The type section as the codes that are loaded.
+module _ (f : List ℕ) (L P : ℕ) where
+  abbrev pub section : List ℕ
+  section = take P (drop (6 + L) f)
+
+  code-is : (i : ℕ) → i < P → codesOf section i ≡ kindAt f (L + i)
+  unfolding kindAt
+  code-is i h =
+      getD-take P (drop (6 + L) f) i 0 h
+      ∙ getD-drop (6 + L) f i 0
+      ∙ ap (λ j. getD f j 0) (omega arith)
+
+  pub section-length : 6 + L + P ≤ length f → length section ≡ P
+  section-length h = rw (length-take, length-drop) (omega arith)
+
+  -- A type that stands in the section stands among the codes.
+  stands : {e n : ℕ} {A : Ty} (q : ℕ) → e ≡ L + q → TypeAt f e A n → n ≤ L + P → Stands (codesOf section) q A
+  stands q at (bit-at k) h =
+      stands-wire (code-is q (omega arith) ∙ ap (kindAt f) (sym at) ∙ k)
+  stands q at (qubit-at k) h =
+      stands-wire (code-is q (omega arith) ∙ ap (kindAt f) (sym at) ∙ k)
+  stands q at (reusable-at {A = A} k d) h =
+      let end = type-ends d in
+      stands-one (code-is q (omega arith) ∙ ap (kindAt f) (sym at) ∙ k) (stands (suc q) (omega arith) d h)
+  stands q at (tensor-at {m = m} {A = A} {B = B} k d d′) h =
+      let end = type-ends d in
+      let end′ = type-ends d′ in
+      let b = some-entry B in
+      stands-two made-pair (code-is q (omega arith) ∙ ap (kindAt f) (sym at) ∙ k)
+      (stands (suc q) (omega arith) d (omega arith))
+      (stands (suc q + entries A) (omega arith) d′ h)
+  stands q at (function-at {m = m} {A = A} {B = B} k d d′) h =
+      let end = type-ends d in
+      let end′ = type-ends d′ in
+      let b = some-entry B in
+      stands-two made-function (code-is q (omega arith) ∙ ap (kindAt f) (sym at) ∙ k)
+      (stands (suc q) (omega arith) d (omega arith))
+      (stands (suc q + entries A) (omega arith) d′ h)
+  stands q at (circ-at {m = m} {A = A} {B = B} k d d′) h =
+      let end = type-ends d in
+      let end′ = type-ends d′ in
+      let b = some-entry B in
+      stands-two made-circuit (code-is q (omega arith) ∙ ap (kindAt f) (sym at) ∙ k)
+      (stands (suc q) (omega arith) d (omega arith))
+      (stands (suc q + entries A) (omega arith) d′ h)
+
+-- The memory of an accepted file, loaded in three steps: the gates, the type section, the labels.
+module _ {f : List ℕ} {labels : List Wire} {M : Term} (file : AcceptedFile f labels M)
+    (w w₁ w₂ w₃ : List ℕ) (cells : ℕ)
+    (room : 27440 ≤ length w) (room₁ : 27440 ≤ length w₁)
+    (first : w₁ ≡ loadAllGates w)
+    (second : w₂ ≡ loadCodes w₁ gateCells (codesOf (section f (labelCount f) (typeCount f))) 0 (typeCount f))
+    (third : w₃ ≡ slotsLoaded f w₂ 64)
+    (cells-are : cells ≡ gateCells + typeCount f) where
+  room₂ : 27440 ≤ length w₂
+  room₂ =
+      let codes = codesOf (section f (labelCount f) (typeCount f)) in
+      omega (arith, ap length second, length-loadCodes w₁ gateCells codes 0 (typeCount f))
+
+  room₃ : 27440 ≤ length w₃
+  room₃ = let r = room₂ in omega (arith, ap length third, length-slots f w₂ 64)
+
+  few-cells : cells ≤ 2700
+  few-cells = omega (arith, gate-cells, file .types-fit)
+
+  -- The gates' types and the file's types are cells.
+  gates-first : GatesLoaded w₁ gateCells
+  gates-first = subst (λ x. GatesLoaded x gateCells) (sym first) (gates-loaded w (omega (arith, gate-cells)))
+
+  gates-agree : Agree w₁ w₂ gateCells
+  gates-agree =
+      subst (λ x. Agree w₁ x gateCells) (sym second)
+      (agree-loadCodes w₁ gateCells (codesOf (section f (labelCount f) (typeCount f))) 0 (typeCount f))
+
+  types-second : (p : ℕ) (A : Ty) → TypeAtPosition f p A → Denotes w₂ cells (typeCell f p) A
+  types-second p A (at-position {n = n} d h) =
+      let fits = file .types-fit in
+      let end = type-ends d in
+      let some-one = some-entry A in
+      let codes = codesOf (section f (labelCount f) (typeCount f)) in
+      let small = gate-cells in
+      let there : gateCells + (0 + typeCount f - 1 - p) ≡ typeCell f p = omega arith in
+      subst (λ x. Denotes x cells (typeCell f p) A) (sym second)
+      (subst (λ n. Denotes (loadCodes w₁ gateCells codes 0 (typeCount f)) n (typeCell f p) A) (sym cells-are)
+      (subst (λ i. Denotes (loadCodes w₁ gateCells codes 0 (typeCount f)) (gateCells + typeCount f) i A) there
+      (codes-denote w₁ gateCells codes 0 (typeCount f) (omega arith) (omega arith) p A
+      (stands f (labelCount f) (typeCount f) p refl d h)
+      (omega arith)
+      (omega arith)
+      (omega arith))))
+
+  slots-agree : Agree w₂ w₃ cells
+  slots-agree =
+      agree-less cells few-cells (subst (λ x. Agree w₂ x 2700) (sym third) (agree-slots f w₂ 64))
+
+  all-loaded : Loaded f w₃ cells
+  all-loaded =
+      record {
+        types = λ p A t. denotes-kept slots-agree (omega arith) (types-second p A t);
+        gates =
+            record {
+              bit = gate-kept (gates-first .bit);
+              qubit = gate-kept (gates-first .qubit);
+              gate = λ g T U q. gate-kept (gates-first .gate g T U q);
+            };
+      }
+    where
+      gate-kept : {i : ℕ} {A : Ty} → Denotes w₁ gateCells i A → Denotes w₃ cells i A
+      gate-kept d = denotes-kept slots-agree (omega arith) (denotes-kept gates-agree (omega arith) d)
+
+  -- The labels stand in their slots.
+  slot-fresh : (i : ℕ) → i < 64 → Fresh f w₃ i
+  slot-fresh i h = subst (λ x. Fresh f x i) (sym third) (slot-loaded f w₂ 64 i h (omega arith) room₂)
+
+  wire-cell-is : (α : Wire) → Denotes w₃ cells (wireCode α) (wire α)
+  wire-cell-is Bit = all-loaded .gates .bit
+  wire-cell-is Qubit = all-loaded .gates .qubit
+
+  code-fits : (α : Wire) → wireCode α < 65536
+  code-fits Bit = omega arith
+  code-fits Qubit = omega arith
+
+  label-slot : (i : ℕ) (α : Wire) → i < 64 → nth labels i ≡ some α → Slot w₃ cells i (wire α under 0)
+  label-slot i α h q =
+      let k : kindAt f i ≡ wireCode α = file .label-kinds i α q in
+      let fresh = slot-fresh i h in
+      let fits = code-fits α in
+      record {
+        denotes =
+            subst (λ c. Denotes w₃ cells c (wire α)) (sym (fresh .cell-is (omega arith) ∙ k)) (wire-cell-is α);
+        lifts = fresh .lifts-are;
+      }
+
+  first-environment : Environment f w₃ (firstTerm f) cells labels []
+  first-environment =
+      record {
+        room = room₃;
+        labels-fit = omega (arith, file .labels-fit, file .label-count);
+        loaded = all-loaded;
+        slots = λ i b q. slot-of i b (nth labels i) refl q;
+        uses-fit = λ i h. omega (arith, slot-fresh i (omega arith) .uses-are);
+      }
+    where
+      slot-of : (i : ℕ) (b : Binder) (o : Option Wire) → nth labels i ≡ o
+          → Option·map (λ α. wire α under 0) o ≡ some b
+          → Slot w₃ cells i b
+      slot-of i b none n q = absurd (Option·some-ne-none b (sym q))
+      slot-of i b (some α) n q =
+          let this : (wire α under 0) ≡ b = cc in
+          let below : i < length labels = nth-below labels i α n in
+          subst (λ x. Slot w₃ cells i x) this
+          (label-slot i α (omega (arith, file .labels-fit, file .label-count)) n)
+
+  -- The program's term is ready to be checked.
+  pub program-ready : Ready f w₃ (firstTerm f) 0 0 cells labels [] M (entryCount f)
+  program-ready =
+      let end = term-ends (file .term-at) in
+      let few = gate-cells in
+      let l = file .labels-fit in
+      let t = file .types-fit in
+      let n = file .terms-fit in
+      record {
+        length-is = file .length-is;
+        entries-fit = omega arith;
+        term-at = file .term-at;
+        ends = omega arith;
+        closed = file .closed;
+        labels-below = subst (λ k. IsTrue (labelsBelow k M)) (sym (file .label-count)) (file .labels-below);
+        gates-known = file .gates-known;
+        binders-are = refl;
+        cells-fit = omega arith;
+        binders-fit = omega arith;
+        lifts-fit = omega arith;
+        environment = first-environment;
+      }
+
+  -- No label has been used yet.
+  pub labels-fresh : (ℓ : ℕ) → ℓ < 64 → slotUses w₃ ℓ ≡ 0
+  labels-fresh ℓ h = slot-fresh ℓ h .uses-are

@@ -1,0 +1,4 @@
+-- The theorems about the check.
+pub mod Agreement
+pub mod Places
+pub mod Checked

@@ -1,0 +1,94 @@
+// The inference (01, "Typing"): the type of a term on bytes, with the first 16, 17 and 18.
+use crate::Inferred;
+use crate::node::binders_after;
+use crate::node::binders_inside;
+use crate::node::finish_one;
+use crate::node::finish_two;
+use crate::node::lifts_inside;
+use crate::node::part_count;
+use crate::slots::argument_at;
+use crate::slots::between;
+use crate::slots::enter;
+use crate::slots::slot_at;
+use crate::slots::use_slot;
+use cells::gate_cell;
+use program::format::kind_at;
+ghost use mathlib.Core.Path.{_≡_};
+ghost use Rattle.memory.specs.Words.{words};
+ghost use Rattle.program.specs.Format.{kindAt};
+ghost use Rattle.typing.specs.Heads.{partCount};
+ghost use Rattle.typing.specs.Inferring.{Possible, Meets};
+
+// The kind of a gate.
+const GATE: u8 = 26;
+
+// A variable, a label or a gate at entry e.
+pub(crate) fn leaf(
+    file: &[u8],
+    work: &mut [u8],
+    e: usize,
+    binders: usize,
+    lifts: usize,
+    cells: usize,
+) -> Inferred
+    requires { ⌜ Possible (now file) (words (now work)) e binders lifts cells × (partCount (kindAt (now file) e) ≡ 0) ⌝ }
+    ensures { λ r. ⌜ Meets (now (file .entry)) (words (now (work .entry))) (words (now (work .exit))) e binders lifts cells r ⌝ }
+{
+    if kind_at(file, e) == GATE {
+        return Inferred::Typed {
+            cell: gate_cell(argument_at(file, e)),
+            next: e + 1,
+            cells,
+            unused: 0,
+            crossing: 0,
+        };
+    }
+    let i = slot_at(file, e, binders);
+    use_slot(work, i, e, lifts, cells)
+}
+
+// The term at entry e, under so many binders and lifts, where there are so many cells.
+pub(crate) fn infer(
+    file: &[u8],
+    work: &mut [u8],
+    e: usize,
+    binders: usize,
+    lifts: usize,
+    cells: usize,
+) -> Inferred
+    requires { ⌜ Possible (now file) (words (now work)) e binders lifts cells ⌝ }
+    ensures { λ r. ⌜ Meets (now (file .entry)) (words (now (work .entry))) (words (now (work .exit))) e binders lifts cells r ⌝ }
+{
+    let kind = kind_at(file, e);
+    let parts = part_count(kind);
+    if parts == 0 {
+        return leaf(file, work, e, binders, lifts, cells);
+    }
+    enter(file, work, e, binders, lifts);
+    let first = infer(
+        file,
+        work,
+        e + 1,
+        binders_inside(kind, binders),
+        lifts_inside(kind, lifts),
+        cells,
+    );
+    if parts == 1 {
+        return finish_one(file, work, e, binders, first);
+    }
+    let Inferred::Typed {
+        cell,
+        next,
+        cells: more,
+        unused: _,
+        crossing: _,
+    } = first
+    else {
+        return first;
+    };
+    if !between(file, work, e, binders, lifts, cell) {
+        return Inferred::Fault { place: e };
+    }
+    let second = infer(file, work, next, binders_after(kind, binders), lifts, more);
+    finish_two(file, work, e, binders, first, second)
+}

@@ -1,0 +1,163 @@
+// Slots of the scope, and the entries that name them.
+use crate::Inferred;
+use cells::Parts;
+use cells::cell_first;
+use cells::cell_kind;
+use cells::cell_second;
+use cells::is_copyable;
+use cells::new_cell;
+use cells::pair_parts;
+use memory::put;
+use program::format::kind_at;
+use program::format::word;
+ghost use mathlib.Core.Path.{_≡_};
+ghost use Prim.Native.Nat.{ℕ, _<_};
+ghost use Rattle.memory.specs.Words.{words};
+ghost use Rattle.program.specs.Format.{argumentAt};
+ghost use Rattle.typing.specs.Layout.{slotUses, typeCell};
+ghost use Rattle.typing.specs.Inferring.{Whole, entered, slotAt, SaysUsed, SaysUsedWrongly, SaysCrosses, SaysBetween};
+
+// The first row of the scope.
+const SCOPE: usize = 2700;
+
+// The first slot of a binder.
+const BINDERS: usize = 64;
+
+// How many cells the gates' types take, with Bit and Qubit.
+const GATE_CELLS: usize = 41;
+
+// Kinds of terms.
+const LABEL: u8 = 17;
+
+const ABSTRACTION: u8 = 18;
+
+const LET: u8 = 21;
+
+// The argument of entry e.
+pub(crate) fn argument_at(file: &[u8], e: usize) -> usize
+    requires { ⌜ Whole (now file) ⌝ }
+    ensures { λ r. ⌜ r ≡ argumentAt (now (file .entry)) e ⌝ }
+{
+    let n = file.len();
+    if n <= e {
+        return 0;
+    }
+    word(file, 6 + (n - 6) / 3 + 2 * e)
+}
+
+// The cell of the type that entry e names.
+pub(crate) fn named_cell(file: &[u8], e: usize) -> usize
+    requires { ⌜ Whole (now file) ⌝ }
+    ensures { λ r. ⌜ r ≡ typeCell (now (file .entry)) (argumentAt (now (file .entry)) e) ⌝ }
+{
+    let p = argument_at(file, e);
+    let count = word(file, 2);
+    if count <= p {
+        return GATE_CELLS;
+    }
+    GATE_CELLS + (count - 1 - p)
+}
+
+// The slot of the variable or label at entry e.
+pub(crate) fn slot_at(file: &[u8], e: usize, binders: usize) -> usize
+    requires { ⌜ Whole (now file) × (binders < 65536) ⌝ }
+    ensures { λ r. ⌜ r ≡ slotAt (now (file .entry)) e binders ⌝ }
+{
+    let n = argument_at(file, e);
+    if kind_at(file, e) == LABEL {
+        return n;
+    }
+    if binders <= n {
+        return BINDERS;
+    }
+    BINDERS + (binders - 1 - n)
+}
+
+// The 18 of a use at entry e, under so many lifts, of what is bound under so many: one more than its place, or 0.
+pub(crate) fn crossing_at(work: &[u8], cell: usize, bound: usize, lifts: usize, e: usize) -> usize
+    requires { ⌜ e < 65536 ⌝ }
+    ensures { λ r. ⌜ SaysCrosses (words (now (work .entry))) cell bound lifts e r ⌝ }
+{
+    if lifts <= bound {
+        return 0;
+    }
+    if is_copyable(work, cell) {
+        return 0;
+    }
+    e + 1
+}
+
+// What slot i holds is used at entry e.
+pub(crate) fn use_slot(work: &mut [u8], i: usize, e: usize, lifts: usize, cells: usize) -> Inferred
+    requires { ⌜ (i < 65536) × (e < 65536) × (slotUses (words (now work)) i < 65535) ⌝ }
+    ensures { λ r. ⌜ SaysUsed (words (now (work .entry))) (words (now (work .exit))) i e lifts cells r ⌝ }
+{
+    let row = SCOPE + i;
+    let cell = cell_kind(work, row);
+    let crossing = crossing_at(work, cell, cell_first(work, row), lifts, e);
+    let uses = cell_second(work, row);
+    put(work, 4 * row + 2, uses + 1);
+    Inferred::Typed {
+        cell,
+        next: e + 1,
+        cells,
+        unused: 0,
+        crossing,
+    }
+}
+
+// The 17 of the binder in slot i, whose node is at entry e: one more than its place, or 0.
+pub(crate) fn unused_at(work: &[u8], i: usize, e: usize) -> usize
+    requires { ⌜ (i < 65536) × (e < 65536) ⌝ }
+    ensures { λ r. ⌜ SaysUsedWrongly (words (now (work .entry))) i e r ⌝ }
+{
+    if cell_second(work, SCOPE + i) == 1 {
+        return 0;
+    }
+    if is_copyable(work, cell_kind(work, SCOPE + i)) {
+        return 0;
+    }
+    e + 1
+}
+
+// Before the first part of a node: an abstraction pushes its binder.
+pub(crate) fn enter(file: &[u8], work: &mut [u8], e: usize, binders: usize, lifts: usize)
+    requires { ⌜ Whole (now file) × (binders < 65536) ⌝ }
+    ensures { λ r. ⌜ words (now (work .exit)) ≡ entered (now (file .entry)) (words (now (work .entry))) e binders lifts ⌝ }
+{
+    if kind_at(file, e) == ABSTRACTION {
+        new_cell(
+            work,
+            SCOPE + (BINDERS + binders),
+            named_cell(file, e),
+            lifts,
+            0,
+            0,
+        );
+    }
+}
+
+// Before the second part of a node, whose first part has the type of a cell: a let pushes a binder for each half of the
+// pair. The answer is whether the second part is to be looked at.
+pub(crate) fn between(
+    file: &[u8],
+    work: &mut [u8],
+    e: usize,
+    binders: usize,
+    lifts: usize,
+    cell: usize,
+) -> bool
+    requires { ⌜ binders < 65536 ⌝ }
+    ensures { λ r. ⌜ SaysBetween (now (file .entry)) (words (now (work .entry))) (words (now (work .exit))) e binders lifts cell r ⌝ }
+{
+    if kind_at(file, e) != LET {
+        return true;
+    }
+    let parts = pair_parts(work, cell);
+    let Parts::Both { first, second } = parts else {
+        return false;
+    };
+    new_cell(work, SCOPE + (BINDERS + binders), first, lifts, 0, 0);
+    new_cell(work, SCOPE + (BINDERS + (binders + 1)), second, lifts, 0, 0);
+    true
+}

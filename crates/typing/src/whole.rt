@@ -1,0 +1,109 @@
+// The check of a whole file that the reader has accepted.
+use crate::Core;
+use crate::Inferred;
+use crate::infer::infer;
+use crate::node::sooner_of;
+use cells::cell_second;
+use cells::load_gates;
+use cells::load_types;
+use cells::new_cell;
+use program::Refusal;
+use program::format::kind_at;
+ghost use mathlib.Core.Path.{_≡_};
+ghost use Prim.Native.Nat.{_≤_};
+ghost use lib.ListN.{length};
+ghost use Rattle.memory.specs.Words.{words};
+ghost use Rattle.typing.specs.Loading.{slotsLoaded};
+ghost use Rattle.typing.specs.Deciding.{wrongUse, settled, decidedAs};
+ghost use Rattle.typing.specs.Whole.{Readable, SaysFile};
+
+// The first row of the scope.
+const SCOPE: usize = 2700;
+
+// 01: "L labels (0 to 64)".
+const MOST_LABELS: usize = 64;
+
+fn wide(x: u8) -> usize
+    ensures { λ r. ⌜ r ≡ x ⌝ }
+{
+    x as usize
+}
+
+// Writes the slots of the labels. The cells 0 and 1 are Bit and Qubit, as their kinds are.
+pub(crate) fn load_labels(file: &[u8], work: &mut [u8])
+    ensures { λ r. ⌜ words (now (work .exit)) ≡ slotsLoaded (now (file .entry)) (words (now (work .entry))) 64 ⌝ }
+{
+    let mut i: usize = 0;
+    while i < MOST_LABELS {
+        new_cell(work, SCOPE + i, wide(kind_at(file, i)), 0, 0, 0);
+        i += 1;
+    }
+}
+
+// The first label that is not used exactly once: one more than its entry, or 0.
+pub(crate) fn wrong_label(work: &[u8], labels: usize) -> usize
+    requires { ⌜ labels ≤ 64 ⌝ }
+    ensures { λ r. ⌜ r ≡ wrongUse (words (now (work .entry))) 0 labels ⌝ }
+{
+    let mut i: usize = 0;
+    while i < labels {
+        if cell_second(work, SCOPE + i) != 1 {
+            return i + 1;
+        }
+        i += 1;
+    }
+    0
+}
+
+// The answer for a program that has a type, with its first 17 and 18.
+pub(crate) fn settle(cell: usize, unused: usize, crossing: usize) -> Core
+    ensures { λ r. ⌜ r ≡ settled cell unused crossing ⌝ }
+{
+    if unused != 0 {
+        return Core::Refused(Refusal::Typing {
+            number: 17,
+            place: unused - 1,
+        });
+    }
+    if crossing != 0 {
+        return Core::Refused(Refusal::Typing {
+            number: 18,
+            place: crossing - 1,
+        });
+    }
+    Core::Typed { cell }
+}
+
+// The answer, by what is found in the term: 16, then 17, labels first, then 18.
+pub(crate) fn decide(work: &[u8], labels: usize, found: Inferred) -> Core
+    requires { ⌜ labels ≤ 64 ⌝ }
+    ensures { λ r. ⌜ r ≡ decidedAs (words (now (work .entry))) labels found ⌝ }
+{
+    match found {
+        Inferred::Typed {
+            cell,
+            next: _,
+            cells: _,
+            unused,
+            crossing,
+        } => {
+            let wrong = wrong_label(work, labels);
+            settle(cell, sooner_of(wrong, unused), crossing)
+        }
+        Inferred::Fault { place } => Core::Refused(Refusal::Typing { number: 16, place }),
+    }
+}
+
+// The check of an accepted file with so many labels and types.
+pub(crate) fn check_file(file: &[u8], work: &mut [u8], labels: usize, types: usize) -> Core
+    requires { ⌜ Readable (now file) labels types × (54880 ≤ length (now work)) ⌝ }
+    ensures { λ r. ⌜ SaysFile (now (file .entry)) (words (now (work .exit))) r ⌝ }
+{
+    let gates = load_gates(work);
+    let start = 6 + labels;
+    let end = start + types;
+    let cells = load_types(work, gates, &file[start..end]);
+    load_labels(file, work);
+    let found = infer(file, work, labels + types, 0, 0, cells);
+    decide(work, labels, found)
+}

@@ -1,0 +1,671 @@
+//! Programs written by hand, with their answers.
+
+use crate::compare::{Comparison, Known};
+use program_files::kinds::*;
+use program_files::read::types_at;
+use program_files::{Entries, Entry};
+
+type Written = (&'static [u8], &'static [u8], &'static [(u8, u16)]);
+
+fn entries((labels, types, terms): Written) -> Entries {
+    let plain = |list: &[u8]| list.iter().map(|&kind| Entry::new(kind, 0)).collect();
+    Entries {
+        labels: plain(labels),
+        types: plain(types),
+        terms: terms
+            .iter()
+            .map(|&(kind, argument)| Entry::new(kind, argument))
+            .collect(),
+    }
+}
+
+/// A type in preorder.
+fn known_type(kinds: &[u8]) -> Known {
+    let entries = entries((&[], &[], &[]));
+    let types = kinds.iter().map(|&kind| Entry::new(kind, 0)).collect();
+    let types = types_at(&Entries { types, ..entries });
+    Known::Type(types[0].clone())
+}
+
+const ABS: u8 = ABSTRACTION;
+const APP: u8 = APPLICATION;
+const VAR: u8 = VARIABLE;
+const FUN: u8 = FUNCTION;
+const REU: u8 = REUSABLE;
+
+/// Cases c1 to c4 and c10 to c12, and others that are accepted, with their
+/// types.
+const ACCEPTED: [(&[u8], Written); 32] = [
+    (&[QUBIT], (&[QUBIT], &[], &[(LABEL, 0)])),
+    (
+        &[QUBIT],
+        (&[QUBIT], &[], &[(APPLY, 0), (GATE, 0), (LABEL, 0)]),
+    ),
+    (
+        &[PAIR_TYPE, QUBIT, QUBIT],
+        (
+            &[QUBIT, QUBIT],
+            &[],
+            &[
+                (LET, 0),
+                (APPLY, 0),
+                (GATE, 5),
+                (PAIR, 0),
+                (LABEL, 0),
+                (LABEL, 1),
+                (PAIR, 0),
+                (VAR, 0),
+                (VAR, 1),
+            ],
+        ),
+    ),
+    (
+        &[QUBIT],
+        (
+            &[QUBIT],
+            &[QUBIT],
+            &[
+                (APPLY, 0),
+                (BOX, 0),
+                (LIFT, 0),
+                (ABS, 0),
+                (APPLY, 0),
+                (GATE, 0),
+                (VAR, 0),
+                (LABEL, 0),
+            ],
+        ),
+    ),
+    (
+        &[QUBIT],
+        (
+            &[QUBIT],
+            &[CIRCUIT, QUBIT, QUBIT],
+            &[
+                (APP, 0),
+                (ABS, 0),
+                (APPLY, 0),
+                (VAR, 0),
+                (APPLY, 0),
+                (VAR, 0),
+                (LABEL, 0),
+                (GATE, 0),
+            ],
+        ),
+    ),
+    (&[FUN, QUBIT, QUBIT], (&[], &[QUBIT], &[(ABS, 0), (VAR, 0)])),
+    (
+        &[QUBIT],
+        (
+            &[QUBIT],
+            &[CIRCUIT, QUBIT, QUBIT],
+            &[(APP, 0), (ABS, 0), (LABEL, 0), (GATE, 0)],
+        ),
+    ),
+    // The gates.
+    (&[CIRCUIT, QUBIT, QUBIT], (&[], &[], &[(GATE, 0)])),
+    (&[CIRCUIT, QUBIT, QUBIT], (&[], &[], &[(GATE, 1)])),
+    (&[CIRCUIT, QUBIT, QUBIT], (&[], &[], &[(GATE, 2)])),
+    (&[CIRCUIT, QUBIT, QUBIT], (&[], &[], &[(GATE, 3)])),
+    (&[CIRCUIT, QUBIT, QUBIT], (&[], &[], &[(GATE, 4)])),
+    (
+        &[CIRCUIT, PAIR_TYPE, QUBIT, QUBIT, PAIR_TYPE, QUBIT, QUBIT],
+        (&[], &[], &[(GATE, 5)]),
+    ),
+    (&[CIRCUIT, QUBIT, BIT], (&[], &[], &[(GATE, 6)])),
+    (
+        &[CIRCUIT, PAIR_TYPE, BIT, QUBIT, PAIR_TYPE, BIT, QUBIT],
+        (&[], &[], &[(GATE, 7)]),
+    ),
+    (
+        &[CIRCUIT, PAIR_TYPE, BIT, QUBIT, PAIR_TYPE, BIT, QUBIT],
+        (&[], &[], &[(GATE, 8)]),
+    ),
+    // Argument 0 is the pair's second half.
+    (
+        &[PAIR_TYPE, BIT, QUBIT],
+        (
+            &[QUBIT, BIT],
+            &[],
+            &[
+                (LET, 0),
+                (PAIR, 0),
+                (LABEL, 0),
+                (LABEL, 1),
+                (PAIR, 0),
+                (VAR, 0),
+                (VAR, 1),
+            ],
+        ),
+    ),
+    (
+        &[PAIR_TYPE, QUBIT, BIT],
+        (
+            &[QUBIT, BIT],
+            &[],
+            &[
+                (LET, 0),
+                (PAIR, 0),
+                (LABEL, 0),
+                (LABEL, 1),
+                (PAIR, 0),
+                (VAR, 1),
+                (VAR, 0),
+            ],
+        ),
+    ),
+    (
+        &[PAIR_TYPE, BIT, BIT],
+        (
+            &[QUBIT, BIT],
+            &[],
+            &[
+                (LET, 0),
+                (PAIR, 0),
+                (LABEL, 0),
+                (LABEL, 1),
+                (PAIR, 0),
+                (APPLY, 0),
+                (GATE, 6),
+                (VAR, 1),
+                (VAR, 0),
+            ],
+        ),
+    ),
+    // Lift, force and box.
+    (
+        &[REU, CIRCUIT, QUBIT, QUBIT],
+        (&[], &[], &[(LIFT, 0), (GATE, 0)]),
+    ),
+    (
+        &[CIRCUIT, QUBIT, QUBIT],
+        (&[], &[], &[(FORCE, 0), (LIFT, 0), (GATE, 0)]),
+    ),
+    (
+        &[CIRCUIT, BIT, BIT],
+        (&[], &[BIT], &[(BOX, 0), (LIFT, 0), (ABS, 0), (VAR, 0)]),
+    ),
+    (
+        &[CIRCUIT, QUBIT, BIT],
+        (
+            &[],
+            &[REU, FUN, QUBIT, BIT],
+            &[
+                (APP, 0),
+                (ABS, 0),
+                (BOX, 2),
+                (VAR, 0),
+                (LIFT, 0),
+                (ABS, 2),
+                (APPLY, 0),
+                (GATE, 6),
+                (VAR, 0),
+            ],
+        ),
+    ),
+    // Copied, dropped, and used inside a lift.
+    (
+        &[FUN, REU, QUBIT, CIRCUIT, QUBIT, QUBIT],
+        (&[], &[REU, QUBIT], &[(ABS, 0), (GATE, 0)]),
+    ),
+    (
+        &[FUN, REU, BIT, PAIR_TYPE, REU, BIT, REU, BIT],
+        (&[], &[REU, BIT], &[(ABS, 0), (PAIR, 0), (VAR, 0), (VAR, 0)]),
+    ),
+    (
+        &[FUN, REU, BIT, REU, BIT],
+        (
+            &[],
+            &[REU, BIT],
+            &[(ABS, 0), (LIFT, 0), (FORCE, 0), (VAR, 0)],
+        ),
+    ),
+    (
+        &[REU, FUN, QUBIT, QUBIT],
+        (&[], &[QUBIT], &[(LIFT, 0), (ABS, 0), (VAR, 0)]),
+    ),
+    (
+        &[CIRCUIT, QUBIT, QUBIT],
+        (
+            &[],
+            &[],
+            &[
+                (LET, 0),
+                (PAIR, 0),
+                (GATE, 6),
+                (GATE, 0),
+                (FORCE, 0),
+                (LIFT, 0),
+                (VAR, 0),
+            ],
+        ),
+    ),
+    // A function used exactly once, and given on.
+    (
+        &[FUN, FUN, BIT, BIT, FUN, BIT, BIT],
+        (&[], &[FUN, BIT, BIT], &[(ABS, 0), (VAR, 0)]),
+    ),
+    (
+        &[FUN, FUN, BIT, QUBIT, FUN, BIT, QUBIT],
+        (
+            &[],
+            &[FUN, BIT, QUBIT],
+            &[(ABS, 0), (ABS, 1), (APP, 0), (VAR, 1), (VAR, 0)],
+        ),
+    ),
+    // An abstraction that holds a wire.
+    (
+        &[FUN, BIT, PAIR_TYPE, QUBIT, BIT],
+        (
+            &[QUBIT],
+            &[BIT],
+            &[(ABS, 0), (PAIR, 0), (LABEL, 0), (VAR, 0)],
+        ),
+    ),
+    // A pair is linear, and let gives halves that may be dropped.
+    (
+        &[FUN, PAIR_TYPE, REU, BIT, REU, BIT, REU, BIT],
+        (
+            &[],
+            &[PAIR_TYPE, REU, BIT, REU, BIT],
+            &[(ABS, 0), (LET, 0), (VAR, 0), (VAR, 1)],
+        ),
+    ),
+];
+
+/// Cases c5 to c9, and others that are refused: the number and the place.
+const REFUSED: [(u8, usize, Written); 57] = [
+    (17, 0, (&[QUBIT], &[], &[(PAIR, 0), (LABEL, 0), (LABEL, 0)])),
+    (17, 0, (&[QUBIT], &[QUBIT], &[(ABS, 0), (VAR, 0)])),
+    (18, 2, (&[QUBIT], &[], &[(LIFT, 0), (LABEL, 0)])),
+    (
+        16,
+        1,
+        (
+            &[QUBIT],
+            &[],
+            &[(APPLY, 0), (GATE, 0), (APPLY, 0), (GATE, 6), (LABEL, 0)],
+        ),
+    ),
+    (
+        17,
+        1,
+        (&[], &[QUBIT], &[(ABS, 0), (PAIR, 0), (VAR, 0), (VAR, 0)]),
+    ),
+    // 16, each rule.
+    (16, 0, (&[], &[], &[(FORCE, 0), (GATE, 0)])),
+    (16, 0, (&[], &[], &[(APP, 0), (GATE, 0), (GATE, 0)])),
+    (16, 0, (&[], &[], &[(APPLY, 0), (GATE, 0), (GATE, 0)])),
+    (
+        16,
+        0,
+        (&[], &[], &[(APPLY, 0), (LIFT, 0), (GATE, 0), (GATE, 0)]),
+    ),
+    (
+        16,
+        2,
+        (
+            &[QUBIT],
+            &[QUBIT],
+            &[(APPLY, 0), (ABS, 0), (VAR, 0), (LABEL, 0)],
+        ),
+    ),
+    (
+        16,
+        2,
+        (
+            &[BIT],
+            &[QUBIT],
+            &[(APP, 0), (ABS, 0), (VAR, 0), (LABEL, 0)],
+        ),
+    ),
+    (16, 0, (&[], &[], &[(LET, 0), (GATE, 0), (GATE, 0)])),
+    (
+        16,
+        3,
+        (
+            &[],
+            &[FUN, BIT, BIT],
+            &[(LET, 0), (ABS, 0), (VAR, 0), (GATE, 0)],
+        ),
+    ),
+    (16, 1, (&[], &[QUBIT], &[(BOX, 0), (GATE, 0)])),
+    (16, 1, (&[], &[QUBIT], &[(BOX, 0), (LIFT, 0), (GATE, 0)])),
+    (16, 1, (&[], &[QUBIT], &[(BOX, 0), (ABS, 0), (VAR, 0)])),
+    (
+        16,
+        2,
+        (
+            &[],
+            &[QUBIT, BIT],
+            &[(BOX, 1), (LIFT, 0), (ABS, 0), (VAR, 0)],
+        ),
+    ),
+    (
+        16,
+        1,
+        (&[], &[QUBIT], &[(BOX, 0), (LIFT, 0), (ABS, 0), (GATE, 0)]),
+    ),
+    (
+        16,
+        1,
+        (
+            &[],
+            &[QUBIT],
+            &[
+                (BOX, 0),
+                (LIFT, 0),
+                (ABS, 0),
+                (PAIR, 0),
+                (VAR, 0),
+                (GATE, 0),
+            ],
+        ),
+    ),
+    // A function given where a circuit is wanted, and a circuit for a
+    // function.
+    (
+        16,
+        7,
+        (
+            &[QUBIT],
+            &[CIRCUIT, QUBIT, QUBIT, FUN, QUBIT, QUBIT],
+            &[(APP, 0), (ABS, 0), (VAR, 0), (ABS, 1), (VAR, 0)],
+        ),
+    ),
+    (
+        16,
+        8,
+        (
+            &[QUBIT, BIT],
+            &[CIRCUIT, QUBIT, QUBIT, FUN, QUBIT, QUBIT],
+            &[(APP, 0), (ABS, 3), (VAR, 0), (GATE, 0)],
+        ),
+    ),
+    // 16, the first of several: in both parts, in a let's two parts, at a let
+    // and in its second part.
+    (
+        16,
+        1,
+        (
+            &[],
+            &[],
+            &[(PAIR, 0), (FORCE, 0), (GATE, 0), (FORCE, 0), (GATE, 0)],
+        ),
+    ),
+    (
+        16,
+        2,
+        (&[], &[], &[(PAIR, 0), (GATE, 0), (FORCE, 0), (GATE, 0)]),
+    ),
+    (
+        16,
+        1,
+        (
+            &[],
+            &[],
+            &[(LET, 0), (FORCE, 0), (GATE, 0), (FORCE, 0), (GATE, 0)],
+        ),
+    ),
+    (
+        16,
+        0,
+        (&[], &[], &[(LET, 0), (GATE, 0), (FORCE, 0), (GATE, 0)]),
+    ),
+    (
+        16,
+        1,
+        (
+            &[],
+            &[],
+            &[(LET, 0), (FORCE, 0), (GATE, 0), (FORCE, 0), (VAR, 0)],
+        ),
+    ),
+    (16, 2, (&[], &[QUBIT], &[(ABS, 0), (FORCE, 0), (VAR, 0)])),
+    (
+        16,
+        4,
+        (
+            &[],
+            &[],
+            &[
+                (LET, 0),
+                (PAIR, 0),
+                (GATE, 0),
+                (GATE, 0),
+                (FORCE, 0),
+                (VAR, 0),
+            ],
+        ),
+    ),
+    (16, 1, (&[], &[], &[(FORCE, 0), (FORCE, 0), (GATE, 0)])),
+    // 16 before 17 and 18.
+    (
+        16,
+        4,
+        (
+            &[QUBIT],
+            &[],
+            &[(PAIR, 0), (LIFT, 0), (LABEL, 0), (FORCE, 0), (GATE, 0)],
+        ),
+    ),
+    (
+        16,
+        3,
+        (
+            &[],
+            &[QUBIT],
+            &[(ABS, 0), (PAIR, 0), (FORCE, 0), (VAR, 0), (VAR, 0)],
+        ),
+    ),
+    // Variables in a let's second part, taken for each other.
+    (
+        16,
+        7,
+        (
+            &[QUBIT, BIT],
+            &[],
+            &[
+                (LET, 0),
+                (PAIR, 0),
+                (LABEL, 0),
+                (LABEL, 1),
+                (PAIR, 0),
+                (APPLY, 0),
+                (GATE, 6),
+                (VAR, 0),
+                (VAR, 1),
+            ],
+        ),
+    ),
+    // 17, each binder.
+    (17, 1, (&[], &[QUBIT], &[(ABS, 0), (GATE, 0)])),
+    (17, 3, (&[], &[FUN, BIT, BIT], &[(ABS, 0), (GATE, 0)])),
+    (
+        17,
+        7,
+        (
+            &[],
+            &[PAIR_TYPE, CIRCUIT, BIT, BIT, REU, BIT, BIT],
+            &[(ABS, 0), (GATE, 0)],
+        ),
+    ),
+    (
+        17,
+        5,
+        (
+            &[],
+            &[PAIR_TYPE, REU, BIT, REU, BIT],
+            &[(ABS, 0), (PAIR, 0), (VAR, 0), (VAR, 0)],
+        ),
+    ),
+    (
+        17,
+        3,
+        (
+            &[],
+            &[FUN, BIT, BIT],
+            &[(ABS, 0), (PAIR, 0), (VAR, 0), (VAR, 0)],
+        ),
+    ),
+    (
+        17,
+        2,
+        (
+            &[QUBIT, BIT],
+            &[],
+            &[(LET, 0), (PAIR, 0), (LABEL, 0), (LABEL, 1), (VAR, 0)],
+        ),
+    ),
+    (
+        17,
+        2,
+        (
+            &[QUBIT, BIT],
+            &[],
+            &[(LET, 0), (PAIR, 0), (LABEL, 0), (LABEL, 1), (VAR, 1)],
+        ),
+    ),
+    (
+        17,
+        2,
+        (
+            &[QUBIT, BIT],
+            &[],
+            &[
+                (LET, 0),
+                (PAIR, 0),
+                (LABEL, 0),
+                (LABEL, 1),
+                (PAIR, 0),
+                (VAR, 0),
+                (PAIR, 0),
+                (VAR, 1),
+                (VAR, 0),
+            ],
+        ),
+    ),
+    // 17, labels, and the first of several.
+    (17, 1, (&[QUBIT, QUBIT], &[], &[(LABEL, 0)])),
+    (17, 0, (&[QUBIT, QUBIT], &[], &[(LABEL, 1)])),
+    (
+        17,
+        0,
+        (&[QUBIT, BIT], &[], &[(PAIR, 0), (LABEL, 0), (LABEL, 0)]),
+    ),
+    (
+        17,
+        0,
+        (&[QUBIT, BIT], &[], &[(PAIR, 0), (LABEL, 1), (LABEL, 1)]),
+    ),
+    (17, 0, (&[QUBIT], &[], &[(GATE, 0)])),
+    (17, 1, (&[QUBIT, QUBIT], &[QUBIT], &[(ABS, 0), (LABEL, 0)])),
+    (17, 1, (&[], &[QUBIT], &[(ABS, 0), (ABS, 0), (GATE, 0)])),
+    (17, 2, (&[], &[QUBIT], &[(ABS, 0), (ABS, 0), (VAR, 1)])),
+    // 17 before 18, and uses inside a lift count.
+    (
+        17,
+        0,
+        (
+            &[QUBIT],
+            &[],
+            &[(LIFT, 0), (PAIR, 0), (LABEL, 0), (LABEL, 0)],
+        ),
+    ),
+    (
+        17,
+        1,
+        (
+            &[],
+            &[QUBIT],
+            &[(ABS, 0), (PAIR, 0), (VAR, 0), (LIFT, 0), (VAR, 0)],
+        ),
+    ),
+    // 18, and the first of several.
+    (18, 3, (&[], &[QUBIT], &[(ABS, 0), (LIFT, 0), (VAR, 0)])),
+    (
+        18,
+        4,
+        (&[], &[QUBIT], &[(LIFT, 0), (ABS, 0), (LIFT, 0), (VAR, 0)]),
+    ),
+    (
+        18,
+        4,
+        (
+            &[QUBIT, QUBIT],
+            &[],
+            &[(PAIR, 0), (LIFT, 0), (LABEL, 1), (LIFT, 0), (LABEL, 0)],
+        ),
+    ),
+    (18, 3, (&[QUBIT], &[], &[(LIFT, 0), (LIFT, 0), (LABEL, 0)])),
+    (
+        18,
+        6,
+        (
+            &[],
+            &[QUBIT],
+            &[
+                (ABS, 0),
+                (LIFT, 0),
+                (ABS, 0),
+                (PAIR, 0),
+                (LIFT, 0),
+                (VAR, 0),
+                (VAR, 1),
+            ],
+        ),
+    ),
+    (
+        18,
+        5,
+        (
+            &[],
+            &[QUBIT],
+            &[
+                (ABS, 0),
+                (LIFT, 0),
+                (ABS, 0),
+                (PAIR, 0),
+                (VAR, 1),
+                (LIFT, 0),
+                (VAR, 0),
+            ],
+        ),
+    ),
+    // An abstraction that holds a wire, lifted and boxed.
+    (
+        18,
+        7,
+        (
+            &[BIT],
+            &[QUBIT, BIT],
+            &[
+                (BOX, 0),
+                (LIFT, 0),
+                (ABS, 0),
+                (PAIR, 0),
+                (LABEL, 0),
+                (VAR, 0),
+            ],
+        ),
+    ),
+];
+
+pub fn compare(comparison: &mut Comparison) {
+    comparison.listed_group("written by hand");
+    let c1 = [1, 0, 0, 0, 1, 0, 1, 0x11, 0, 0, 0, 0];
+    assert_eq!(
+        entries(ACCEPTED[0].1).bytes(),
+        c1,
+        "c1 as written in the document"
+    );
+    for (kinds, written) in ACCEPTED {
+        comparison.program(&entries(written).bytes(), &known_type(kinds));
+    }
+    comparison.program(&[], &Known::Refused(1, 0));
+    comparison.program(&[1, 0, 0, 0, 0, 0], &Known::Refused(2, 0));
+    for (number, place, written) in REFUSED {
+        let known = Known::Refused(number, place);
+        comparison.program(&entries(written).bytes(), &known);
+    }
+}

@@ -1,0 +1,92 @@
+//! Buffers of every length near the least, shorter and longer.
+
+use crate::compare::Comparison;
+use check_compare::library::{LEAST_OUT, LEAST_WORK};
+use program_files::{encode, Positions, Random};
+use programs::broken::{broken, Way};
+use programs::extremes;
+use programs::typed::{typed, Plan};
+
+pub fn compare(comparison: &mut Comparison) {
+    comparison.group("with buffers of many lengths");
+    let outs: Vec<usize> = [0, 1, 2, 3, 255, 256, 257, 384]
+        .into_iter()
+        .chain(LEAST_OUT - 32..LEAST_OUT + 32)
+        .chain([600, 1_024, 4_096, 65_535, 65_536, 65_537])
+        .collect();
+    let works: Vec<usize> = [0, 1, 2, 255, 256, 512, 4_096, LEAST_WORK / 2]
+        .into_iter()
+        .chain(LEAST_WORK - 48..LEAST_WORK + 16)
+        .chain([60_000, 65_535, 65_536, 65_537, 131_072])
+        .collect();
+    let mut random = Random::new(1);
+    for (at, file) in files(&mut random).iter().enumerate() {
+        let mut lengths: Vec<(usize, usize)> = Vec::new();
+        lengths.extend(outs.iter().map(|&out| (out, LEAST_WORK)));
+        lengths.extend(works.iter().map(|&work| (LEAST_OUT, work)));
+        for _ in 0..40 {
+            lengths.push((random.pick(&outs), random.pick(&works)));
+        }
+        if at == 0 {
+            for &out in &outs {
+                lengths.extend(works.iter().map(|&work| (out, work)));
+            }
+        }
+        comparison.lengths(file, &lengths);
+    }
+}
+
+/// Files with each answer.
+fn files(random: &mut Random) -> Vec<Vec<u8>> {
+    let mut files: Vec<Vec<u8>> = Vec::new();
+    let ways = [
+        Way::LabelNotUsed,
+        Way::UseUnderLift,
+        Way::NotReusable,
+        Way::TooLarge,
+    ];
+    while files.len() < 24 {
+        let plan = Plan::any(random, 4, 30);
+        let Some(typed) = typed(random, &plan) else {
+            continue;
+        };
+        let mut program = typed.program;
+        if files.len() % 6 >= 2 {
+            let way = ways[files.len() % 6 - 2];
+            match broken(random, &program, way) {
+                Some((other, _)) => program = other,
+                None => continue,
+            }
+        }
+        if let Some(entries) = encode(&program, Positions::First) {
+            files.push(entries.bytes());
+        }
+    }
+    for (_, typed) in extremes::all(2_048) {
+        let entries = encode(&typed.program, Positions::First);
+        files.push(entries.expect("sizes in range").bytes());
+    }
+    let lifts = extremes::at_the_type_bound().swap_remove(0).1;
+    let lifts = encode(&lifts.program, Positions::First).expect("sizes in range");
+    files.push(lifts.bytes());
+    files.extend(not_read());
+    files
+}
+
+/// One file for each number of read.
+fn not_read() -> Vec<Vec<u8>> {
+    vec![
+        vec![],
+        vec![0, 0, 0, 0, 1],
+        vec![0, 0, 0, 0, 0, 0],
+        vec![0, 0, 0, 0, 1, 0, 16],
+        vec![0, 0, 0, 0, 1, 0, 27, 0, 0],
+        vec![0, 0, 0, 0, 1, 0, 26, 9, 0],
+        vec![0, 0, 1, 0, 1, 0, 4, 26, 0, 0, 0, 0],
+        vec![
+            0, 0, 4, 0, 1, 0, 5, 4, 0, 0, 26, 0, 0, 0, 0, 0, 0, 0, 0, 0, 0,
+        ],
+        vec![0, 0, 0, 0, 1, 0, 22, 0, 0],
+        vec![0, 0, 0, 0, 1, 0, 16, 0, 0],
+    ]
+}

@@ -1,0 +1,359 @@
+//! A third check, which counts uses in one pass, with one fault each. The
+//! comparison must tell every one of them from the exported check.
+
+use program_files::{Accepted, Refusal, Term, Type, Wire, GATES};
+use std::rc::Rc;
+
+/// The fault.
+#[derive(Clone, Copy, PartialEq, Eq, Debug)]
+pub enum Wrong {
+    Nothing,
+    CountEndsAtLift,
+    FunctionCopyable,
+    PairCopyable,
+    ReusableLinear,
+    CircuitLinear,
+    Bound511,
+    Bound513,
+    NoBoundAtLift,
+    NoBoundAtPair,
+    NoBoundAtAbstraction,
+    Last16,
+    Last17,
+    Last18,
+    UsesFirst,
+    LiftsFirst,
+    LetSwapped,
+    UnusedTaken,
+    TwiceTaken,
+    BindersFirst,
+    LabelsInLifts,
+    NothingInLifts,
+    OutermostLiftOnly,
+    BoundInLift,
+    BoxAtAny,
+    BoxToAny,
+    ApplyToAny,
+    SizesCompared,
+    LeavesAlike,
+    LetOfFunction,
+    NoPairAtFirstPart,
+    MeasToQubit,
+}
+
+pub const PLANTED: [(&str, Wrong); 31] = [
+    ("counting stops at a lift", Wrong::CountEndsAtLift),
+    ("a function may be copied", Wrong::FunctionCopyable),
+    ("a pair may be copied", Wrong::PairCopyable),
+    ("a reusable is linear", Wrong::ReusableLinear),
+    ("a circuit is linear", Wrong::CircuitLinear),
+    ("bound 511", Wrong::Bound511),
+    ("bound 513", Wrong::Bound513),
+    ("no bound at a lift", Wrong::NoBoundAtLift),
+    ("no bound at a pair", Wrong::NoBoundAtPair),
+    ("no bound at an abstraction", Wrong::NoBoundAtAbstraction),
+    ("the last 16", Wrong::Last16),
+    ("the last 17", Wrong::Last17),
+    ("the last 18", Wrong::Last18),
+    ("17 before 16", Wrong::UsesFirst),
+    ("18 before 17", Wrong::LiftsFirst),
+    ("let's variables swapped", Wrong::LetSwapped),
+    ("no use taken for one", Wrong::UnusedTaken),
+    ("two uses taken for one", Wrong::TwiceTaken),
+    ("binders before labels", Wrong::BindersFirst),
+    ("labels used inside a lift", Wrong::LabelsInLifts),
+    ("no variable used inside a lift", Wrong::NothingInLifts),
+    ("only the outermost lift counts", Wrong::OutermostLiftOnly),
+    ("bound inside the lift refused", Wrong::BoundInLift),
+    ("a box at any T", Wrong::BoxAtAny),
+    ("a box to any type", Wrong::BoxToAny),
+    ("an apply to any type", Wrong::ApplyToAny),
+    ("types of one size are equal", Wrong::SizesCompared),
+    ("Bit and Qubit are equal", Wrong::LeavesAlike),
+    ("let takes a function apart", Wrong::LetOfFunction),
+    ("the place of let's first part", Wrong::NoPairAtFirstPart),
+    ("Meas gives a Qubit", Wrong::MeasToQubit),
+];
+
+const MEAS: u16 = 6;
+
+struct Variable {
+    of: Option<Rc<Type>>,
+    place: usize,
+    lifts: usize,
+    uses: usize,
+}
+
+struct Counting<'a> {
+    wrong: Wrong,
+    labels: &'a [Wire],
+    label_uses: Vec<usize>,
+    scope: Vec<Variable>,
+    lifts: usize,
+    /// The entry number of the next node.
+    next: usize,
+    rules: Vec<usize>,
+    uses: Vec<usize>,
+    linear_in_lifts: Vec<usize>,
+}
+
+/// The check with a fault.
+pub fn check(wrong: Wrong, read: &Accepted) -> Result<Rc<Type>, Refusal> {
+    let mut counting = Counting {
+        wrong,
+        labels: &read.labels,
+        label_uses: vec![0; read.labels.len()],
+        scope: Vec::new(),
+        lifts: 0,
+        next: read.sizes.first_term(),
+        rules: Vec::new(),
+        uses: Vec::new(),
+        linear_in_lifts: Vec::new(),
+    };
+    let of = counting.term(&read.term);
+    counting.answer(of)
+}
+
+impl Counting<'_> {
+    fn answer(mut self, of: Option<Rc<Type>>) -> Result<Rc<Type>, Refusal> {
+        if self.wrong != Wrong::BindersFirst || self.uses.is_empty() {
+            let labels = 0..self.labels.len();
+            let wrong = labels.filter(|&label| !self.is_once(self.label_uses[label]));
+            let wrong: Vec<usize> = wrong.collect();
+            self.uses.extend(wrong);
+        }
+        let chosen = |places: &[usize], last: Wrong| {
+            if self.wrong == last {
+                places.iter().max().copied()
+            } else {
+                places.iter().min().copied()
+            }
+        };
+        let mut found = vec![
+            (16, chosen(&self.rules, Wrong::Last16)),
+            (17, chosen(&self.uses, Wrong::Last17)),
+            (18, chosen(&self.linear_in_lifts, Wrong::Last18)),
+        ];
+        match self.wrong {
+            Wrong::UsesFirst => found.swap(0, 1),
+            Wrong::LiftsFirst => found.swap(1, 2),
+            _ => {}
+        }
+        for (number, place) in found {
+            if let Some(place) = place {
+                return Err(Refusal { number, place });
+            }
+        }
+        Ok(of.expect("no node is at fault"))
+    }
+
+    fn is_once(&self, uses: usize) -> bool {
+        match self.wrong {
+            Wrong::UnusedTaken => uses <= 1,
+            Wrong::TwiceTaken => uses == 1 || uses == 2,
+            _ => uses == 1,
+        }
+    }
+
+    fn is_linear(&self, of: &Type) -> bool {
+        !self.is_copyable(of)
+    }
+
+    fn is_copyable(&self, of: &Type) -> bool {
+        match of {
+            Type::Bit | Type::Qubit => false,
+            Type::Pair(first, second) => {
+                self.wrong == Wrong::PairCopyable
+                    && self.is_copyable(first)
+                    && self.is_copyable(second)
+            }
+            Type::Function(..) => self.wrong == Wrong::FunctionCopyable,
+            Type::Reusable(_) => self.wrong != Wrong::ReusableLinear,
+            Type::Circuit(..) => self.wrong != Wrong::CircuitLinear,
+        }
+    }
+
+    /// The type of a node with this entry number, if it is within the bound.
+    fn bounded(&mut self, of: Type, place: usize) -> Option<Rc<Type>> {
+        // Past any bound, so that types do not grow without end.
+        const NO_BOUND: usize = 4_096;
+        let most = match (self.wrong, &of) {
+            (Wrong::Bound511, _) => 511,
+            (Wrong::Bound513, _) => 513,
+            (Wrong::NoBoundAtLift, Type::Reusable(_))
+            | (Wrong::NoBoundAtPair, Type::Pair(..))
+            | (Wrong::NoBoundAtAbstraction, Type::Function(..)) => NO_BOUND,
+            _ => 512,
+        };
+        self.ruled((of.size() <= most).then(|| Rc::new(of)), place)
+    }
+
+    fn ruled(&mut self, of: Option<Rc<Type>>, place: usize) -> Option<Rc<Type>> {
+        if of.is_none() {
+            self.rules.push(place);
+        }
+        of
+    }
+
+    fn are_equal(&self, one: &Type, other: &Type) -> bool {
+        match self.wrong {
+            Wrong::SizesCompared => one.size() == other.size(),
+            Wrong::LeavesAlike => {
+                let alike = |of: &Type| -> Vec<u8> {
+                    let bytes = of.preorder();
+                    bytes.into_iter().map(|kind| kind.max(1)).collect()
+                };
+                alike(one) == alike(other)
+            }
+            _ => one == other,
+        }
+    }
+
+    /// Counts a use of a linear variable, and tests its lifts.
+    fn used(&mut self, at: usize, place: usize) {
+        let wrong = self.wrong;
+        let lifts = self.lifts;
+        let variable = &self.scope[at];
+        let bound = variable.lifts;
+        let linear = variable.of.as_ref().map(|of| self.is_linear(of));
+        let inside = match wrong {
+            Wrong::OutermostLiftOnly => lifts > 0 && bound == 0,
+            Wrong::BoundInLift => lifts > 0,
+            _ => lifts > bound,
+        };
+        if wrong != Wrong::CountEndsAtLift || !inside {
+            self.scope[at].uses += 1;
+        }
+        let refused = match linear {
+            Some(linear) => linear || wrong == Wrong::NothingInLifts,
+            None => false,
+        };
+        if inside && refused {
+            self.linear_in_lifts.push(place);
+        }
+    }
+
+    fn term(&mut self, term: &Term) -> Option<Rc<Type>> {
+        let place = self.next;
+        self.next += 1;
+        match term {
+            Term::Variable(argument) => {
+                let at = self.scope.len() - 1 - usize::from(*argument);
+                self.used(at, place);
+                self.scope[at].of.clone()
+            }
+            Term::Label(number) => {
+                let number = usize::from(*number);
+                if self.wrong != Wrong::CountEndsAtLift || self.lifts == 0 {
+                    self.label_uses[number] += 1;
+                }
+                if self.lifts > 0 && self.wrong != Wrong::LabelsInLifts {
+                    self.linear_in_lifts.push(place);
+                }
+                Some(self.labels[number].as_type())
+            }
+            Term::Gate(MEAS) if self.wrong == Wrong::MeasToQubit => Some(GATES[0].circuit_type()),
+            Term::Gate(number) => Some(GATES[usize::from(*number)].circuit_type()),
+            Term::Abstraction(over, body) => {
+                let to = self.under(&[Some(over.clone())], place, body)?;
+                self.bounded(Type::Function(over.clone(), to), place)
+            }
+            Term::Lift(part) => {
+                self.lifts += 1;
+                let of = self.term(part);
+                self.lifts -= 1;
+                self.bounded(Type::Reusable(of?), place)
+            }
+            Term::Force(part) => match &*self.term(part)? {
+                Type::Reusable(of) => Some(of.clone()),
+                _ => self.ruled(None, place),
+            },
+            Term::Box(at, part) => {
+                let of = self.term(part)?;
+                let boxed = self.boxed(at, &of);
+                self.ruled(boxed, place)
+            }
+            Term::Let(first, second) => self.let_in(first, second, place),
+            Term::Pair(first, second) => {
+                let (first, second) = (self.term(first), self.term(second));
+                self.bounded(Type::Pair(first?, second?), place)
+            }
+            Term::Application(first, second) | Term::Apply(first, second) => {
+                let (left, right) = (self.term(first), self.term(second));
+                let (left, right) = (left?, right?);
+                let is_apply = matches!(term, Term::Apply(..));
+                let result = match &*left {
+                    Type::Function(from, to) if !is_apply => {
+                        self.are_equal(from, &right).then(|| to.clone())
+                    }
+                    Type::Circuit(from, to) if is_apply => {
+                        let fits = self.wrong == Wrong::ApplyToAny || self.are_equal(from, &right);
+                        fits.then(|| to.clone())
+                    }
+                    _ => None,
+                };
+                self.ruled(result, place)
+            }
+        }
+    }
+
+    fn boxed(&self, at: &Rc<Type>, of: &Type) -> Option<Rc<Type>> {
+        let Type::Reusable(function) = of else {
+            return None;
+        };
+        let Type::Function(from, to) = &**function else {
+            return None;
+        };
+        let from_fits = self.wrong == Wrong::BoxAtAny || self.are_equal(from, at);
+        let to_fits = self.wrong == Wrong::BoxToAny || to.is_wire_type();
+        (from_fits && to_fits).then(|| Rc::new(Type::Circuit(at.clone(), to.clone())))
+    }
+
+    fn let_in(&mut self, first: &Term, second: &Term, place: usize) -> Option<Rc<Type>> {
+        let left = self.term(first);
+        let mut halves = match left.as_deref() {
+            Some(Type::Pair(half, other)) => [Some(half.clone()), Some(other.clone())],
+            Some(Type::Function(half, other)) if self.wrong == Wrong::LetOfFunction => {
+                [Some(half.clone()), Some(other.clone())]
+            }
+            _ => [None, None],
+        };
+        let has_halves = halves[0].is_some();
+        if left.is_some() && !has_halves {
+            self.rules.push(match self.wrong {
+                Wrong::NoPairAtFirstPart => place + 1,
+                _ => place,
+            });
+        }
+        if self.wrong == Wrong::LetSwapped {
+            halves.swap(0, 1);
+        }
+        let right = self.under(&halves, place, second);
+        if has_halves {
+            right
+        } else {
+            None
+        }
+    }
+
+    /// A part with these variables in scope, whose uses are then compared.
+    fn under(&mut self, types: &[Option<Rc<Type>>], place: usize, part: &Term) -> Option<Rc<Type>> {
+        let outside = self.scope.len();
+        for of in types {
+            self.scope.push(Variable {
+                of: of.clone(),
+                place,
+                lifts: self.lifts,
+                uses: 0,
+            });
+        }
+        let of = self.term(part);
+        for variable in self.scope.split_off(outside) {
+            let linear = variable.of.as_ref().is_some_and(|of| self.is_linear(of));
+            if linear && !self.is_once(variable.uses) {
+                self.uses.push(variable.place);
+            }
+        }
+        of
+    }
+}

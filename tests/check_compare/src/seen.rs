@@ -1,0 +1,124 @@
+//! What accepted programs had.
+
+use program_files::entries::LONGEST;
+use program_files::{kinds, Accepted, Term, Type};
+use programs::rules::MOST_ENTRIES;
+use programs::survey::Survey;
+
+#[derive(Default)]
+pub struct Seen {
+    most_sizes: [usize; 3],
+    longest: usize,
+    deepest: usize,
+    deepest_type: usize,
+    boxes: usize,
+    lifts: usize,
+    /// Programs of a type of 512 entries, and with a node of such a type.
+    largest: usize,
+    with_largest: usize,
+    /// Nodes by kind.
+    kinds: [usize; 11],
+    /// Variables by the kind of their type, and by uses: none, one, more.
+    uses: [[usize; 3]; 6],
+}
+
+impl Seen {
+    /// Counts what one accepted program of this type has.
+    pub fn look(&mut self, read: &Accepted, survey: &Survey, of: &Type) {
+        let sizes = [read.sizes.labels, read.sizes.types, read.sizes.terms];
+        for (most, size) in self.most_sizes.iter_mut().zip(sizes) {
+            *most = (*most).max(size);
+        }
+        self.longest = self.longest.max(6 + 3 * read.sizes.all());
+        self.deepest = self.deepest.max(read.term.depth());
+        self.deepest_type = self.deepest_type.max(of.depth());
+        let mut largest = false;
+        let mut uses = vec![0; survey.binders.len()];
+        for (at, node) in survey.nodes.iter().enumerate() {
+            self.boxes = self.boxes.max(node.boxes);
+            self.lifts = self.lifts.max(node.lifts);
+            self.kinds[usize::from(node.term.kind() - kinds::VARIABLE)] += 1;
+            largest |= node.of.as_ref().is_some_and(|of| of.size() == MOST_ENTRIES);
+            if let Some(binder) = survey.binder(at) {
+                uses[binder] += 1;
+            }
+        }
+        for (binder, uses) in survey.binders.iter().zip(uses) {
+            let kind = binder.of.as_ref().expect("a type").kind();
+            self.uses[usize::from(kind)][uses.min(2)] += 1;
+        }
+        self.largest += usize::from(of.size() == MOST_ENTRIES);
+        self.with_largest += usize::from(largest);
+    }
+
+    pub fn report(&self) {
+        let [labels, types, terms] = self.most_sizes;
+        println!("most of accepted programs: L {labels}, P {types}, N {terms}");
+        println!("longest file accepted: {} bytes", self.longest);
+        println!("deepest term accepted: {}", self.deepest);
+        println!("deepest type of a program: {}", self.deepest_type);
+        println!(
+            "most boxes inside each other: {}, lifts: {}",
+            self.boxes, self.lifts
+        );
+        println!(
+            "of a type of 512 entries: {}, with such a node: {}",
+            self.largest, self.with_largest
+        );
+        println!("nodes by kind: {:?}", self.kinds);
+        for (name, kind) in [
+            ("Bit", kinds::BIT),
+            ("Qubit", kinds::QUBIT),
+            ("pair", kinds::PAIR_TYPE),
+            ("function", kinds::FUNCTION),
+            ("reusable", kinds::REUSABLE),
+            ("circuit", kinds::CIRCUIT),
+        ] {
+            let [none, one, more] = self.uses[usize::from(kind)];
+            println!("variables of kind {name}: {none} not used, {one} once, {more} more often");
+        }
+    }
+
+    /// Fails if too little has been seen.
+    pub fn assert(&self) {
+        assert_eq!(self.most_sizes, [64, 512, 2_048], "sizes not reached");
+        assert_eq!(self.longest, LONGEST, "longest file not reached");
+        assert_eq!(self.deepest, 2_048, "deepest term not reached");
+        assert!(self.deepest_type >= 511, "deepest type not reached");
+        assert!(self.boxes >= 8 && self.lifts >= 400, "too little nested");
+        assert!(self.largest >= 100, "too few of 512 entries");
+        assert!(self.with_largest >= 200, "too few with 512 entries");
+        assert!(
+            self.kinds.iter().all(|&nodes| nodes >= 10_000),
+            "too few nodes of some kind"
+        );
+        let linear = [kinds::BIT, kinds::QUBIT, kinds::PAIR_TYPE, kinds::FUNCTION];
+        for kind in linear {
+            assert!(
+                self.uses[usize::from(kind)][1] >= 1_000,
+                "too few linear variables"
+            );
+        }
+        for kind in [kinds::REUSABLE, kinds::CIRCUIT] {
+            let uses = self.uses[usize::from(kind)];
+            assert!(uses.iter().all(|&uses| uses >= 1_000), "too few copies");
+        }
+    }
+}
+
+pub fn name_of(term: &Term) -> &'static str {
+    const NAMES: [&str; 11] = [
+        "variable",
+        "label",
+        "abstraction",
+        "application",
+        "pair",
+        "let",
+        "lift",
+        "force",
+        "box",
+        "apply",
+        "gate",
+    ];
+    NAMES[usize::from(term.kind() - kinds::VARIABLE)]
+}

@@ -1,0 +1,271 @@
+//! Well-typed programs at the bounds: one way to nest, as far as it goes.
+
+use crate::terms::{
+    abstraction, application, apply, boxed, force, gate, label, let_in, lift, pair as pair_of,
+    variable,
+};
+use crate::typed::Typed;
+use crate::types::{circuit, function, pair, reusable};
+use program_files::{Program, Term, Type, Wire};
+use std::rc::Rc;
+
+const CNOT: usize = 5;
+
+fn qubit() -> Rc<Type> {
+    Wire::Qubit.as_type()
+}
+
+/// The type of gate 0.
+fn one_qubit() -> Rc<Type> {
+    circuit(qubit(), qubit())
+}
+
+/// Each level around the one before, from the innermost.
+fn levels(count: usize, inside: Rc<Term>, level: impl Fn(Rc<Term>, usize) -> Rc<Term>) -> Rc<Term> {
+    (0..count).fold(inside, level)
+}
+
+fn typed(labels: usize, term: Rc<Term>, of: Rc<Type>) -> Typed {
+    Typed {
+        program: Program {
+            labels: vec![Wire::Qubit; labels],
+            listed: Vec::new(),
+            term,
+        },
+        of,
+    }
+}
+
+/// Forces and lifts in turn around a gate: as deep as there are entries.
+pub fn forced_lifts(terms: usize) -> Typed {
+    let term = levels((terms - 1) / 2, gate(0), |inside, _| force(lift(inside)));
+    if terms % 2 == 1 {
+        typed(0, term, one_qubit())
+    } else {
+        typed(0, lift(term), reusable(one_qubit()))
+    }
+}
+
+/// Gates applied, one to the result of the other.
+pub fn applies(terms: usize) -> Typed {
+    let term = levels((terms - 1) / 2, label(0), |inside, level| {
+        apply(gate(level % 5), inside)
+    });
+    typed(1, term, qubit())
+}
+
+/// Abstractions applied, one to the result of the other.
+pub fn applications(terms: usize) -> Typed {
+    let term = levels((terms - 1) / 3, label(0), |inside, _| {
+        application(abstraction(qubit(), variable(0)), inside)
+    });
+    typed(1, term, qubit())
+}
+
+/// A gate's two results bound, and taken by the next gate.
+pub fn lets_in_second(terms: usize) -> Typed {
+    let of = pair(qubit(), qubit());
+    let count = terms.saturating_sub(3) / 6;
+    let both = |level: usize| match level {
+        0 => pair_of(label(0), label(1)),
+        _ => pair_of(variable(1), variable(0)),
+    };
+    let term = levels(count, both(count), |inside, level| {
+        let_in(apply(gate(CNOT), both(count - 1 - level)), inside)
+    });
+    typed(2, term, of)
+}
+
+/// A let whose first part is a let, and so on.
+pub fn lets_in_first(terms: usize) -> Typed {
+    let labels = pair_of(label(0), label(1));
+    let term = levels(terms.saturating_sub(3) / 4, labels, |inside, _| {
+        let_in(inside, pair_of(variable(0), variable(1)))
+    });
+    typed(2, term, pair(qubit(), qubit()))
+}
+
+/// A box whose function applies a box, and so on.
+pub fn boxes(terms: usize) -> Typed {
+    let count = terms.saturating_sub(1) / 5;
+    let end = |level: usize| if level == 0 { label(0) } else { variable(0) };
+    let term = levels(count, end(count), |inside, level| {
+        let function = lift(abstraction(qubit(), inside));
+        apply(boxed(qubit(), function), end(count - 1 - level))
+    });
+    typed(1, term, qubit())
+}
+
+/// Gates bound by lets, two at a time; the first of them is the result.
+pub fn binders_of_lets(terms: usize) -> Typed {
+    let count = (terms - 1) / 4;
+    let last = if count == 0 {
+        gate(0)
+    } else {
+        variable(2 * count - 1)
+    };
+    let term = levels(count, last, |inside, _| {
+        let_in(pair_of(gate(0), gate(1)), inside)
+    });
+    typed(0, term, one_qubit())
+}
+
+/// Gates bound by applied abstractions; the first of them is the result.
+pub fn binders_of_applications(terms: usize) -> Typed {
+    let count = (terms - 1) / 3;
+    let last = if count == 0 {
+        gate(0)
+    } else {
+        variable(count - 1)
+    };
+    let term = levels(count, last, |inside, _| {
+        application(abstraction(one_qubit(), inside), gate(0))
+    });
+    typed(0, term, one_qubit())
+}
+
+/// Reusable functions that take one another: each abstraction forces the
+/// variable outside it.
+pub fn functions_of_functions(terms: usize) -> Typed {
+    let of = reusable(function(qubit(), qubit()));
+    let count = terms.saturating_sub(9) / 8;
+    let same = || abstraction(qubit(), variable(0));
+    let last = application(force(variable(0)), label(0));
+    let term = levels(count, last, |inside, _| {
+        let next = lift(abstraction(
+            qubit(),
+            application(force(variable(1)), variable(0)),
+        ));
+        application(abstraction(of.clone(), inside), next)
+    });
+    let term = application(abstraction(of, term), lift(same()));
+    typed(1, term, qubit())
+}
+
+/// Lifts of gates in pairs, with types near the bound at each let.
+pub fn lifts_in_lets(terms: usize) -> Typed {
+    const LIFTS: usize = 252;
+    let lifted = |count: usize| levels(count, gate(0), |inside, _| lift(inside));
+    let count = (terms - 1) / (2 * LIFTS + 4);
+    let left = (terms - 1) % (2 * LIFTS + 4);
+    let mut term = gate(0);
+    if left >= 4 {
+        let pairs = pair_of(lifted((left - 4) / 2), lifted((left - 4).div_ceil(2)));
+        term = let_in(pairs, term);
+    }
+    let term = levels(count, term, |inside, _| {
+        let_in(pair_of(lifted(LIFTS), lifted(LIFTS)), inside)
+    });
+    typed(0, term, one_qubit())
+}
+
+/// All 64 labels through gates, in one tuple nested to the right.
+pub fn labels(terms: usize) -> Typed {
+    const LABELS: usize = 64;
+    let gates = terms.saturating_sub(2 * LABELS - 1) / 2;
+    let wire = |number: usize| {
+        let count = gates / LABELS + usize::from(number < gates % LABELS);
+        levels(count, label(number), |inside, _| apply(gate(0), inside))
+    };
+    let mut term = wire(LABELS - 1);
+    let mut of = qubit();
+    for number in (0..LABELS - 1).rev() {
+        term = pair_of(wire(number), term);
+        of = pair(qubit(), of);
+    }
+    typed(LABELS, term, of)
+}
+
+/// All of them with about so many entries, and their names.
+pub fn all(terms: usize) -> Vec<(&'static str, Typed)> {
+    vec![
+        ("forced lifts", forced_lifts(terms)),
+        ("gates applied to gates", applies(terms)),
+        ("abstractions applied", applications(terms)),
+        ("lets inside lets' second parts", lets_in_second(terms)),
+        ("lets inside lets' first parts", lets_in_first(terms)),
+        ("boxes inside boxes", boxes(terms)),
+        ("binders of lets", binders_of_lets(terms)),
+        ("binders of applications", binders_of_applications(terms)),
+        (
+            "functions that take functions",
+            functions_of_functions(terms),
+        ),
+        ("lifts in lets", lifts_in_lets(terms)),
+        ("64 labels", labels(terms)),
+    ]
+}
+
+/// Those that a type of 512 entries bounds.
+pub fn at_the_type_bound() -> Vec<(&'static str, Typed)> {
+    let over = reusable(Wire::Bit.as_type());
+    let lifts = |count: usize| {
+        typed(
+            0,
+            levels(count, gate(0), |inside, _| lift(inside)),
+            around(count, one_qubit(), reusable),
+        )
+    };
+    let pairs_left = |count: usize| {
+        typed(
+            0,
+            levels(count, gate(0), |inside, _| pair_of(inside, gate(1))),
+            around(count, one_qubit(), |of| pair(of, one_qubit())),
+        )
+    };
+    let pairs_right = |count: usize| {
+        typed(
+            0,
+            levels(count, gate(0), |inside, _| pair_of(gate(1), inside)),
+            around(count, one_qubit(), |of| pair(one_qubit(), of)),
+        )
+    };
+    let abstractions = |count: usize| {
+        typed(
+            0,
+            levels(count, gate(0), |inside, _| {
+                abstraction(over.clone(), inside)
+            }),
+            around(count, one_qubit(), |of| function(over.clone(), of)),
+        )
+    };
+    let curried = levels(127, gate(0), |inside, _| abstraction(one_qubit(), inside));
+    let called = levels(127, curried, |inside, _| application(inside, gate(1)));
+    let deep = around(507, Wire::Bit.as_type(), reusable);
+    let deep_over = abstraction(deep.clone(), gate(0));
+    vec![
+        ("lifts", lifts(509)),
+        ("pairs to the left", pairs_left(127)),
+        ("pairs to the right", pairs_right(127)),
+        ("abstractions", abstractions(169)),
+        ("applications to the left", typed(0, called, one_qubit())),
+        (
+            "a deep variable",
+            typed(0, deep_over, function(deep, one_qubit())),
+        ),
+        ("lifts as an argument", as_argument(lifts(504))),
+        (
+            "pairs to the left as an argument",
+            as_argument(pairs_left(126)),
+        ),
+        (
+            "pairs to the right as an argument",
+            as_argument(pairs_right(126)),
+        ),
+        (
+            "abstractions as an argument",
+            as_argument(abstractions(168)),
+        ),
+    ]
+}
+
+fn around(count: usize, of: Rc<Type>, level: impl Fn(Rc<Type>) -> Rc<Type>) -> Rc<Type> {
+    (0..count).fold(of, |of, _| level(of))
+}
+
+/// The lifted program is the argument of an abstraction that drops it.
+fn as_argument(argument: Typed) -> Typed {
+    let over = reusable(argument.of);
+    let term = application(abstraction(over, gate(0)), lift(argument.program.term));
+    typed(0, term, one_qubit())
+}
