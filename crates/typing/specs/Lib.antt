@@ -17,4 +17,5 @@ pub mod Deciding
 pub mod Whole
 pub mod Safe
 pub mod Packed
+pub mod Examples
 pub mod Theorems
