@@ -1,0 +1,119 @@
+-- `walking::return_value` meets its contract: by the tag of the row on top. Assumes nothing.
+use native.Mathlib.Omega.{arith}
+use mathlib.Core.Path.{refl}
+use lib.ListN.{length}
+use Rattle.walking.specs.Nodes.{nodesIn}
+use Rattle.walking.specs.Rows.{rowsIn}
+use Rattle.walking.specs.Functions.{returns-to, end-turns, only-turns, exit-turns}
+use Rattle.walking.proofs.return_value.Statement.{statement}
+use Rattle.walking.proofs.return_value.Tie as tie
+
+returns : tie.Need-returns
+returns c =
+    let a = c .before .before .before .args in
+    (end-turns (nodesIn (a .nodes .now)) (rowsIn (a .stack .now)) (a .place) (c .before .before .before .pre) (c .if1 .taken), tt)
+
+sub-row-tag : tie.Need-sub-row-tag
+sub-row-tag c = omega arith
+
+row-tag-requires : tie.Need-row-tag-requires
+row-tag-requires c κs = tt
+
+sub-row-node : tie.Need-sub-row-node
+sub-row-node c = omega arith
+
+row-node-requires : tie.Need-row-node-requires
+row-node-requires c κs = tt
+
+kind-at-requires : tie.Need-kind-at-requires
+kind-at-requires c κs = tt
+
+stop-one-requires : tie.Need-stop-one-requires
+stop-one-requires c κs = tt
+
+same-length : tie.Need-same-length
+same-length c = refl
+
+returns-2 : tie.Need-returns-2
+returns-2 c =
+    let a = c .before .before .before .before .before .before .before .before .before .before .args in
+    let e = returns-to (rowsIn (a .stack .now)) (a .place) (c .before .before .before .before .before .row-tag .result) 0 (c .before .before .before .row-node .result) (c .before .before .before .before .before .before .before .before .before .before .pre) (c .before .before .before .before .before .before .before .if1 .left)
+    (c .before .before .before .before .before .row-tag .ensures .0)
+    (c .before .if2 .taken)
+    (c .before .before .before .row-node .ensures .0) in
+    let turns = only-turns (rowsIn (a .stack .now)) (a .place) (c .before .before .before .row-node .result) (c .before .before .kind-at .result) (c .stop-one .result) e
+    (c .stop-one .ensures) in
+    (turns (nodesIn (a .nodes .now)) (c .before .before .kind-at .ensures .0), tt)
+
+return-first-requires : tie.Need-return-first-requires
+return-first-requires c κs =
+    let a = c .before .before .before .before .before .before .before .before .before .before .before .args in
+    returns-to (rowsIn (a .stack .now)) (a .place) (c .before .before .before .before .before .before .row-tag .result) 1 (c .before .before .before .before .row-node .result) (c .before .before .before .before .before .before .before .before .before .before .before .pre) (c .before .before .before .before .before .before .before .before .if1 .left)
+    (c .before .before .before .before .before .before .row-tag .ensures .0)
+    (c .before .if3 .taken)
+    (c .before .before .before .before .row-node .ensures .0)
+
+same-length-2 : tie.Need-same-length-2
+same-length-2 c = c .before .before .return-first .kept .0
+
+returns-3 : tie.Need-returns-3
+returns-3 c =
+    let ns = nodesIn (c .before .before .before .before .before .before .before .before .before .before .before .before .before .before .args .nodes .now) in
+    let r = c .before .before .return-first .ensures in
+    (r .0 ns (c .before .before .before .before .before .before .kind-at .ensures .0), r .1 (length ns))
+
+return-second-requires : tie.Need-return-second-requires
+return-second-requires c κs = (c .before .before .before .before .before .before .before .before .before .before .before .pre, omega (arith, c .before .before .before .before .before .before .before .before .if1 .left))
+
+same-length-3 : tie.Need-same-length-3
+same-length-3 c = refl
+
+returns-4 : tie.Need-returns-4
+returns-4 c =
+    let a = c .before .before .before .before .before .before .before .before .before .before .before .before .args in
+    let ns = nodesIn (a .nodes .now) in
+    let r = c .return-second .ensures in
+    let e = returns-to (rowsIn (a .stack .now)) (a .place) (c .before .before .before .before .before .before .before .row-tag .result) 2 (c .before .before .before .before .before .row-node .result) (c .before .before .before .before .before .before .before .before .before .before .before .before .pre) (c .before .before .before .before .before .before .before .before .before .if1 .left)
+    (c .before .before .before .before .before .before .before .row-tag .ensures .0)
+    (c .before .if4 .taken)
+    (c .before .before .before .before .before .row-node .ensures .0) in
+    (r .0 (rowsIn (a .stack .now)) (c .before .before .before .before .before .row-node .result) e ns (c .before .before .before .before .kind-at .ensures .0), r .1 (length ns))
+
+same-length-4 : tie.Need-same-length-4
+same-length-4 c = refl
+
+returns-5 : tie.Need-returns-5
+returns-5 c =
+    let a = c .before .before .before .before .before .before .before .before .before .before .before .args in
+    let tag = c .before .before .before .before .before .before .row-tag .result in
+    let e = returns-to (rowsIn (a .stack .now)) (a .place) (c .before .before .before .before .before .before .row-tag .result) tag (c .before .before .before .before .row-node .result) (c .before .before .before .before .before .before .before .before .before .before .before .pre) (c .before .before .before .before .before .before .before .before .if1 .left)
+    (c .before .before .before .before .before .before .row-tag .ensures .0)
+    refl
+    (c .before .before .before .before .row-node .ensures .0) in
+    let turns = exit-turns (rowsIn (a .stack .now)) (a .place) (c .before .before .before .before .row-node .result) (c .before .before .before .kind-at .result) tag e
+    (c .before .before .if2 .left)
+    (c .before .if3 .left)
+    (c .if4 .left) in
+    (turns (nodesIn (a .nodes .now)) (c .before .before .before .kind-at .ensures .0), tt)
+
+pub return-value-spec : {M : Type 1} → statement M
+return-value-spec =
+    tie.close
+    (tie.spec
+    returns
+    sub-row-tag
+    row-tag-requires
+    sub-row-node
+    row-node-requires
+    kind-at-requires
+    stop-one-requires
+    same-length
+    returns-2
+    return-first-requires
+    same-length-2
+    returns-3
+    return-second-requires
+    same-length-3
+    returns-4
+    same-length-4
+    returns-5)

@@ -1,0 +1,159 @@
+-- What is to be done with a tree, by the kind of its first node.
+use Prim.Native.Nat.{ℕ}
+use mathlib.Core.Path.{_≡_, refl, sym, subst}
+use mathlib.Core.Bool.{Bool, true, false, cond}
+use mathlib.Core.List.{List, _∷_}
+use lib.Dec.{eqb}
+use borrow.Author.Tests.{eqb-true, eqb-false, ne-eqb}
+use Rattle.evaluation.specs.Trees.{Node, node, kind, Tree, leaf, one, two, leafKind, oneKind, parts, WellKinded}
+use Rattle.evaluation.specs.Holes.{Hole, only, first}
+use Rattle.evaluation.specs.Walks.{evaluating, returning, goes-on, stops, at-variable, turn}
+use Rattle.walking.specs.declared.Head.{Head}
+use Rattle.walking.specs.declared.Head.the-variants.{Value, OnePart, TwoParts, Neither}
+
+-- A label, a gate, a constant, an abstraction and a lift are values; force and box have one part, application, pair, let
+-- and apply two. With a variable there is nothing to do.
+unfoldable pub headOf : ℕ → Head
+headOf k =
+    cond (eqb k 17) Value
+    (cond (eqb k 18) Value
+    (cond (eqb k 19) TwoParts
+    (cond (eqb k 20) TwoParts
+    (cond (eqb k 21) TwoParts
+    (cond (eqb k 22) Value
+    (cond (eqb k 23) OnePart
+    (cond (eqb k 24) OnePart (cond (eqb k 25) TwoParts (cond (eqb k 26) Value (cond (eqb k 32) Value Neither))))))))))
+
+-- The kinds, each with its number of parts.
+pub data KindIs : ℕ → ℕ → Type 0 where
+  kind-variable : KindIs 16 0
+  kind-label : KindIs 17 0
+  kind-gate : KindIs 26 0
+  kind-constant : KindIs 32 0
+  kind-abstraction : KindIs 18 1
+  kind-lift : KindIs 22 1
+  kind-force : KindIs 23 1
+  kind-box : KindIs 24 1
+  kind-application : KindIs 19 2
+  kind-pair : KindIs 20 2
+  kind-let : KindIs 21 2
+  kind-apply : KindIs 25 2
+  no-kind : {k : ℕ} → KindIs k 3
+
+-- No parts follow a number that is no kind: 3 stands for that.
+pub parts-none : (k : ℕ)
+    → (k ≡ 16 → ⊥) → (k ≡ 17 → ⊥) → (k ≡ 26 → ⊥) → (k ≡ 32 → ⊥) → (k ≡ 18 → ⊥) → (k ≡ 22 → ⊥) → (k ≡ 23 → ⊥)
+    → (k ≡ 24 → ⊥) → (k ≡ 19 → ⊥) → (k ≡ 20 → ⊥) → (k ≡ 21 → ⊥) → (k ≡ 25 → ⊥)
+    → parts k ≡ 3
+unfolding parts
+parts-none k h16 h17 h26 h32 h18 h22 h23 h24 h19 h20 h21 h25 =
+    simp (
+      parts,
+      ne-eqb k 16 h16,
+      ne-eqb k 17 h17,
+      ne-eqb k 26 h26,
+      ne-eqb k 32 h32,
+      ne-eqb k 18 h18,
+      ne-eqb k 22 h22,
+      ne-eqb k 23 h23,
+      ne-eqb k 24 h24,
+      ne-eqb k 19 h19,
+      ne-eqb k 20 h20,
+      ne-eqb k 21 h21,
+      ne-eqb k 25 h25,
+    )
+
+-- What holds of a number holds of k, if k is that number; otherwise it is shown of k.
+try : (P : ℕ → Type 0) (k m : ℕ) → P m → ((k ≡ m → ⊥) → P k) → P k
+try P k m p f = go (eqb k m) refl
+  where
+    go : (b : Bool) → eqb k m ≡ b → P k
+    go true e = subst P (sym (eqb-true k m e)) p
+    go false e = f (eqb-false k m e)
+
+pub kind-view : (k : ℕ) → KindIs k (parts k)
+unfolding parts
+kind-view k =
+    let P : ℕ → Type 0 = λ j. KindIs j (parts j) in
+    try P k 16 kind-variable λ h16.
+    try P k 17 kind-label λ h17.
+    try P k 26 kind-gate λ h26.
+    try P k 32 kind-constant λ h32.
+    try P k 18 kind-abstraction λ h18.
+    try P k 22 kind-lift λ h22.
+    try P k 23 kind-force λ h23.
+    try P k 24 kind-box λ h24.
+    try P k 19 kind-application λ h19.
+    try P k 20 kind-pair λ h20.
+    try P k 21 kind-let λ h21.
+    try P k 25 kind-apply λ h25.
+    subst (KindIs k) (sym (parts-none k h16 h17 h26 h32 h18 h22 h23 h24 h19 h20 h21 h25)) no-kind
+
+-- There is nothing to do with a number that is none of these.
+pub head-neither : (k : ℕ)
+    → (k ≡ 17 → ⊥) → (k ≡ 18 → ⊥) → (k ≡ 19 → ⊥) → (k ≡ 20 → ⊥) → (k ≡ 21 → ⊥) → (k ≡ 22 → ⊥) → (k ≡ 23 → ⊥)
+    → (k ≡ 24 → ⊥) → (k ≡ 25 → ⊥) → (k ≡ 26 → ⊥) → (k ≡ 32 → ⊥)
+    → headOf k ≡ Neither
+unfolding headOf
+head-neither k h17 h18 h19 h20 h21 h22 h23 h24 h25 h26 h32 =
+    simp (
+      headOf,
+      ne-eqb k 17 h17,
+      ne-eqb k 18 h18,
+      ne-eqb k 19 h19,
+      ne-eqb k 20 h20,
+      ne-eqb k 21 h21,
+      ne-eqb k 22 h22,
+      ne-eqb k 23 h23,
+      ne-eqb k 24 h24,
+      ne-eqb k 25 h25,
+      ne-eqb k 26 h26,
+      ne-eqb k 32 h32,
+    )
+
+-- The turn at a tree, by what is to be done with it.
+pub data Headed (positions closed : ℕ) (hs : List Hole) : Head → Tree → Type 0 where
+  head-value : {t : Tree} → WellKinded positions closed t
+      → turn (evaluating t hs) ≡ goes-on (returning t hs) → Headed positions closed hs Value t
+  head-one : {n : Node} {t : Tree}
+      → turn (evaluating (one n t) hs) ≡ goes-on (evaluating t (only n ∷ hs))
+      → Headed positions closed hs OnePart (one n t)
+  head-two : {n : Node} {t u : Tree} → Headed positions closed hs TwoParts (two n t u)
+  head-neither-one : {t : Tree} → turn (evaluating t hs) ≡ stops at-variable → Headed positions closed hs Neither t
+
+-- The first node of a tree.
+abbrev pub rootOf : Tree → Node
+rootOf (leaf n) = n
+rootOf (one n t) = n
+rootOf (two n t u) = n
+
+module _ (positions closed : ℕ) (hs : List Hole) where
+  leaf-headed : {k : ℕ} (a : ℕ) → KindIs k 0 → WellKinded positions closed (leaf (node k a))
+      → Headed positions closed hs (headOf k) (leaf (node k a))
+  unfolding headOf leafKind
+  leaf-headed a kind-variable h = head-neither-one refl
+  leaf-headed a kind-label h = head-value h refl
+  leaf-headed a kind-gate h = head-value h refl
+  leaf-headed a kind-constant h = head-value h refl
+
+  one-headed : {k : ℕ} (a : ℕ) (t : Tree) → KindIs k 1 → WellKinded positions closed (one (node k a) t)
+      → Headed positions closed hs (headOf k) (one (node k a) t)
+  unfolding headOf oneKind
+  one-headed a t kind-abstraction h = head-value h refl
+  one-headed a t kind-lift h = head-value h refl
+  one-headed a t kind-force h = head-one refl
+  one-headed a t kind-box h = head-one refl
+
+  two-headed : {k : ℕ} (a : ℕ) (t u : Tree) → KindIs k 2 → Headed positions closed hs (headOf k) (two (node k a) t u)
+  unfolding headOf
+  two-headed a t u kind-application = head-two
+  two-headed a t u kind-pair = head-two
+  two-headed a t u kind-let = head-two
+  two-headed a t u kind-apply = head-two
+
+  pub headed : (t : Tree)
+      → WellKinded positions closed t
+      → Headed positions closed hs (headOf (kind (rootOf t))) t
+  headed (leaf (node k a)) h = leaf-headed a (subst (KindIs k) (h .0) (kind-view k)) h
+  headed (one (node k a) t) h = one-headed a t (subst (KindIs k) (h .0 .0) (kind-view k)) h
+  headed (two (node k a) t u) h = two-headed a t u (subst (KindIs k) (h .0) (kind-view k))

@@ -1,0 +1,11 @@
+pub mod Nodes
+pub mod Regions
+pub mod Rows
+pub mod Spans
+pub mod Copies
+pub mod Places
+pub mod Heads
+pub mod Laws
+pub mod Turning
+pub mod Functions
+pub mod Redexes

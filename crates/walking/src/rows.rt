@@ -1,0 +1,65 @@
+// Rows of the stack in a lent buffer: four words a row, its tag, the place of a node, the place where something starts,
+// and one that is not used.
+ghost use Prim.Native.Nat.{_+_, _*_, _%_, _<_};
+ghost use mathlib.Core.Path.{_≡_};
+ghost use lib.ListN.{set};
+ghost use Rattle.memory.specs.Words.{words};
+ghost use Rattle.walking.specs.Rows.{row, rowTag, rowNode, rowStart, rowsIn, rowAt};
+
+// The tags: a node of one part, one of two parts whose first is evaluated, one whose second is, and an open box.
+pub const ONLY: usize = 0;
+
+pub const FIRST: usize = 1;
+
+pub const SECOND: usize = 2;
+
+pub const OPENED: usize = 3;
+
+// The tag of row i; 0 past the end.
+pub fn row_tag(stack: &[u8], i: usize) -> usize
+    ensures { λ r. ⌜ r ≡ rowTag (rowAt (rowsIn (now (stack .entry))) i) ⌝ }
+    ensures { λ r. ⌜ r < 65536 ⌝ }
+{
+    let n = stack.len() / 8;
+    if n <= i {
+        return 0;
+    }
+    memory::get(stack, 4 * i)
+}
+
+// The place of the node of row i; 0 past the end.
+pub fn row_node(stack: &[u8], i: usize) -> usize
+    ensures { λ r. ⌜ r ≡ rowNode (rowAt (rowsIn (now (stack .entry))) i) ⌝ }
+    ensures { λ r. ⌜ r < 65536 ⌝ }
+{
+    let n = stack.len() / 8;
+    if n <= i {
+        return 0;
+    }
+    memory::get(stack, 4 * i + 1)
+}
+
+// The place where the second part of the node of row i starts, or the frame above its open box; 0 past the end.
+pub fn row_start(stack: &[u8], i: usize) -> usize
+    ensures { λ r. ⌜ r ≡ rowStart (rowAt (rowsIn (now (stack .entry))) i) ⌝ }
+    ensures { λ r. ⌜ r < 65536 ⌝ }
+{
+    let n = stack.len() / 8;
+    if n <= i {
+        return 0;
+    }
+    memory::get(stack, 4 * i + 2)
+}
+
+// Row i becomes this one; past the end nothing changes.
+pub fn put_row(stack: &mut [u8], i: usize, tag: usize, node: usize, start: usize)
+    ensures { λ r. ⌜ rowsIn (now (stack .exit)) ≡ set (rowsIn (now (stack .entry))) i (row (tag % 65536) (node % 65536) (start % 65536)) ⌝ }
+{
+    let n = stack.len() / 8;
+    if n <= i {
+        return;
+    }
+    memory::put(stack, 4 * i, tag);
+    memory::put(stack, 4 * i + 1, node);
+    memory::put(stack, 4 * i + 2, start);
+}
