@@ -2,8 +2,8 @@
 //! reader and a check in Rust, by derivations and by counting on trees, and
 //! against programs of half the size.
 
+use check_compare::counting::{self, Wrong};
 use check_compare::library::{self, LEAST_OUT, LEAST_WORK};
-use check_compare::planted::{self, Wrong};
 use program_files::{encode, read, Positions, Random};
 use programs::extremes;
 use programs::rules::{derive, Rules, Sharing};
@@ -89,7 +89,7 @@ fn derived(file: &[u8]) -> f64 {
 fn counted(file: &[u8]) -> f64 {
     best(|| {
         let read = read(file).expect("a file that is read");
-        let answer = planted::check(Wrong::Nothing, &read);
+        let answer = counting::check(Wrong::Nothing, &read);
         assert!(answer.is_ok(), "accepted");
     })
 }

@@ -2,9 +2,9 @@
 
 use crate::memory::MEMORY;
 use crate::seen::{name_of, Seen};
+use check_compare::counting::{self, Wrong, PLANTED};
 use check_compare::lent::{exported, Check, Lent};
 use check_compare::library::{LEAST_OUT, LEAST_WORK};
-use check_compare::planted::{self, Wrong, PLANTED};
 use program_files::{read, Accepted, Random, Term, Type};
 use programs::check::{agree, check_read, Answer};
 use programs::rules::{verdict, Sharing};
@@ -181,13 +181,13 @@ impl Comparison {
     /// The check that counts, with a fault and without, and the derivations
     /// with every way to share.
     fn other_checks(&mut self, file: &[u8], read: &Accepted, answer: &Answer) {
-        let counted = planted::check(Wrong::Nothing, read);
+        let counted = counting::check(Wrong::Nothing, read);
         if counted != *answer {
             self.differs(file, &format!("counted {counted:?}, expected {answer:?}"));
         }
         let planted = self.planted.iter_mut().filter(|_| self.generated);
         for planted in planted.filter(|planted| planted.found.len() < LEAST_FOUND) {
-            if planted::check(planted.fault, read) != *answer {
+            if counting::check(planted.fault, read) != *answer {
                 planted.found.push(self.programs);
             }
         }

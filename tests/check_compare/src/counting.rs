@@ -1,5 +1,5 @@
-//! A third check, which counts uses in one pass, with one fault each. The
-//! comparison must tell every one of them from the exported check.
+//! A check that counts uses in one pass, and the same check with one fault.
+//! The comparison must tell every fault from the exported check.
 
 use program_files::{Accepted, Refusal, Term, Type, Wire, GATES};
 use std::rc::Rc;

@@ -1,0 +1,180 @@
+-- Where the nodes stand that a node becomes.
+use Prim.Native.Nat.{ℕ, zero, suc, _+_, _-_, _≤_, _<_}
+use native.Mathlib.Omega.{arith}
+use mathlib.Core.Path.{_≡_, refl, sym, _∙_, ap}
+use mathlib.Core.Bool.{Bool, true, false, cond}
+use mathlib.Core.List.{List, [], _∷_}
+use lib.Dec.{eqb, ltb}
+use lib.ListN.{length, take, drop, length-take, length-drop}
+use lib.Seq.{drop-cons}
+use borrow.Author.Tests.{ltb-true, ltb-false, eq-eqb, ne-eqb, lt-ltb, le-ltb}
+use Rattle.evaluation.specs.Trees.{Node, node, kind, argument}
+use Rattle.walking.specs.Nodes.{nodeAt, no-node}
+use Rattle.substitution.specs.declared.Region.{Region}
+use Rattle.substitution.specs.declared.Values.{Values}
+use Rattle.substitution.specs.Substituted.{valueAt, variableNodes, pieceFor, nodesOfRegion, nodesOfValues}
+
+-- The one node at a place.
+abbrev pub nodeRegion : ℕ → Region
+nodeRegion place = record { start = place; length = 1 }
+
+-- The value of free variable a, counted from the first; where there is none, the variable stays, at its place.
+abbrev pub valueRegion : Values → ℕ → ℕ → Region
+valueRegion values zero place = values .first
+valueRegion values (suc zero) place = cond (values .two) (values .second) (nodeRegion place)
+valueRegion values (suc (suc a)) place = nodeRegion place
+
+-- What variable a becomes under b binders.
+unfoldable pub variableRegion : Values → ℕ → ℕ → ℕ → Region
+variableRegion values b a place = cond (ltb a b) (nodeRegion place) (valueRegion values (a - b) place)
+
+-- What a node n, which stands at a place under b binders, becomes: itself or a value.
+unfoldable pub pieceRegion : Values → ℕ → Node → ℕ → Region
+pieceRegion values b n place = cond (eqb (kind n) 16) (variableRegion values b (argument n) place) (nodeRegion place)
+
+variable-bound : (b : ℕ) (vs : List (List Node)) (a : ℕ) (own : List Node) → a < b → variableNodes b vs a own ≡ own
+variable-bound zero vs a own h = absurd (omega arith)
+variable-bound (suc b) vs zero own h = refl
+variable-bound (suc b) vs (suc a) own h = variable-bound b vs a own (omega arith)
+
+variable-free : (b : ℕ) (vs : List (List Node)) (a : ℕ) (own : List Node)
+    → b ≤ a
+    → variableNodes b vs a own ≡ valueAt vs (a - b) own
+variable-free zero vs a own h = let e : a - 0 ≡ a = omega arith in rw e
+variable-free (suc b) vs zero own h = absurd (omega arith)
+variable-free (suc b) vs (suc a) own h =
+    let e : suc a - suc b ≡ a - b = omega arith in
+    variable-free b vs a own (omega arith) ∙ ap (λ j. valueAt vs j own) (sym e)
+
+module _ (ns : List Node) (place : ℕ) (inside : place < length ns) where
+  node-alone : nodesOfRegion ns (nodeRegion place) ≡ nodeAt ns place ∷ []
+  node-alone = ap (take 1) (drop-cons ns place no-node inside)
+
+  second-nodes : (values : Values) (two : Bool)
+      → nodesOfRegion ns (cond two (values .second) (nodeRegion place))
+      ≡ valueAt (cond two (nodesOfRegion ns (values .second) ∷ []) []) 0 (nodeAt ns place ∷ [])
+  second-nodes values true = refl
+  second-nodes values false = node-alone
+
+  past-values : (x : List Node) (two : Bool) (a : ℕ) (own : List Node) → valueAt (cond two (x ∷ []) []) (suc a) own ≡ own
+  past-values x true a own = refl
+  past-values x false a own = refl
+
+  value-region : (values : Values) (a : ℕ)
+      → nodesOfRegion ns (valueRegion values a place) ≡ valueAt (nodesOfValues ns values) a (nodeAt ns place ∷ [])
+  value-region values zero = refl
+  value-region values (suc zero) = second-nodes values (values .two)
+  value-region values (suc (suc a)) =
+      node-alone ∙ sym (past-values (nodesOfRegion ns (values .second)) (values .two) a (nodeAt ns place ∷ []))
+
+  variable-region : (values : Values) (b a : ℕ) (below : Bool)
+      → ltb a b ≡ below
+      → nodesOfRegion ns (cond below (nodeRegion place) (valueRegion values (a - b) place))
+      ≡ variableNodes b (nodesOfValues ns values) a (nodeAt ns place ∷ [])
+  variable-region values b a true e =
+      node-alone ∙ sym (variable-bound b (nodesOfValues ns values) a (nodeAt ns place ∷ []) (ltb-true a b e))
+  variable-region values b a false e =
+      value-region values (a - b)
+      ∙ sym (variable-free b (nodesOfValues ns values) a (nodeAt ns place ∷ []) (ltb-false a b e))
+
+  piece-by : (values : Values) (b : ℕ) (variable : Bool)
+      → nodesOfRegion ns (cond variable (variableRegion values b (argument (nodeAt ns place)) place) (nodeRegion place))
+      ≡ cond variable
+      (variableNodes b (nodesOfValues ns values) (argument (nodeAt ns place)) (nodeAt ns place ∷ []))
+      (nodeAt ns place ∷ [])
+  unfolding variableRegion
+  piece-by values b true =
+      variable-region values b (argument (nodeAt ns place)) (ltb (argument (nodeAt ns place)) b) refl
+  piece-by values b false = node-alone
+
+  -- Its nodes are those that the node becomes.
+  pub piece-nodes : (values : Values) (b : ℕ)
+      → nodesOfRegion ns (pieceRegion values b (nodeAt ns place) place)
+      ≡ pieceFor (nodesOfValues ns values) b (nodeAt ns place)
+  unfolding pieceFor pieceRegion
+  piece-nodes values b = piece-by values b (eqb (kind (nodeAt ns place)) 16)
+
+-- A region that ends at a place or before it.
+abbrev pub EndsBy : ℕ → Region → Type 0
+EndsBy limit r = r .start + r .length ≤ limit
+
+module _ (limit : ℕ) (values : Values) (place : ℕ) where
+  value-ends : EndsBy limit (values .first) → EndsBy limit (values .second) → place < limit → (a : ℕ)
+      → EndsBy limit (valueRegion values a place)
+  value-ends h h′ p zero = h
+  value-ends h h′ p (suc zero) = second-ends (values .two)
+    where
+      second-ends : (two : Bool) → EndsBy limit (cond two (values .second) (nodeRegion place))
+      second-ends true = h′
+      second-ends false = omega arith
+  value-ends h h′ p (suc (suc a)) = omega arith
+
+  -- What a node becomes stands where the node and the values do.
+  pub piece-ends : EndsBy limit (values .first) → EndsBy limit (values .second) → place < limit → (b : ℕ) (n : Node)
+      → EndsBy limit (pieceRegion values b n place)
+  unfolding pieceRegion variableRegion
+  piece-ends h h′ p b n = by-kind (eqb (kind n) 16) (ltb (argument n) b)
+    where
+      by-kind : (x y : Bool)
+          → EndsBy limit
+          (cond x (cond y (nodeRegion place) (valueRegion values (argument n - b) place)) (nodeRegion place))
+      by-kind true true = omega arith
+      by-kind true false = value-ends h h′ p (argument n - b)
+      by-kind false y = omega arith
+
+-- A region inside the nodes has as many of them as it says.
+pub length-region : (ns : List Node) (r : Region)
+    → r .start + r .length ≤ length ns
+    → length (nodesOfRegion ns r) ≡ r .length
+length-region ns r h = omega (arith, length-take (r .length) (drop (r .start) ns), length-drop (r .start) ns)
+
+-- What each test of the code leads to: a node that is no variable stays.
+module _ (values : Values) (k a b place : ℕ) where
+  pub piece-other : (k ≡ 16 → ⊥) → nodeRegion place ≡ pieceRegion values b (node k a) place
+  unfolding pieceRegion
+  piece-other h = ap (λ x. cond x (variableRegion values b a place) (nodeRegion place)) (sym (ne-eqb k 16 h))
+
+  piece-variable : k ≡ 16 → variableRegion values b a place ≡ pieceRegion values b (node k a) place
+  unfolding pieceRegion
+  piece-variable h = ap (λ x. cond x (variableRegion values b a place) (nodeRegion place)) (sym (eq-eqb k 16 h))
+
+  -- A bound variable stays.
+  pub piece-bound : k ≡ 16 → a < b → nodeRegion place ≡ pieceRegion values b (node k a) place
+  unfolding variableRegion
+  piece-bound h h′ =
+      ap (λ x. cond x (nodeRegion place) (valueRegion values (a - b) place)) (sym (lt-ltb a b h′)) ∙ piece-variable h
+
+  -- A free variable, by its distance to the binders.
+  pub piece-free : k ≡ 16 → b ≤ a → (index : ℕ) → index ≡ a - b
+      → valueRegion values index place ≡ pieceRegion values b (node k a) place
+  unfolding variableRegion
+  piece-free h h′ index e =
+      ap (λ j. valueRegion values j place) e
+      ∙ ap (λ x. cond x (nodeRegion place) (valueRegion values (a - b) place)) (sym (le-ltb a b h′))
+      ∙ piece-variable h
+
+  -- It stays, if it is neither of the first two.
+  pub past-both : (index : ℕ) → 1 < index → nodeRegion place ≡ valueRegion values index place
+  past-both zero h = absurd (omega arith)
+  past-both (suc zero) h = absurd (omega arith)
+  past-both (suc (suc index)) h = refl
+
+  -- Variable 0 becomes the first value.
+  pub is-first : (index : ℕ) → index ≡ 0 → values .first ≡ valueRegion values index place
+  is-first index e = ap (λ j. valueRegion values j place) (sym e)
+
+  second-by : (index : ℕ) → (index ≡ 0 → ⊥) → index ≤ 1
+      → cond (values .two) (values .second) (nodeRegion place) ≡ valueRegion values index place
+  second-by zero h h′ = absurd (h refl)
+  second-by (suc zero) h h′ = refl
+  second-by (suc (suc index)) h h′ = absurd (omega arith)
+
+  -- Variable 1 becomes the second, if there are two.
+  pub is-second : (index : ℕ) → (index ≡ 0 → ⊥) → index ≤ 1 → values .two ≡ true
+      → values .second ≡ valueRegion values index place
+  is-second index h h′ e = ap (λ x. cond x (values .second) (nodeRegion place)) (sym e) ∙ second-by index h h′
+
+  -- And stays, if there is one.
+  pub no-second : (index : ℕ) → (index ≡ 0 → ⊥) → index ≤ 1 → values .two ≡ false
+      → nodeRegion place ≡ valueRegion values index place
+  no-second index h h′ e = ap (λ x. cond x (values .second) (nodeRegion place)) (sym e) ∙ second-by index h h′

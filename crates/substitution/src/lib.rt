@@ -1,0 +1,214 @@
+// From the body of an abstraction or a let to the reduct, in lent memory: in a first pass the size of the reduct is counted,
+// in a second one the reduct is written.
+// Two buffers are lent: the nodes, and words for the parts of the body that are still waited for, each with the number of
+// binders around it. A body of n nodes needs n + 1 words.
+ghost use Prim.Native.Nat.{ℕ, _+_, _^_, _≤_, _<_};
+ghost use mathlib.Core.Path.{_≡_};
+ghost use lib.ListN.{length};
+ghost use Rattle.memory.specs.Words.{words};
+ghost use Rattle.evaluation.specs.Trees.{node};
+ghost use Rattle.walking.specs.Nodes.{nodesIn};
+ghost use Rattle.substitution.specs.Substituted.{waitingAfter, reduct};
+ghost use Rattle.substitution.specs.Waiting.{stackOf, bindersOf};
+ghost use Rattle.substitution.specs.Pieces.{pieceRegion};
+ghost use Rattle.substitution.specs.Reducts.{Ready, NextPiece, sizeWithin, Wrote};
+
+// Some nodes of the buffer: from a place on, so many.
+pub struct Region {
+    pub start: usize,
+    pub length: usize,
+}
+
+// Where the values stand that take the place of the outermost variables: `first` is that of variable 0, `second` that of
+// variable 1, if there are two.
+pub struct Values {
+    pub first: Region,
+    pub second: Region,
+    pub two: bool,
+}
+
+// How many nodes the reduct has, if they are not too many.
+pub enum Size {
+    Nodes(usize),
+    TooMany,
+}
+
+// What a node becomes, and how many parts are waited for behind it.
+struct Next {
+    piece: Region,
+    depth: usize,
+}
+
+// 01's kinds of nodes that substitution has to tell apart.
+const VARIABLE: usize = 16;
+
+const ABSTRACTION: usize = 18;
+
+const LET: usize = 21;
+
+// How many binders a node of a kind puts around its last part.
+fn binders_of(kind: usize) -> usize
+    ensures { λ r. ⌜ r ≡ bindersOf kind ⌝ }
+{
+    if kind == ABSTRACTION {
+        return 1;
+    }
+    if kind == LET {
+        return 2;
+    }
+    0
+}
+
+// The parts of a node of a kind, which stands under so many binders, are waited for: the first one on top.
+fn wait_for_parts(waiting: &mut [u8], depth: usize, kind: usize, binders: usize) -> usize
+    requires { ⌜ (depth < 2 ^ 62) × (binders < 65536) ⌝ }
+    ensures { λ r. ⌜ r ≤ depth + 2 ⌝ }
+    ensures { λ r. ⌜ (depth + 1 < length (words (now (waiting .entry))) → binders + 2 < 65536
+        → stackOf (words (now (waiting .exit))) r ≡ waitingAfter kind binders (stackOf (words (now (waiting .entry))) depth)) ⌝ }
+{
+    let parts = walking::nodes::parts_of(kind);
+    let last = binders + binders_of(kind);
+    if parts == 1 {
+        memory::put(waiting, depth, last);
+        return depth + 1;
+    }
+    if parts == 2 {
+        memory::put(waiting, depth, last);
+        memory::put(waiting, depth + 1, binders);
+        return depth + 2;
+    }
+    depth
+}
+
+// Where the nodes stand that the node at a place becomes: itself, or a value.
+fn piece_for(values: Values, kind: usize, argument: usize, binders: usize, place: usize) -> Region
+    ensures { λ r. ⌜ r ≡ pieceRegion values binders (node kind argument) place ⌝ }
+{
+    let own = Region {
+        start: place,
+        length: 1,
+    };
+    if kind != VARIABLE {
+        return own;
+    }
+    if argument < binders {
+        return own;
+    }
+    let index = argument - binders;
+    if 1 < index {
+        return own;
+    }
+    if index == 0 {
+        let first = values.first;
+        return first;
+    }
+    let two = values.two;
+    if two {
+        let second = values.second;
+        return second;
+    }
+    own
+}
+
+// What the node at a place becomes, which is the first of the parts that are waited for.
+fn next_piece(nodes: &[u8], waiting: &mut [u8], place: usize, depth: usize, values: Values) -> Next
+    requires { ⌜ (0 < depth) × (depth < 2 ^ 62) ⌝ }
+    ensures { λ r. ⌜ NextPiece (nodesIn (now (nodes .entry))) (words (now (waiting .entry))) (words (now (waiting .exit)))
+        values place depth (r .piece) (r .depth) ⌝ }
+{
+    let binders = memory::get(waiting, depth - 1);
+    let kind = walking::nodes::kind_at(nodes, place);
+    let argument = walking::nodes::argument_at(nodes, place);
+    let piece = piece_for(values, kind, argument, binders, place);
+    let depth = wait_for_parts(waiting, depth - 1, kind, binders);
+    Next { piece, depth }
+}
+
+// The size of the reduct of a body, if it is at most so large. The nodes stay.
+pub fn reduct_size(
+    nodes: &[u8],
+    waiting: &mut [u8],
+    source: Region,
+    values: Values,
+    most: usize,
+) -> Size
+    ensures { λ r. ⌜ ((limit : ℕ) → Ready (nodesIn (now (nodes .entry))) (length (words (now (waiting .entry)))) limit source values
+        → r ≡ sizeWithin most (length (reduct (nodesIn (now (nodes .entry))) source values))) ⌝ }
+{
+    let n = nodes.len() / 4;
+    let start = source.start;
+    let count = source.length;
+    if n < start {
+        return Size::TooMany;
+    }
+    if n - start < count {
+        return Size::TooMany;
+    }
+    memory::put(waiting, 0, 0);
+    let mut depth: usize = 1;
+    let mut size: usize = 0;
+    let mut i: usize = 0;
+    while i < count {
+        if depth == 0 {
+            return Size::Nodes(size);
+        }
+        let next = next_piece(nodes, waiting, start + i, depth, values);
+        let piece = next.piece;
+        let more = piece.length;
+        if most - size < more {
+            return Size::TooMany;
+        }
+        size += more;
+        depth = next.depth;
+        i += 1;
+    }
+    Size::Nodes(size)
+}
+
+// The reduct of a body is written from a place on that the body and the values end by; the answer is the place behind it.
+// Nothing else in the buffer changes.
+pub fn write_reduct(
+    nodes: &mut [u8],
+    waiting: &mut [u8],
+    source: Region,
+    values: Values,
+    to: usize,
+) -> usize
+    ensures { λ r. ⌜ (Ready (nodesIn (now (nodes .entry))) (length (words (now (waiting .entry)))) to source values
+        → to + length (reduct (nodesIn (now (nodes .entry))) source values) ≤ length (nodesIn (now (nodes .entry)))
+        → Wrote (nodesIn (now (nodes .entry))) (nodesIn (now (nodes .exit))) source values to r) ⌝ }
+{
+    let n = nodes.len() / 4;
+    let start = source.start;
+    let count = source.length;
+    if n < to {
+        return to;
+    }
+    if to < start {
+        return to;
+    }
+    if to - start < count {
+        return to;
+    }
+    memory::put(waiting, 0, 0);
+    let mut depth: usize = 1;
+    let mut end = to;
+    let mut i: usize = 0;
+    while i < count {
+        if depth == 0 {
+            return end;
+        }
+        let next = next_piece(nodes, waiting, start + i, depth, values);
+        let piece = next.piece;
+        let from = piece.start;
+        let more = piece.length;
+        if n - end < more {
+            return end;
+        }
+        walking::nodes::copy_nodes(nodes, from, end, more);
+        end += more;
+        depth = next.depth;
+        i += 1;
+    }
+    end
+}
