@@ -19,6 +19,7 @@ use Rattle.typing.specs.declared.Inferred.the-variants.{Typed}
 use Rattle.typing.specs.Checking.{Binder, _under_, Checked, typed, fault, checkTerm, usedWrongly, if-so, earlier}
 use Rattle.typing.specs.Checking.{followed, ruled}
 use Rattle.typing.specs.Layout.{slotCell, slotUses, typeCell, counted, coded, variableSlot}
+use Rattle.typing.specs.Layout.{most-binders, most-cells, most-labels}
 use Rattle.typing.specs.Scope.{Environment, Kept, pushed, environment-pushed, kept-pushed}
 use Rattle.typing.specs.Scope.{kept-trans, kept-less, kept-cell, kept-refl, slot-kept, slot-pushed}
 use Rattle.typing.specs.Scope.{uses-pushed, environment-later}
@@ -74,7 +75,7 @@ entered-two of-let f w e binders lifts q = rw q
 entered-two of-apply f w e binders lifts q = rw q
 
 inside-environment : (h : OnePart) {f w : List ℕ} {e cells : ℕ} {L : List Wire} {Γ : List Binder} (binders lifts : ℕ)
-    → binders ≡ length Γ → length Γ < 4096 → cells ≤ 2700 → lifts < 65536
+    → binders ≡ length Γ → length Γ < most-binders → cells ≤ most-cells → lifts < 65536
     → Named f e h
     → Environment f w e cells L Γ
     → Environment f (insideMemory h f w e binders lifts) e cells L (bindersIn h lifts Γ)
@@ -87,13 +88,13 @@ inside-environment of-force binders lifts b fits c l named env = env
 inside-environment (of-box T) binders lifts b fits c l named env = env
 
 inside-kept : (h : OnePart) (f w : List ℕ) (e binders lifts cells : ℕ)
-    → cells ≤ 2700 → Kept w (insideMemory h f w e binders lifts) cells (64 + binders) (λ i. 0)
+    → cells ≤ most-cells → Kept w (insideMemory h f w e binders lifts) cells (most-labels + binders) (λ i. 0)
 unfolding insideMemory
 inside-kept (of-abstraction A) f w e binders lifts cells c =
     kept-pushed w binders (typeCell f (argumentAt f e)) lifts cells c
-inside-kept of-lift f w e binders lifts cells c = kept-refl w cells (64 + binders)
-inside-kept of-force f w e binders lifts cells c = kept-refl w cells (64 + binders)
-inside-kept (of-box T) f w e binders lifts cells c = kept-refl w cells (64 + binders)
+inside-kept of-lift f w e binders lifts cells c = kept-refl w cells (most-labels + binders)
+inside-kept of-force f w e binders lifts cells c = kept-refl w cells (most-labels + binders)
+inside-kept (of-box T) f w e binders lifts cells c = kept-refl w cells (most-labels + binders)
 
 -- So the part is ready.
 module _ {f w : List ℕ} {e binders lifts cells : ℕ} {L : List Wire} {Γ : List Binder} {n : ℕ} (h : OnePart) (M : Term)
@@ -132,10 +133,10 @@ module _ {f w : List ℕ} {e binders lifts cells : ℕ} {L : List Wire} {Γ : Li
 pub rule-ends : {w w₂ w₃ : List ℕ} {cells cells₂ : ℕ} {count : ℕ → ℕ} {e n U W : ℕ} {r : Inferred}
     (Γ : List Binder) (M : Term) (u v : Option ℕ) (o : Option Ty)
     → cells ≤ cells₂
-    → cells₂ < 2700
+    → cells₂ < most-cells
     → cells₂ + 1 ≤ cells + nodes M
-    → Kept w w₂ cells (64 + length Γ) count
-    → ((i : ℕ) → i < 64 + length Γ → count i ≡ counted (length Γ) i M)
+    → Kept w w₂ cells (most-labels + length Γ) count
+    → ((i : ℕ) → i < most-labels + length Γ → count i ≡ counted (length Γ) i M)
     → U ≡ coded u
     → W ≡ coded v
     → Ended w₂ w₃ cells₂ e n o U W r
@@ -158,34 +159,34 @@ rule-ends {w} {w₂} {w₃} {cells} {cells₂} {count} {e} {n} {U} {W} Γ M u v 
       at-most = omega arith;
       denotes = gave .denotes;
       kept =
-          kept-less cells (64 + length Γ) (λ i. counted (length Γ) i M) (omega arith) (omega arith)
+          kept-less cells (most-labels + length Γ) (λ i. counted (length Γ) i M) (omega arith) (omega arith)
           (λ i below. omega (arith, same i below))
-          (kept-trans kept (kept-cell cells₂ (64 + length Γ) few more (gave .agree) (gave .above) (gave .length-kept)));
+          (kept-trans kept (kept-cell cells₂ (most-labels + length Γ) few more (gave .agree) (gave .above) (gave .length-kept)));
     }
 
 -- After the part of an abstraction, the slot of its variable has the type and the uses of the variable.
 module _ {f w w₂ : List ℕ} {e binders lifts cells : ℕ} {L : List Wire} {Γ : List Binder} {M : Term} {n : ℕ} {A T : Ty}
     {u v : Option ℕ} {first : Inferred} (cell : ℕ)
-    (b : binders ≡ length Γ) (few : length Γ < 4096) (c : cells ≤ 2700) (l : lifts < 65536)
+    (b : binders ≡ length Γ) (few : length Γ < most-binders) (c : cells ≤ most-cells) (l : lifts < 65536)
     (env : Environment f w e cells L Γ) (den : Denotes w cells cell T)
     (g : Gets (pushed w binders cell lifts) w₂ cells (T under lifts ∷ Γ) M n A u v first) where
-  abstraction-slot : Denotes w₂ (g .cells′) (slotCell w₂ (64 + binders)) T
+  abstraction-slot : Denotes w₂ (g .cells′) (slotCell w₂ (most-labels + binders)) T
   abstraction-slot =
       slot-kept
       (g .kept .agree)
       (g .at-least)
-      (g .kept .cells-same (64 + binders) (omega arith))
-      (g .kept .lifts-same (64 + binders) (omega arith))
+      (g .kept .cells-same (most-labels + binders) (omega arith))
+      (g .kept .lifts-same (most-labels + binders) (omega arith))
       (slot-pushed w binders cell lifts cells T (env .room) (omega arith) c l den)
       .denotes
 
   abstraction-uses : IsTrue (closedUnder (suc (length Γ)) M) → IsTrue (labelsBelow (length L) M)
-      → slotUses w₂ (64 + binders) ≡ uses 0 M
+      → slotUses w₂ (most-labels + binders) ≡ uses 0 M
   abstraction-uses closed below =
-      let slot : 64 + binders ≡ variableSlot (suc (length Γ)) 0 = omega arith in
+      let slot : most-labels + binders ≡ variableSlot (suc (length Γ)) 0 = omega arith in
       omega (
         arith,
-        g .kept .uses-counted (64 + binders) (omega arith),
+        g .kept .uses-counted (most-labels + binders) (omega arith),
         uses-pushed w binders cell lifts (env .room) (omega arith),
         ap (λ i. counted (suc (length Γ)) i M) slot,
         counted-variable (suc (length Γ)) (length L) 0 M (omega arith) (env .labels-fit) closed below,
@@ -197,19 +198,19 @@ module _ {f w : List ℕ} {e binders lifts cells : ℕ} {L : List Wire} {Γ : Li
     (ready : Ready f w e binders lifts cells L Γ (one h M) n) where
   module _ {w₂ : List ℕ} {A : Ty} {u v : Option ℕ} {first : Inferred}
       (g : Gets (insideMemory h f w e binders lifts) w₂ cells (bindersIn h lifts Γ) M n A u v first) where
-    part-kept : Kept w w₂ cells (64 + length Γ) (λ i. 0 + counted (length (bindersIn h lifts Γ)) i M)
+    part-kept : Kept w w₂ cells (most-labels + length Γ) (λ i. 0 + counted (length (bindersIn h lifts Γ)) i M)
     part-kept =
         let few = one-binders h M lifts Γ in
         let c = ready .cells-fit in
         let b : binders ≡ length Γ = ready .binders-are in
         kept-trans
-        (kept-less cells (64 + length Γ) (λ i. 0) (omega arith) (omega arith) (λ i below. refl)
+        (kept-less cells (most-labels + length Γ) (λ i. 0) (omega arith) (omega arith) (λ i below. refl)
         (inside-kept h f w e binders lifts cells (omega arith)))
-        (kept-less cells (64 + length Γ) (λ i. counted (length (bindersIn h lifts Γ)) i M) (omega arith) (omega arith)
+        (kept-less cells (most-labels + length Γ) (λ i. counted (length (bindersIn h lifts Γ)) i M) (omega arith) (omega arith)
         (λ i below. refl)
         (g .kept))
 
-    part-cells : (cells ≤ g .cells′) × (g .cells′ < 2700) × (g .cells′ + 1 ≤ cells + nodes (one h M))
+    part-cells : (cells ≤ g .cells′) × (g .cells′ < most-cells) × (g .cells′ + 1 ≤ cells + nodes (one h M))
     part-cells =
         let size : nodes (one h M) ≡ 1 + nodes M = one-nodes h M in
         let c = ready .cells-fit in
@@ -257,7 +258,7 @@ module _ {f w : List ℕ} {e binders lifts cells : ℕ} {L : List Wire} {Γ : Li
         go of-force t g′ size = tt
         go (of-box T) t g′ size = tt
 
-    own-uses : ownOne h (slotUses w₂ (64 + binders)) e ≡ ownOne h (uses 0 M) e
+    own-uses : ownOne h (slotUses w₂ (most-labels + binders)) e ≡ ownOne h (uses 0 M) e
     unfolding insideMemory
     own-uses = go h named g (one-nodes h M) (one-closed h M lifts Γ (ready .closed))
       where
@@ -265,7 +266,7 @@ module _ {f w : List ℕ} {e binders lifts cells : ℕ} {L : List Wire} {Γ : Li
             → (g′ : Gets (insideMemory h′ f w e binders lifts) w₂ cells (bindersIn h′ lifts Γ) M n A u v first)
             → nodes (one h M) ≡ 1 + nodes M
             → IsTrue (closedUnder (length (bindersIn h′ lifts Γ)) M)
-            → ownOne h′ (slotUses w₂ (64 + binders)) e ≡ ownOne h′ (uses 0 M) e
+            → ownOne h′ (slotUses w₂ (most-labels + binders)) e ≡ ownOne h′ (uses 0 M) e
         go (of-abstraction T) t g′ size closed =
             let c = ready .cells-fit in
             let b = ready .binders-fit in

@@ -21,6 +21,7 @@ use Rattle.typing.specs.declared.Inferred.the-variants.{Typed}
 use Rattle.typing.specs.Checking.{Binder, _under_, earlier}
 use Rattle.typing.specs.Checking.{ruled}
 use Rattle.typing.specs.Layout.{slotCell, slotUses, counted, coded, variableSlot, held}
+use Rattle.typing.specs.Layout.{most-binders, most-cells, most-labels}
 use Rattle.typing.specs.Scope.{Slot, Environment, Kept, pushed, environment-pushed, environment-kept, kept-pushed}
 use Rattle.typing.specs.Scope.{kept-trans, kept-less, kept-refl, slot-kept}
 use Rattle.typing.specs.Scope.{uses-pushed, environment-later}
@@ -36,7 +37,7 @@ use Rattle.typing.specs.Arms.{coded-earlier, rule-ends}
 abbrev pub Fresh : TwoParts → List ℕ → ℕ → Type 0
 Fresh of-application w binders = Unit {0}
 Fresh of-pair w binders = Unit {0}
-Fresh of-let w binders = (slotUses w (64 + binders) ≡ 0) × (slotUses w (64 + (binders + 1)) ≡ 0)
+Fresh of-let w binders = (slotUses w (most-labels + binders) ≡ 0) × (slotUses w (most-labels + (binders + 1)) ≡ 0)
 Fresh of-apply w binders = Unit {0}
 
 -- The memory w₂ with which the second part is looked at, under the binders Δ, after the first has left w₁.
@@ -44,7 +45,7 @@ pub record Opened (f w₁ w₂ : List ℕ) (m binders cells : ℕ) (L : List Wir
     : Type 0 where
   pub goes-on : b ≡ true
   pub environment : Environment f w₂ m cells L Δ
-  pub kept : Kept w₁ w₂ cells (64 + length Γ) (λ i. 0)
+  pub kept : Kept w₁ w₂ cells (most-labels + length Γ) (λ i. 0)
   pub fresh : Fresh h w₂ binders
 
 -- Nothing is touched where nothing is bound.
@@ -60,14 +61,14 @@ untouched-opened {f} {w₁} {w₂} {m} {binders} {cells} {L} {Γ} {Δ} h fresh e
       goes-on = t .answer;
       environment =
           subst (λ x. Environment f x m cells L Δ) (sym (t .words-are)) (subst (λ x. Environment f w₁ m cells L x) same env);
-      kept = subst (λ x. Kept w₁ x cells (64 + length Γ) (λ i. 0)) (sym (t .words-are)) (kept-refl w₁ cells (64 + length Γ));
+      kept = subst (λ x. Kept w₁ x cells (most-labels + length Γ) (λ i. 0)) (sym (t .words-are)) (kept-refl w₁ cells (most-labels + length Γ));
       fresh = fresh w₂;
     }
 
 -- A let pushes a binder for each half.
 halved-opened : {f w₁ w₂ : List ℕ} {m binders lifts cells : ℕ} {L : List Wire} {Γ Δ : List Binder} {b : Bool}
     (o : Option (Ty × Ty))
-    → binders ≡ length Γ → length Γ + 1 < 4096 → cells ≤ 2700 → lifts < 65536
+    → binders ≡ length Γ → length Γ + 1 < most-binders → cells ≤ most-cells → lifts < 65536
     → Environment f w₁ m cells L Γ
     → halves lifts Γ o ≡ some Δ
     → Halved w₁ w₂ binders lifts cells o b
@@ -84,12 +85,12 @@ halved-opened {f} {w₁} {w₂} {m} {binders} {lifts} {cells} {L} {Γ} {Δ} {b} 
           (environment-pushed binders (t .first) lifts (p .0) is (omega arith) c l env (t .first-denotes))
           (denotes-kept (first-kept .agree) (omega arith) (t .second-denotes));
       kept =
-          kept-less cells (64 + length Γ) (λ i. 0) (omega arith) (omega arith) (λ i below. omega arith)
+          kept-less cells (most-labels + length Γ) (λ i. 0) (omega arith) (omega arith) (λ i below. omega arith)
           (kept-trans first-kept second-kept);
       fresh = (
         omega (
           arith,
-          kept-pushed one (binders + 1) (t .second) lifts cells c .uses-counted (64 + binders) (omega arith),
+          kept-pushed one (binders + 1) (t .second) lifts cells c .uses-counted (most-labels + binders) (omega arith),
           uses-pushed w₁ binders (t .first) lifts (env .room) (omega arith),
         ),
         uses-pushed one (binders + 1) (t .second) lifts (omega (arith, env .room, first-kept .length-kept)) (omega arith),
@@ -102,17 +103,17 @@ halved-opened {f} {w₁} {w₂} {m} {binders} {lifts} {cells} {L} {Γ} {Δ} {b} 
     both : List ℕ
     both = pushed one (binders + 1) (t .second) lifts
 
-    first-kept : Kept w₁ one cells (64 + binders) (λ i. 0)
+    first-kept : Kept w₁ one cells (most-labels + binders) (λ i. 0)
     first-kept = kept-pushed w₁ binders (t .first) lifts cells c
 
-    second-kept : Kept one both cells (64 + binders) (λ i. 0)
+    second-kept : Kept one both cells (most-labels + binders) (λ i. 0)
     second-kept =
-        kept-less cells (64 + binders) (λ i. 0) (omega arith) (omega arith) (λ i below. refl)
+        kept-less cells (most-labels + binders) (λ i. 0) (omega arith) (omega arith) (λ i below. refl)
         (kept-pushed one (binders + 1) (t .second) lifts cells c)
 
 pub opened : {f w₁ w₂ : List ℕ} {m cells : ℕ} {L : List Wire} {Γ Δ : List Binder} {b : Bool}
     (h : TwoParts) (binders lifts : ℕ) (A : Ty)
-    → binders ≡ length Γ → length Γ + 1 < 4096 → cells ≤ 2700 → lifts < 65536
+    → binders ≡ length Γ → length Γ + 1 < most-binders → cells ≤ most-cells → lifts < 65536
     → Environment f w₁ m cells L Γ
     → bindersBehind h lifts Γ A ≡ some Δ
     → Passed h w₁ w₂ binders lifts cells A b
@@ -144,52 +145,52 @@ module _ {f w₂ w₃ : List ℕ} {m cells : ℕ} {L : List Wire} {Γ Δ : List 
   binders-two : length Δ ≡ length Γ + 2
   binders-two = sym (ap length same) ∙ omega arith
 
-  slot-of : (i : ℕ) (b : Binder) → i < 64 + length Δ → held L Δ i ≡ some b → Slot w₃ (g .cells′) i b
+  slot-of : (i : ℕ) (b : Binder) → i < most-labels + length Δ → held L Δ i ≡ some b → Slot w₃ (g .cells′) i b
   slot-of i b below q =
       slot-kept (g .kept .agree) (g .at-least) (g .kept .cells-same i below) (g .kept .lifts-same i below)
       (env .slots i b q)
 
-  first-held : held L Δ (64 + binders) ≡ some (p .0 under lifts)
+  first-held : held L Δ (most-labels + binders) ≡ some (p .0 under lifts)
   first-held =
-      subst (λ x. held L x (64 + binders) ≡ some (p .0 under lifts)) same
+      subst (λ x. held L x (most-labels + binders) ≡ some (p .0 under lifts)) same
       (rw (
-        ne-eqb (64 + binders) (64 + suc (length Γ)) (λ q. omega arith),
-        eq-eqb (64 + binders) (64 + length Γ) (omega arith),
+        ne-eqb (most-labels + binders) (most-labels + suc (length Γ)) (λ q. omega arith),
+        eq-eqb (most-labels + binders) (most-labels + length Γ) (omega arith),
       ))
 
-  second-held : held L Δ (64 + (binders + 1)) ≡ some (p .1 under lifts)
+  second-held : held L Δ (most-labels + (binders + 1)) ≡ some (p .1 under lifts)
   second-held =
-      subst (λ x. held L x (64 + (binders + 1)) ≡ some (p .1 under lifts)) same
-      (rw (eq-eqb (64 + (binders + 1)) (64 + suc (length Γ)) (omega arith)))
+      subst (λ x. held L x (most-labels + (binders + 1)) ≡ some (p .1 under lifts)) same
+      (rw (eq-eqb (most-labels + (binders + 1)) (most-labels + suc (length Γ)) (omega arith)))
 
-  half-slots : Denotes w₃ (g .cells′) (slotCell w₃ (64 + binders)) (p .0)
-      × Denotes w₃ (g .cells′) (slotCell w₃ (64 + (binders + 1))) (p .1)
+  half-slots : Denotes w₃ (g .cells′) (slotCell w₃ (most-labels + binders)) (p .0)
+      × Denotes w₃ (g .cells′) (slotCell w₃ (most-labels + (binders + 1))) (p .1)
   half-slots =
       let few = binders-two in (
-        slot-of (64 + binders) (p .0 under lifts) (omega arith) first-held .denotes,
-        slot-of (64 + (binders + 1)) (p .1 under lifts) (omega arith) second-held .denotes,
+        slot-of (most-labels + binders) (p .0 under lifts) (omega arith) first-held .denotes,
+        slot-of (most-labels + (binders + 1)) (p .1 under lifts) (omega arith) second-held .denotes,
       )
 
   module _ (closed : IsTrue (closedUnder (length Δ) N)) (below : IsTrue (labelsBelow (length L) N))
       (fresh : Fresh of-let w₂ binders) where
-    first-uses : slotUses w₃ (64 + binders) ≡ uses 1 N
+    first-uses : slotUses w₃ (most-labels + binders) ≡ uses 1 N
     first-uses =
         let few = binders-two in
-        let slot : 64 + binders ≡ variableSlot (length Δ) 1 = omega arith in
+        let slot : most-labels + binders ≡ variableSlot (length Δ) 1 = omega arith in
         omega (
           arith,
-          g .kept .uses-counted (64 + binders) (omega arith),
+          g .kept .uses-counted (most-labels + binders) (omega arith),
           ap (λ i. counted (length Δ) i N) slot,
           counted-variable (length Δ) (length L) 1 N (omega arith) (env .labels-fit) closed below,
         )
 
-    second-uses : slotUses w₃ (64 + (binders + 1)) ≡ uses 0 N
+    second-uses : slotUses w₃ (most-labels + (binders + 1)) ≡ uses 0 N
     second-uses =
         let few = binders-two in
-        let slot : 64 + (binders + 1) ≡ variableSlot (length Δ) 0 = omega arith in
+        let slot : most-labels + (binders + 1) ≡ variableSlot (length Δ) 0 = omega arith in
         omega (
           arith,
-          g .kept .uses-counted (64 + (binders + 1)) (omega arith),
+          g .kept .uses-counted (most-labels + (binders + 1)) (omega arith),
           ap (λ i. counted (length Δ) i N) slot,
           counted-variable (length Δ) (length L) 0 N (omega arith) (env .labels-fit) closed below,
         )
@@ -216,18 +217,18 @@ module _ {f w₂ w₃ : List ℕ} {m cells : ℕ} {L : List Wire} {Δ : List Bin
 
   module _ (e : ℕ) (closed : IsTrue (closedUnder (length Δ) N)) (below : IsTrue (labelsBelow (length L) N)) where
     uses-halved : (o : Option (Ty × Ty)) → halves lifts Γ o ≡ some Δ → Fresh of-let w₂ binders
-        → ownHalves o (slotUses w₃ (64 + binders)) (slotUses w₃ (64 + (binders + 1))) e ≡ ownHalves o (uses 1 N) (uses 0 N) e
+        → ownHalves o (slotUses w₃ (most-labels + binders)) (slotUses w₃ (most-labels + (binders + 1))) e ≡ ownHalves o (uses 1 N) (uses 0 N) e
     uses-halved none q fresh = refl
     uses-halved (some p) q fresh =
         let same : (p .1 under lifts ∷ p .0 under lifts ∷ Γ) ≡ Δ = cc in
-        ap (λ k. ownHalves (some p) k (slotUses w₃ (64 + (binders + 1))) e)
+        ap (λ k. ownHalves (some p) k (slotUses w₃ (most-labels + (binders + 1))) e)
         (first-uses binders lifts p is same env g closed below fresh)
         ∙ ap (λ k. ownHalves (some p) (uses 1 N) k e) (second-uses binders lifts p is same env g closed below fresh)
 
     pub uses-bound : (h : TwoParts) (A : Ty)
         → bindersBehind h lifts Γ A ≡ some Δ
         → Fresh h w₂ binders
-        → ownTwo h A (slotUses w₃ (64 + binders)) (slotUses w₃ (64 + (binders + 1))) e ≡ ownTwo h A (uses 1 N) (uses 0 N) e
+        → ownTwo h A (slotUses w₃ (most-labels + binders)) (slotUses w₃ (most-labels + (binders + 1))) e ≡ ownTwo h A (uses 1 N) (uses 0 N) e
     uses-bound of-application A q fresh = refl
     uses-bound of-pair A q fresh = refl
     uses-bound of-let A q fresh = uses-halved (asPair A) q fresh
@@ -325,17 +326,17 @@ module _ {f w : List ℕ} {e binders lifts cells : ℕ} {L : List Wire} {Γ : Li
       -- Both parts have types.
       module _ {w₃ : List ℕ} {B : Ty} {u′ v′ : Option ℕ} {second : Inferred}
           (g₂ : Gets w₂ w₃ (g .cells′) Δ N n B u′ v′ second) where
-        both-kept : Kept w w₃ cells (64 + length Γ) (λ i. counted (length Γ) i M + 0 + counted (length Δ) i N)
+        both-kept : Kept w w₃ cells (most-labels + length Γ) (λ i. counted (length Γ) i M + 0 + counted (length Δ) i N)
         both-kept =
             let more-binders : length Δ ≡ length Γ + bound h = behind-binders h M N lifts Γ Δ A q in
             let few = first-cells in
             kept-trans
             (kept-trans (g .kept)
-            (kept-less cells (64 + length Γ) (λ i. 0) (few .0) (omega arith) (λ i below. refl) (second-opened .kept)))
-            (kept-less cells (64 + length Γ) (λ i. counted (length Δ) i N) (few .0) (omega arith) (λ i below. refl)
+            (kept-less cells (most-labels + length Γ) (λ i. 0) (few .0) (omega arith) (λ i below. refl) (second-opened .kept)))
+            (kept-less cells (most-labels + length Γ) (λ i. counted (length Δ) i N) (few .0) (omega arith) (λ i below. refl)
             (g₂ .kept))
 
-        both-cells : (cells ≤ g₂ .cells′) × (g₂ .cells′ < 2700) × (g₂ .cells′ + 1 ≤ cells + nodes (two h M N))
+        both-cells : (cells ≤ g₂ .cells′) × (g₂ .cells′ < most-cells) × (g₂ .cells′ + 1 ≤ cells + nodes (two h M N))
         both-cells =
             let few = first-cells in
             let c = ready .cells-fit in
@@ -355,7 +356,7 @@ module _ {f w : List ℕ} {e binders lifts cells : ℕ} {L : List Wire} {Γ : Li
             denotes-kept (g₂ .kept .agree) (g₂ .at-least)
             (denotes-kept (second-opened .kept .agree) (omega arith) (g .denotes))
 
-        counts-same : (i : ℕ) → i < 64 + length Γ
+        counts-same : (i : ℕ) → i < most-labels + length Γ
             → counted (length Γ) i M + 0 + counted (length Δ) i N ≡ counted (length Γ) i (two h M N)
         counts-same i below =
             let more-binders : length Δ ≡ length Γ + bound h = behind-binders h M N lifts Γ Δ A q in

@@ -13,6 +13,7 @@ use Rattle.rules.specs.Sizes.{nodes}
 use Rattle.rules.specs.Inference.{uses, labelUses}
 use Rattle.program.specs.Trees.{closedUnder, labelsBelow}
 use Rattle.typing.specs.Layout.{variableSlot, counted}
+use Rattle.typing.specs.Layout.{most-labels}
 
 pub and-left : (a b : Bool) → IsTrue (a && b) → IsTrue a
 and-left true b t = tt
@@ -56,7 +57,7 @@ some-node (box T M) = omega arith
 some-node (apply M N) = omega arith
 
 -- The uses of a label's slot are the uses of the label.
-pub counted-label : (d ℓ : ℕ) (M : Term) → ℓ < 64 → counted d ℓ M ≡ labelUses ℓ M
+pub counted-label : (d ℓ : ℕ) (M : Term) → ℓ < most-labels → counted d ℓ M ≡ labelUses ℓ M
 counted-label d ℓ (variable x) h = ap one-if (ne-eqb ℓ (variableSlot d x) (λ q. omega arith))
 counted-label d ℓ (label k) h = refl
 counted-label d ℓ (gate x) h = refl
@@ -80,7 +81,7 @@ same-slot d n x h b = go (eqb n x) refl
     go false q = ne-eqb (variableSlot d n) (variableSlot d x) (λ s. eqb-false n x q (omega arith))
 
 pub counted-variable : (d l n : ℕ) (M : Term)
-    → n < d → l ≤ 64 → IsTrue (closedUnder d M) → IsTrue (labelsBelow l M)
+    → n < d → l ≤ most-labels → IsTrue (closedUnder d M) → IsTrue (labelsBelow l M)
     → counted d (variableSlot d n) M ≡ uses n M
 counted-variable d l n (variable x) h f c b = ap one-if (same-slot d n x h (ltb→lt x d c))
 counted-variable d l n (label ℓ) h f c b =

@@ -21,6 +21,7 @@ use Rattle.typing.specs.declared.Core.the-variants.{Typed as Found, Refu
 use Rattle.typing.specs.Checking.{Checked, typed, fault, checkTerm, earlier, wrongLabel, Verdict, has-type, refusal}
 use Rattle.typing.specs.Checking.{secondly, decided, verdict}
 use Rattle.typing.specs.Layout.{slotUses, coded}
+use Rattle.typing.specs.Layout.{most-labels}
 use Rattle.typing.specs.Counting.{counted-label}
 use Rattle.typing.specs.Inferring.{Answered, sooner}
 use Rattle.typing.specs.Arms.{coded-earlier}
@@ -134,8 +135,8 @@ settle-says w n cell A (some p) v r d q = q
 pub verdict-said : (w w′ : List ℕ) (cells e n : ℕ) (L : List Wire) (M : Term) (found : Inferred) (r : Core) (labels : ℕ)
     → Answered w w′ cells [] M n (checkTerm L [] 0 e M) found
     → labels ≡ length L
-    → length L ≤ 64
-    → ((ℓ : ℕ) → ℓ < 64 → slotUses w ℓ ≡ 0)
+    → length L ≤ most-labels
+    → ((ℓ : ℕ) → ℓ < most-labels → slotUses w ℓ ≡ 0)
     → r ≡ decidedAs w′ labels found
     → SaysVerdict w′ (verdict L e M) r
 verdict-said w w′ cells e n L M found r labels answered count few fresh is = go (checkTerm L [] 0 e M) answered

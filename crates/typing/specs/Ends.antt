@@ -19,6 +19,7 @@ use Rattle.typing.specs.declared.Inferred.{Inferred}
 use Rattle.typing.specs.declared.Inferred.the-variants.{Typed, Fault}
 use Rattle.typing.specs.Checking.{_under_, if-so, usedWrongly, crosses}
 use Rattle.typing.specs.Layout.{slotCell, slotLifts, slotUses, typeCell, coded}
+use Rattle.typing.specs.Layout.{most-binders, most-cells, most-labels}
 use Rattle.typing.specs.Scope.{pushed}
 use Rattle.typing.specs.Heads.{of-abstraction, of-lift, of-force, of-box}
 use Rattle.typing.specs.Heads.{of-application, of-pair, of-let, of-apply}
@@ -65,7 +66,7 @@ module _ (f w w′ : List ℕ) (e cells cell : ℕ) (r : Ruled) where
 
 -- The 17 of a node of one part itself.
 pub own-abstraction : (f w : List ℕ) (e binders r : ℕ)
-    → kindAt f e ≡ 18 → SaysUsedWrongly w (64 + binders) e r → SaysOwnOne f w e binders r
+    → kindAt f e ≡ 18 → SaysUsedWrongly w (most-labels + binders) e r → SaysOwnOne f w e binders r
 own-abstraction f w e binders r k says (of-abstraction A) n q b = says n A b
 own-abstraction f w e binders r k says of-lift n q b = absurd (omega arith)
 own-abstraction f w e binders r k says of-force n q b = absurd (omega arith)
@@ -143,8 +144,8 @@ rule-let f w e cells first second a b c of-apply A B q room d d′ = absurd (c q
 -- The 17 of a node of two parts itself.
 pub own-let : (f w : List ℕ) (e binders first second r : ℕ)
     → kindAt f e ≡ 21
-    → SaysUsedWrongly w (64 + binders) e first
-    → SaysUsedWrongly w (64 + (binders + 1)) e second
+    → SaysUsedWrongly w (most-labels + binders) e first
+    → SaysUsedWrongly w (most-labels + (binders + 1)) e second
     → r ≡ sooner first second
     → SaysOwnTwo f w e binders r
 own-let f w e binders first second r k says says′ at of-application n A q slots = absurd (omega arith)
@@ -153,16 +154,16 @@ own-let f w e binders first second r k says says′ at of-apply n A q slots = ab
 own-let f w e binders first second r k says says′ at of-let n A q slots = go (asPair A) slots
   where
     go : (o : Option (Ty × Ty)) → HalfSlots w n binders o
-        → r ≡ coded (ownHalves o (slotUses w (64 + binders)) (slotUses w (64 + (binders + 1))) e)
+        → r ≡ coded (ownHalves o (slotUses w (most-labels + binders)) (slotUses w (most-labels + (binders + 1))) e)
     go none slots = absurd slots
     go (some p) slots =
         at
         ∙ ap (λ x. sooner x second) (says n (p .0) (slots .0))
-        ∙ ap (λ x. sooner (coded (if-so (usedWrongly (p .0) (slotUses w (64 + binders))) e)) x) (says′ n (p .1) (slots .1))
+        ∙ ap (λ x. sooner (coded (if-so (usedWrongly (p .0) (slotUses w (most-labels + binders))) e)) x) (says′ n (p .1) (slots .1))
         ∙ sym
         (coded-earlier
-        (if-so (usedWrongly (p .0) (slotUses w (64 + binders))) e)
-        (if-so (usedWrongly (p .1) (slotUses w (64 + (binders + 1)))) e))
+        (if-so (usedWrongly (p .0) (slotUses w (most-labels + binders))) e)
+        (if-so (usedWrongly (p .1) (slotUses w (most-labels + (binders + 1)))) e))
 
 pub own-none-two : (f w : List ℕ) (e binders : ℕ) → (kindAt f e ≡ 21 → ⊥) → SaysOwnTwo f w e binders 0
 own-none-two f w e binders k of-let n A q slots = absurd (k q)
@@ -223,14 +224,14 @@ pub slot-used : (w w′ : List ℕ) (i e lifts cells cell bound uses crossing : 
     → bound ≡ slotLifts w i
     → uses ≡ slotUses w i
     → slotUses w i < 65535
-    → w′ ≡ set w (4 * (2700 + i) + 2) ((uses + 1) % 65536)
+    → w′ ≡ set w (4 * (most-cells + i) + 2) ((uses + 1) % 65536)
     → SaysCrosses w cell bound lifts e crossing
     → SaysUsed w w′ i e lifts cells (Typed cell (e + 1) cells 0 crossing)
 slot-used w w′ i e lifts cells cell bound uses crossing c b u fits is says n (A under l) slot =
     let count : (uses + 1) % 65536 ≡ slotUses w i + 1 = omega arith in
     let lifted : bound ≡ l = b ∙ slot .lifts in
     record {
-      words-are = is ∙ ap (λ x. set w (4 * (2700 + i) + 2) x) count;
+      words-are = is ∙ ap (λ x. set w (4 * (most-cells + i) + 2) x) count;
       answer =
           ap (λ x. Typed x (e + 1) cells 0 crossing) c
           ∙ ap (λ x. Typed (slotCell w i) (e + 1) cells 0 x)
@@ -243,7 +244,7 @@ pub record Small (f : List ℕ) (e binders lifts : ℕ) : Type 0 where
   pub whole : Whole f
   pub entry : e < 2624
   pub inside : e < length f
-  pub binders-few : binders ≤ 4096
+  pub binders-few : binders ≤ most-binders
   pub lifts-few : lifts ≤ 4096
 
 pub small : (f w : List ℕ) (e binders lifts cells : ℕ) → Possible f w e binders lifts cells → Small f e binders lifts

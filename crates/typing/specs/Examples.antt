@@ -1,18 +1,12 @@
--- Worked cases of the check, by computation (01, "Cases"): the verdict on trees, with the entry of the first term node, and
--- the check of two files' bytes.
+-- Worked cases of the check, by computation (01, "Cases"): the verdict on trees, with the entry of the first term node. Files
+-- has the same from the bytes of files.
 use Prim.Native.Nat.{ℕ, zero, suc}
 use mathlib.Core.Path.{_≡_, refl}
 use mathlib.Core.List.{List, [], _∷_}
 use Rattle.rules.specs.Types.{Wire, Qubit, Ty, wire, _⊸_, !_, Circ}
 use Rattle.rules.specs.Terms.{Term, variable, label, gate, abstraction, application, pair, let-in, lift, force}
 use Rattle.rules.specs.Cases.{one-label, two-labels, qubit, c1, c2, c3, c4, c5, c6, c7, c8, c9, c10, c11, c12}
-use Rattle.rules.specs.GateCodes.{isGate}
-use Rattle.program.specs.Format.{wordAt, kindAt, argumentAt, labelShape, typeShape, termShape, shapeAt}
-use Rattle.program.specs.Reading.{sizesRight, kindWrong, argumentWrong, typeWrong, circWrong, boxWrong, wiresWrong}
-use Rattle.program.specs.Reading.{readScope, readWhole, readWires, readTypes, readArguments, readKinds, readOf}
-use Rattle.program.specs.declared.Refusal.the-variants.{Typing}
 use Rattle.typing.specs.Checking.{has-type, refusal, verdict}
-use Rattle.typing.specs.Answers.{typeFrom, termFrom, Judged, accepts, refuses, checkOf}
 
 -- c1 to c4, c10 and c12 have the type Qubit, or a pair of Qubits. Their terms start behind one label, or two, and the types.
 pub c1-verdict : verdict one-label 1 c1 ≡ has-type qubit
@@ -81,21 +75,3 @@ let-unused = refl
 
 pub let-of-no-pair : verdict one-label 1 (let-in (label 0) (variable 0)) ≡ refusal 16 1
 let-of-no-pair = refl
-
--- The check with every definition of reader and check open: a line `unfolding opened` below opens them all.
-opened : List ℕ → Judged
-unfolding
-    wordAt kindAt argumentAt labelShape typeShape termShape shapeAt sizesRight kindWrong argumentWrong typeWrong
-    circWrong boxWrong wiresWrong readScope readWhole readWires readTypes readArguments readKinds readOf isGate
-    typeFrom termFrom checkOf
-opened f = checkOf f
-
--- c1, "File (hex) 01 00 00 00 01 00 01 11 00 00 00 00", and c7's file.
-pub c1-file : checkOf (1 ∷ 0 ∷ 0 ∷ 0 ∷ 1 ∷ 0 ∷ 1 ∷ 17 ∷ 0 ∷ 0 ∷ 0 ∷ 0 ∷ []) ≡ accepts qubit
-unfolding opened
-c1-file = refl
-
-pub c7-file
-    : checkOf (1 ∷ 0 ∷ 0 ∷ 0 ∷ 2 ∷ 0 ∷ 1 ∷ 22 ∷ 17 ∷ 0 ∷ 0 ∷ 0 ∷ 0 ∷ 0 ∷ 0 ∷ []) ≡ refuses (Typing 18 2)
-unfolding opened
-c7-file = refl

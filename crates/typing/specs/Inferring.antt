@@ -19,6 +19,7 @@ use Rattle.typing.specs.declared.Inferred.{Inferred}
 use Rattle.typing.specs.declared.Inferred.the-variants.{Typed, Fault}
 use Rattle.typing.specs.Checking.{Binder, Checked, typed, fault, checkTerm, usedWrongly, if-so, crosses}
 use Rattle.typing.specs.Layout.{slotCell, slotUses, typeCell, counted, coded, variableSlot}
+use Rattle.typing.specs.Layout.{most-binders, most-cells, most-labels}
 use Rattle.typing.specs.Scope.{Slot, typeOf, liftsOf, Environment, Kept, pushed}
 use Rattle.typing.specs.Heads.{OnePart, of-abstraction, of-lift, of-force, of-box, oneKind, oneRule, ownOne}
 use Rattle.typing.specs.Heads.{TwoParts, of-application, of-pair, of-let, of-apply, twoKind, twoRule, ownTwo}
@@ -40,8 +41,8 @@ pub record Ready (f w : List ℕ) (e binders lifts cells : ℕ) (L : List Wire) 
   pub labels-below : IsTrue (labelsBelow (length L) M)
   pub gates-known : IsTrue (gatesKnown M)
   pub binders-are : binders ≡ length Γ
-  pub cells-fit : cells + nodes M ≤ 2700
-  pub binders-fit : length Γ + 2 * nodes M ≤ 4096
+  pub cells-fit : cells + nodes M ≤ most-cells
+  pub binders-fit : length Γ + 2 * nodes M ≤ most-binders
   pub lifts-fit : lifts + nodes M ≤ 4096
   pub environment : Environment f w e cells L Γ
 
@@ -55,7 +56,7 @@ pub record Gets (w w′ : List ℕ) (cells : ℕ) (Γ : List Binder) (M : Term) 
   pub at-least : cells ≤ cells′
   pub at-most : cells′ ≤ cells + nodes M
   pub denotes : Denotes w′ cells′ cell A
-  pub kept : Kept w w′ cells (64 + length Γ) (λ i. counted (length Γ) i M)
+  pub kept : Kept w w′ cells (most-labels + length Γ) (λ i. counted (length Γ) i M)
 
 -- The answer is what the check finds.
 abbrev pub Answered : List ℕ → List ℕ → ℕ → List Binder → Term → ℕ → Checked → Inferred → Type 0
@@ -104,7 +105,7 @@ unfoldable pub slotAt : List ℕ → ℕ → ℕ → ℕ
 slotAt f e binders = cond (eqb (kindAt f e) 17) (argumentAt f e) (variableSlot binders (argumentAt f e))
 
 abbrev pub usedOnce : List ℕ → ℕ → List ℕ
-usedOnce w i = set w (4 * (2700 + i) + 2) (slotUses w i + 1)
+usedOnce w i = set w (4 * (most-cells + i) + 2) (slotUses w i + 1)
 
 -- A variable or a label in slot i is used at entry e: it has its type, its uses are counted, and it may cross a lift.
 pub record Used (w w′ : List ℕ) (i e lifts cells : ℕ) (b : Binder) (r : Inferred) : Type 0 where
@@ -133,7 +134,7 @@ NamedCell f w cells e (of-box T) = Denotes w cells (typeCell f (argumentAt f e))
 
 -- The slot of the variable that a node of one part binds, if it binds one, holds its type.
 abbrev pub BoundSlot : List ℕ → ℕ → ℕ → OnePart → Type 0
-BoundSlot w cells binders (of-abstraction A) = Denotes w cells (slotCell w (64 + binders)) A
+BoundSlot w cells binders (of-abstraction A) = Denotes w cells (slotCell w (most-labels + binders)) A
 BoundSlot w cells binders of-lift = Unit {0}
 BoundSlot w cells binders of-force = Unit {0}
 BoundSlot w cells binders (of-box T) = Unit {0}
@@ -149,7 +150,7 @@ abbrev pub SaysOwnOne : List ℕ → List ℕ → ℕ → ℕ → ℕ → Type 0
 SaysOwnOne f w e binders r =
     (h : OnePart) (n : ℕ)
     → kindAt f e ≡ oneKind h → BoundSlot w n binders h
-    → r ≡ coded (ownOne h (slotUses w (64 + binders)) e)
+    → r ≡ coded (ownOne h (slotUses w (most-labels + binders)) e)
 
 -- A rule has been applied at a node: what it gives, with the first 17 and 18 in numbers.
 pub record Ended (w w′ : List ℕ) (cells e next : ℕ) (o : Option Ty) (unused crossing : ℕ) (r : Inferred) : Type 0 where
@@ -164,7 +165,7 @@ EndsOne f w w′ e binders (Typed cell next cells unused crossing) r =
     → kindAt f e ≡ oneKind h → Room w cells → NamedCell f w cells e h → BoundSlot w cells binders h
     → Denotes w cells cell A
     → Ended w w′ cells e next (oneRule h A)
-    (sooner (coded (ownOne h (slotUses w (64 + binders)) e)) unused) crossing r
+    (sooner (coded (ownOne h (slotUses w (most-labels + binders)) e)) unused) crossing r
 EndsOne f w w′ e binders (Fault p) r = r ≡ Fault p
 
 -- Before the second part of a node: let takes the pair type of the first part apart and pushes a binder for each half.
@@ -201,7 +202,7 @@ SaysBetween f w w′ e binders lifts cell r =
 abbrev pub HalfSlots : List ℕ → ℕ → ℕ → Option (Ty × Ty) → Type 0
 HalfSlots w cells binders none = ⊥
 HalfSlots w cells binders (some p) =
-    Denotes w cells (slotCell w (64 + binders)) (p .0) × Denotes w cells (slotCell w (64 + (binders + 1))) (p .1)
+    Denotes w cells (slotCell w (most-labels + binders)) (p .0) × Denotes w cells (slotCell w (most-labels + (binders + 1))) (p .1)
 
 abbrev pub BoundSlots : List ℕ → ℕ → ℕ → TwoParts → Ty → Type 0
 BoundSlots w cells binders of-application A = Unit {0}
@@ -220,7 +221,7 @@ abbrev pub SaysOwnTwo : List ℕ → List ℕ → ℕ → ℕ → ℕ → Type 0
 SaysOwnTwo f w e binders r =
     (h : TwoParts) (n : ℕ) (A : Ty)
     → kindAt f e ≡ twoKind h → BoundSlots w n binders h A
-    → r ≡ coded (ownTwo h A (slotUses w (64 + binders)) (slotUses w (64 + (binders + 1))) e)
+    → r ≡ coded (ownTwo h A (slotUses w (most-labels + binders)) (slotUses w (most-labels + (binders + 1))) e)
 
 -- The end of a node of two parts, with the cell, the first 17 and the first 18 of its first part and the answer of its
 -- second.
@@ -232,5 +233,5 @@ EndsTwo f w w′ e binders (Typed first middle cells′ unused crossing) (Typed 
     → kindAt f e ≡ twoKind h → Room w cells → BoundSlots w cells binders h A
     → Denotes w cells first A → Denotes w cells second B
     → Ended w w′ cells e next (twoRule h A B)
-    (sooner (coded (ownTwo h A (slotUses w (64 + binders)) (slotUses w (64 + (binders + 1))) e)) (sooner unused unused′))
+    (sooner (coded (ownTwo h A (slotUses w (most-labels + binders)) (slotUses w (most-labels + (binders + 1))) e)) (sooner unused unused′))
     (sooner crossing crossing′) r

@@ -1,7 +1,7 @@
 -- The working memory of the check: rows of four 16-bit words. First the cells of types (at most 2,700), then the slots of
 -- what is in scope: 64 of labels, then 4,096 of binders, the outermost first. A slot is a row too: the cell of its type,
 -- the lifts around it, its uses so far, and a word that is not used.
-use Prim.Native.Nat.{ℕ, suc, _+_, _-_}
+use Prim.Native.Nat.{ℕ, suc, _+_, _*_, _-_}
 use mathlib.Core.Bool.{cond}
 use mathlib.Core.List.{List, [], _∷_}
 use mathlib.Core.Option.{Option, none, some, Option·map}
@@ -17,42 +17,44 @@ use Rattle.cells.specs.Cells.{cellKind, cellFirst, cellSecond}
 use Rattle.cells.specs.GateCells.{gateCells}
 use Rattle.typing.specs.Checking.{Binder, _under_}
 
--- The first row of the scope, which is one more than the last cell can be.
+-- The first row of the scope: there are never as many cells (41 of the gates, 512 of the file's types, 2,048 of nodes).
 abbrev pub most-cells : ℕ
 most-cells = 2700
 
+-- 01: "L labels (0 to 64)".
 abbrev pub most-labels : ℕ
 most-labels = 64
 
+-- Two for each of 2,048 nodes.
 abbrev pub most-binders : ℕ
 most-binders = 4096
 
--- The words and the bytes that the check needs.
+-- The words and the bytes that the check needs: 27,440 and 54,880.
 abbrev pub least-words : ℕ
-least-words = 27440
+least-words = 4 * (most-cells + most-labels + most-binders)
 
 abbrev pub least-work : ℕ
-least-work = 54880
+least-work = 2 * least-words
 
 -- What stands in slot i: the cell of the type, the lifts where it is bound, and its uses so far.
 abbrev pub slotCell : List ℕ → ℕ → ℕ
-slotCell w i = cellKind w (2700 + i)
+slotCell w i = cellKind w (most-cells + i)
 
 abbrev pub slotLifts : List ℕ → ℕ → ℕ
-slotLifts w i = cellFirst w (2700 + i)
+slotLifts w i = cellFirst w (most-cells + i)
 
 abbrev pub slotUses : List ℕ → ℕ → ℕ
-slotUses w i = cellSecond w (2700 + i)
+slotUses w i = cellSecond w (most-cells + i)
 
 -- What slot i holds, with the labels of a file and the binders in scope, the innermost first: label i under no lift, and
 -- from slot 64 on the binders, the outermost first.
 abbrev pub held : List Wire → List Binder → ℕ → Option Binder
 held L [] i = Option·map (λ α. wire α under 0) (nth L i)
-held L (b ∷ Γ) i = cond (eqb i (64 + length Γ)) (some b) (held L Γ i)
+held L (b ∷ Γ) i = cond (eqb i (most-labels + length Γ)) (some b) (held L Γ i)
 
 -- The slot of variable x under d binders.
 abbrev pub variableSlot : ℕ → ℕ → ℕ
-variableSlot d x = 64 + (d - suc x)
+variableSlot d x = most-labels + (d - suc x)
 
 -- How often a term under d binders uses what slot i holds.
 abbrev pub counted : ℕ → ℕ → Term → ℕ

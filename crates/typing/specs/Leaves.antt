@@ -24,6 +24,7 @@ use Rattle.typing.specs.declared.Inferred.the-variants.{Typed}
 use Rattle.typing.specs.Checking.{Binder, _under_, checkTerm, crosses, if-so, ruled}
 use Rattle.typing.specs.Checking.{variableFound, labelFound}
 use Rattle.typing.specs.Layout.{slotCell, slotUses, held, counted, coded, variableSlot}
+use Rattle.typing.specs.Layout.{most-cells, most-labels}
 use Rattle.typing.specs.Scope.{Slot, typeOf, liftsOf, Kept, kept-less, kept-refl, held-variable, held-label}
 use Rattle.typing.specs.Scope.{held-below}
 use Rattle.typing.specs.Heads.{of-variable, of-label, of-gate, Shaped, shaped-leaf, shaped-one}
@@ -46,25 +47,25 @@ known-gate x t = gate-there (gateType x) t
 
 -- A use that is counted keeps all else.
 pub kept-used : (w : List ℕ) (s cells d : ℕ)
-    → 4 * (2700 + s) + 4 ≤ length w → cells ≤ 2700
+    → 4 * (most-cells + s) + 4 ≤ length w → cells ≤ most-cells
     → Kept w (usedOnce w s) cells d (λ i. one-if (eqb i s))
 kept-used w s cells d fits c =
     record {
-      agree = record { words-same = λ k h. getD-set-other w (4 * (2700 + s) + 2) k (slotUses w s + 1) 0 (omega arith) };
-      length-kept = length-set w (4 * (2700 + s) + 2) (slotUses w s + 1);
-      cells-same = λ i h. getD-set-other w (4 * (2700 + s) + 2) (4 * (2700 + i)) (slotUses w s + 1) 0 (omega arith);
-      lifts-same = λ i h. getD-set-other w (4 * (2700 + s) + 2) (4 * (2700 + i) + 1) (slotUses w s + 1) 0 (omega arith);
+      agree = record { words-same = λ k h. getD-set-other w (4 * (most-cells + s) + 2) k (slotUses w s + 1) 0 (omega arith) };
+      length-kept = length-set w (4 * (most-cells + s) + 2) (slotUses w s + 1);
+      cells-same = λ i h. getD-set-other w (4 * (most-cells + s) + 2) (4 * (most-cells + i)) (slotUses w s + 1) 0 (omega arith);
+      lifts-same = λ i h. getD-set-other w (4 * (most-cells + s) + 2) (4 * (most-cells + i) + 1) (slotUses w s + 1) 0 (omega arith);
       uses-counted = λ i h. uses-at i (eqb i s) refl;
     }
   where
     uses-at : (i : ℕ) (t : Bool) → eqb i s ≡ t → slotUses (usedOnce w s) i ≡ slotUses w i + one-if (eqb i s)
     uses-at i true q =
         let same : i ≡ s = eqb-true i s q in
-        rw (q, same) (getD-set-same w (4 * (2700 + s) + 2) (slotUses w s + 1) 0 (omega arith))
+        rw (q, same) (getD-set-same w (4 * (most-cells + s) + 2) (slotUses w s + 1) 0 (omega arith))
     uses-at i false q =
         let other : (i ≡ s → ⊥) = eqb-false i s q in
         rw q
-        (getD-set-other w (4 * (2700 + s) + 2) (4 * (2700 + i) + 2) (slotUses w s + 1) 0 (λ z. other (omega arith))
+        (getD-set-other w (4 * (most-cells + s) + 2) (4 * (most-cells + i) + 2) (slotUses w s + 1) 0 (λ z. other (omega arith))
         ∙ omega arith)
 
 -- What is used from a slot has the slot's type.
@@ -79,14 +80,14 @@ slot-answers {f} {w} {w′} {e} {binders} {lifts} {cells} {L} {Γ} {r = r} M s b
     let env = ready .environment in
     let slot : Slot w cells s b = env .slots s b q in
     let used = says cells b slot in
-    let below : s < 64 + length Γ = held-below L Γ s b (env .labels-fit) q in
+    let below : s < most-labels + length Γ = held-below L Γ s b (env .labels-fit) q in
     let c = ready .cells-fit in
     let d = ready .binders-fit in
     let room = env .room in
     let place = if-so (crosses (typeOf b) (liftsOf b) lifts) e in
     let kept =
-    kept-less cells (64 + length Γ) (λ i. counted (length Γ) i M) (omega arith) (omega arith) (λ i h. same i)
-    (kept-used w s cells (64 + length Γ) (omega arith) (omega arith))
+    kept-less cells (most-labels + length Γ) (λ i. counted (length Γ) i M) (omega arith) (omega arith) (λ i h. same i)
+    (kept-used w s cells (most-labels + length Γ) (omega arith) (omega arith))
     in
     subst (λ x. Gets w x cells Γ M (suc e) (typeOf b) none place r) (sym (used .words-are))
     (record {
@@ -159,7 +160,7 @@ gate-answers {f} {w} {e} {binders} {lifts} {cells} {L} {Γ} x ready = go (found 
           at-least = omega arith;
           at-most = omega arith;
           denotes = ready .environment .loaded .gates .gate x T U q;
-          kept = kept-refl w cells (64 + length Γ);
+          kept = kept-refl w cells (most-labels + length Γ);
         })
 
 -- A leaf answers what the check finds: a gate, a variable or label.
@@ -206,18 +207,18 @@ module _ (f w : List ℕ) (e binders lifts cells : ℕ) (parts : partCount (kind
 
   -- The slot is there, and its uses are few enough to be counted.
   pub slot-fits : Possible f w e binders lifts cells
-      → (slotAt f e binders < 64 + binders) × (slotUses w (slotAt f e binders) ≤ e)
+      → (slotAt f e binders < most-labels + binders) × (slotUses w (slotAt f e binders) ≤ e)
   slot-fits p = go (shaped (p .4 .term-at)) (p .4)
     where
       fits : {M′ : Term} {n′ : ℕ} (s : ℕ)
-          → slotAt f e binders ≡ s → s < 64 + binders
+          → slotAt f e binders ≡ s → s < most-labels + binders
           → Ready f w e binders lifts cells (p .0) (p .1) M′ n′
-          → (slotAt f e binders < 64 + binders) × (slotUses w (slotAt f e binders) ≤ e)
+          → (slotAt f e binders < most-labels + binders) × (slotUses w (slotAt f e binders) ≤ e)
       fits s q h ready =
           rw q (h, ready .environment .uses-fit s (let b = ready .binders-are in omega arith))
 
       go : {M′ : Term} {n′ : ℕ} → Shaped f e M′ n′ → Ready f w e binders lifts cells (p .0) (p .1) M′ n′
-          → (slotAt f e binders < 64 + binders) × (slotUses w (slotAt f e binders) ≤ e)
+          → (slotAt f e binders < most-labels + binders) × (slotUses w (slotAt f e binders) ≤ e)
       go (shaped-leaf (of-gate x) k a) ready = absurd (other k)
       go (shaped-leaf (of-variable x) k a) ready =
           let below : x < length (p .1) = ltb→lt x (length (p .1)) (ready .closed) in

@@ -15,6 +15,7 @@ pub mod ReadBack
 pub mod Loading
 pub mod Deciding
 pub mod Whole
+pub mod Files
 pub mod Safe
 pub mod Packed
 pub mod Examples

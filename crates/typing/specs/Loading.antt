@@ -25,6 +25,7 @@ use Rattle.cells.specs.Load.{codes-denote}
 use Rattle.cells.specs.GateCells.{gateCells, gate-cells, GatesLoaded, loadAllGates, gates-loaded}
 use Rattle.typing.specs.Checking.{Binder, _under_}
 use Rattle.typing.specs.Layout.{slotCell, slotLifts, slotUses, typeCell}
+use Rattle.typing.specs.Layout.{least-words, most-cells, most-labels}
 use Rattle.typing.specs.Scope.{Slot, Loaded, Environment, nth-below}
 use Rattle.typing.specs.Heads.{term-ends}
 use Rattle.typing.specs.Inferring.{Ready}
@@ -33,29 +34,29 @@ use Rattle.typing.specs.ReadBack.{type-ends, some-entry}
 -- The slots of the labels: the cells 0 and 1 are Bit and Qubit. All 64 are written, those behind the last label too.
 unfoldable pub slotsLoaded : List ℕ → List ℕ → ℕ → List ℕ
 slotsLoaded f w zero = w
-slotsLoaded f w (suc k) = withCell (slotsLoaded f w k) (2700 + k) (kindAt f k) 0 0 0
+slotsLoaded f w (suc k) = withCell (slotsLoaded f w k) (most-cells + k) (kindAt f k) 0 0 0
 
 pub no-slot : (f w : List ℕ) → w ≡ slotsLoaded f w 0
 unfolding slotsLoaded
 no-slot f w = refl
 
 pub next-slot : (f w : List ℕ) (k kind : ℕ)
-    → kind ≡ kindAt f k → withCell (slotsLoaded f w k) (2700 + k) kind 0 0 0 ≡ slotsLoaded f w (k + 1)
+    → kind ≡ kindAt f k → withCell (slotsLoaded f w k) (most-cells + k) kind 0 0 0 ≡ slotsLoaded f w (k + 1)
 unfolding slotsLoaded
 next-slot f w k kind q =
-    ap (λ c. withCell (slotsLoaded f w k) (2700 + k) c 0 0 0) q ∙ ap (slotsLoaded f w) (sym (add-one k))
+    ap (λ c. withCell (slotsLoaded f w k) (most-cells + k) c 0 0 0) q ∙ ap (slotsLoaded f w) (sym (add-one k))
 
 length-slots : (f w : List ℕ) (k : ℕ) → length (slotsLoaded f w k) ≡ length w
 unfolding slotsLoaded
 length-slots f w zero = refl
-length-slots f w (suc k) = length-withCell (slotsLoaded f w k) (2700 + k) (kindAt f k) 0 0 0 ∙ length-slots f w k
+length-slots f w (suc k) = length-withCell (slotsLoaded f w k) (most-cells + k) (kindAt f k) 0 0 0 ∙ length-slots f w k
 
-agree-slots : (f w : List ℕ) (k : ℕ) → Agree w (slotsLoaded f w k) 2700
+agree-slots : (f w : List ℕ) (k : ℕ) → Agree w (slotsLoaded f w k) most-cells
 unfolding slotsLoaded
-agree-slots f w zero = agree-refl w 2700
+agree-slots f w zero = agree-refl w most-cells
 agree-slots f w (suc k) =
     agree-trans (agree-slots f w k)
-    (agree-less 2700 (omega arith) (agree-withCell (slotsLoaded f w k) (2700 + k) (kindAt f k) 0 0 0))
+    (agree-less most-cells (omega arith) (agree-withCell (slotsLoaded f w k) (most-cells + k) (kindAt f k) 0 0 0))
 
 -- What stands in a slot that is loaded.
 record Fresh (f w : List ℕ) (i : ℕ) : Type 0 where
@@ -63,7 +64,7 @@ record Fresh (f w : List ℕ) (i : ℕ) : Type 0 where
   lifts-are : slotLifts w i ≡ 0
   uses-are : slotUses w i ≡ 0
 
-slot-loaded : (f w : List ℕ) (k i : ℕ) → i < k → k ≤ 64 → 27440 ≤ length w → Fresh f (slotsLoaded f w k) i
+slot-loaded : (f w : List ℕ) (k i : ℕ) → i < k → k ≤ most-labels → least-words ≤ length w → Fresh f (slotsLoaded f w k) i
 unfolding slotsLoaded
 slot-loaded f w zero i h b room = absurd (omega arith)
 slot-loaded f w (suc k) i h b room = go (eqb i k) refl (λ l. slot-loaded f w k i l (omega arith) room)
@@ -72,26 +73,26 @@ slot-loaded f w (suc k) i h b room = go (eqb i k) refl (λ l. slot-loaded f w k 
     before = slotsLoaded f w k
 
     after : List ℕ
-    after = withCell before (2700 + k) (kindAt f k) 0 0 0
+    after = withCell before (most-cells + k) (kindAt f k) 0 0 0
 
-    long : 4 * (2700 + k) + 4 ≤ length before
+    long : 4 * (most-cells + k) + 4 ≤ length before
     long = omega (arith, length-slots f w k)
 
     this : Fresh f after k
     this =
         record {
-          cell-is = λ fits. kind-written before (2700 + k) (kindAt f k) 0 0 0 long fits;
-          lifts-are = first-written before (2700 + k) (kindAt f k) 0 0 0 long (omega arith);
-          uses-are = second-written before (2700 + k) (kindAt f k) 0 0 0 long (omega arith);
+          cell-is = λ fits. kind-written before (most-cells + k) (kindAt f k) 0 0 0 long fits;
+          lifts-are = first-written before (most-cells + k) (kindAt f k) 0 0 0 long (omega arith);
+          uses-are = second-written before (most-cells + k) (kindAt f k) 0 0 0 long (omega arith);
         }
 
     other : i < k → Fresh f before i → Fresh f after i
     other l x =
-        let a = agree-withCell before (2700 + k) (kindAt f k) 0 0 0 in
+        let a = agree-withCell before (most-cells + k) (kindAt f k) 0 0 0 in
         record {
-          cell-is = λ fits. a .words-same (4 * (2700 + i)) (omega arith) ∙ x .cell-is fits;
-          lifts-are = a .words-same (4 * (2700 + i) + 1) (omega arith) ∙ x .lifts-are;
-          uses-are = a .words-same (4 * (2700 + i) + 2) (omega arith) ∙ x .uses-are;
+          cell-is = λ fits. a .words-same (4 * (most-cells + i)) (omega arith) ∙ x .cell-is fits;
+          lifts-are = a .words-same (4 * (most-cells + i) + 1) (omega arith) ∙ x .lifts-are;
+          uses-are = a .words-same (4 * (most-cells + i) + 2) (omega arith) ∙ x .uses-are;
         }
 
     go : (t : Bool) → eqb i k ≡ t → (i < k → Fresh f before i) → Fresh f after i
@@ -149,20 +150,20 @@ module _ (f : List ℕ) (L P : ℕ) where
 -- The memory of an accepted file, loaded in three steps: the gates, the type section, the labels.
 module _ {f : List ℕ} {labels : List Wire} {M : Term} (file : AcceptedFile f labels M)
     (w w₁ w₂ w₃ : List ℕ) (cells : ℕ)
-    (room : 27440 ≤ length w) (room₁ : 27440 ≤ length w₁)
+    (room : least-words ≤ length w) (room₁ : least-words ≤ length w₁)
     (first : w₁ ≡ loadAllGates w)
     (second : w₂ ≡ loadCodes w₁ gateCells (codesOf (section f (labelCount f) (typeCount f))) 0 (typeCount f))
-    (third : w₃ ≡ slotsLoaded f w₂ 64)
+    (third : w₃ ≡ slotsLoaded f w₂ most-labels)
     (cells-are : cells ≡ gateCells + typeCount f) where
-  room₂ : 27440 ≤ length w₂
+  room₂ : least-words ≤ length w₂
   room₂ =
       let codes = codesOf (section f (labelCount f) (typeCount f)) in
       omega (arith, ap length second, length-loadCodes w₁ gateCells codes 0 (typeCount f))
 
-  room₃ : 27440 ≤ length w₃
-  room₃ = let r = room₂ in omega (arith, ap length third, length-slots f w₂ 64)
+  room₃ : least-words ≤ length w₃
+  room₃ = let r = room₂ in omega (arith, ap length third, length-slots f w₂ most-labels)
 
-  few-cells : cells ≤ 2700
+  few-cells : cells ≤ most-cells
   few-cells = omega (arith, gate-cells, file .types-fit)
 
   -- The gates' types and the file's types are cells.
@@ -193,7 +194,7 @@ module _ {f : List ℕ} {labels : List Wire} {M : Term} (file : AcceptedFile f l
 
   slots-agree : Agree w₂ w₃ cells
   slots-agree =
-      agree-less cells few-cells (subst (λ x. Agree w₂ x 2700) (sym third) (agree-slots f w₂ 64))
+      agree-less cells few-cells (subst (λ x. Agree w₂ x most-cells) (sym third) (agree-slots f w₂ most-labels))
 
   all-loaded : Loaded f w₃ cells
   all-loaded =
@@ -211,8 +212,8 @@ module _ {f : List ℕ} {labels : List Wire} {M : Term} (file : AcceptedFile f l
       gate-kept d = denotes-kept slots-agree (omega arith) (denotes-kept gates-agree (omega arith) d)
 
   -- The labels stand in their slots.
-  slot-fresh : (i : ℕ) → i < 64 → Fresh f w₃ i
-  slot-fresh i h = subst (λ x. Fresh f x i) (sym third) (slot-loaded f w₂ 64 i h (omega arith) room₂)
+  slot-fresh : (i : ℕ) → i < most-labels → Fresh f w₃ i
+  slot-fresh i h = subst (λ x. Fresh f x i) (sym third) (slot-loaded f w₂ most-labels i h (omega arith) room₂)
 
   wire-cell-is : (α : Wire) → Denotes w₃ cells (wireCode α) (wire α)
   wire-cell-is Bit = all-loaded .gates .bit
@@ -222,7 +223,7 @@ module _ {f : List ℕ} {labels : List Wire} {M : Term} (file : AcceptedFile f l
   code-fits Bit = omega arith
   code-fits Qubit = omega arith
 
-  label-slot : (i : ℕ) (α : Wire) → i < 64 → nth labels i ≡ some α → Slot w₃ cells i (wire α under 0)
+  label-slot : (i : ℕ) (α : Wire) → i < most-labels → nth labels i ≡ some α → Slot w₃ cells i (wire α under 0)
   label-slot i α h q =
       let k : kindAt f i ≡ wireCode α = file .label-kinds i α q in
       let fresh = slot-fresh i h in
@@ -277,5 +278,5 @@ module _ {f : List ℕ} {labels : List Wire} {M : Term} (file : AcceptedFile f l
       }
 
   -- No label has been used yet.
-  pub labels-fresh : (ℓ : ℕ) → ℓ < 64 → slotUses w₃ ℓ ≡ 0
+  pub labels-fresh : (ℓ : ℕ) → ℓ < most-labels → slotUses w₃ ℓ ≡ 0
   labels-fresh ℓ h = slot-fresh ℓ h .uses-are

@@ -1,7 +1,7 @@
 -- The functions that read trees from the bytes give the trees that stand there.
 use Prim.Native.Nat.{ℕ, zero, suc, _+_, _≤_}
 use native.Mathlib.Omega.{arith}
-use mathlib.Core.Path.{_≡_, refl, sym, _∙_, ap, ap₂}
+use mathlib.Core.Path.{_≡_, refl, sym, _∙_, ap, ap₂, subst}
 use mathlib.Core.List.{List, [], _∷_}
 use mathlib.Core.Option.{some}
 use lib.ListN.{length}
@@ -153,3 +153,10 @@ labels-read {f} {labels} file =
 pub program-read : {f : List ℕ} {labels : List Wire} {M : Term} → AcceptedFile f labels M → termOf f ≡ M
 program-read {f} {labels} {M} file =
     term-read (termCount f) (file .types-fit) (file .term-at) (omega (arith, term-ends (file .term-at)))
+
+-- So these are its labels and its term.
+pub file-read : {f : List ℕ} {labels : List Wire} {M : Term}
+    → AcceptedFile f labels M → AcceptedFile f (labelsOf f) (termOf f)
+file-read {f} {labels} {M} file =
+    subst (λ l. AcceptedFile f l (termOf f)) (sym (labels-read file))
+    (subst (λ m. AcceptedFile f labels m) (sym (program-read file)) file)

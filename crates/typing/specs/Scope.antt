@@ -18,6 +18,7 @@ use Rattle.cells.specs.Rows.{withCell, length-withCell, agree-withCell}
 use Rattle.cells.specs.Rows.{kind-written, first-written, second-written}
 use Rattle.typing.specs.Checking.{Binder, _under_}
 use Rattle.typing.specs.Layout.{slotCell, slotLifts, slotUses, held, variableSlot, typeCell}
+use Rattle.typing.specs.Layout.{least-words, most-binders, most-cells, most-labels}
 
 abbrev pub typeOf : Binder → Ty
 typeOf (A under b) = A
@@ -38,11 +39,11 @@ pub record Loaded (f w : List ℕ) (cells : ℕ) : Type 0 where
 -- The memory is ready for a term at entry e under the binders Γ: what is in scope stands in its slots, and none of it has
 -- been used more often than entries have been passed.
 pub record Environment (f w : List ℕ) (e cells : ℕ) (L : List Wire) (Γ : List Binder) : Type 0 where
-  pub room : 27440 ≤ length w
-  pub labels-fit : length L ≤ 64
+  pub room : least-words ≤ length w
+  pub labels-fit : length L ≤ most-labels
   pub loaded : Loaded f w cells
   pub slots : (i : ℕ) (b : Binder) → held L Γ i ≡ some b → Slot w cells i b
-  pub uses-fit : (i : ℕ) → i < 64 + length Γ → slotUses w i ≤ e
+  pub uses-fit : (i : ℕ) → i < most-labels + length Γ → slotUses w i ≤ e
 
 -- What a term leaves of the memory: the cells and the first d slots as they were, with its uses counted.
 pub record Kept (w w′ : List ℕ) (cells d : ℕ) (count : ℕ → ℕ) : Type 0 where
@@ -69,32 +70,32 @@ label-below L i b none n e = absurd (Option·some-ne-none b (sym e))
 label-below L i b (some α) n e = nth-below L i α n
 
 pub held-below : (L : List Wire) (Γ : List Binder) (i : ℕ) (b : Binder)
-    → length L ≤ 64 → held L Γ i ≡ some b → i < 64 + length Γ
+    → length L ≤ most-labels → held L Γ i ≡ some b → i < most-labels + length Γ
 held-below L [] i b h e = omega (arith, label-below L i b (nth L i) refl e)
-held-below L (x ∷ Γ) i b h e = go (eqb i (64 + length Γ)) refl e (λ e. held-below L Γ i b h e)
+held-below L (x ∷ Γ) i b h e = go (eqb i (most-labels + length Γ)) refl e (λ e. held-below L Γ i b h e)
   where
-    go : (t : Bool) → eqb i (64 + length Γ) ≡ t → cond t (some x) (held L Γ i) ≡ some b
-        → (held L Γ i ≡ some b → i < 64 + length Γ)
-        → i < 64 + suc (length Γ)
-    go true q e below = omega (arith, eqb-true i (64 + length Γ) q)
+    go : (t : Bool) → eqb i (most-labels + length Γ) ≡ t → cond t (some x) (held L Γ i) ≡ some b
+        → (held L Γ i ≡ some b → i < most-labels + length Γ)
+        → i < most-labels + suc (length Γ)
+    go true q e below = omega (arith, eqb-true i (most-labels + length Γ) q)
     go false q e below = omega (arith, below e)
 
 -- A variable's binder stands in the variable's slot, and a label in its own.
 pub held-variable : (L : List Wire) (Γ : List Binder) (x : ℕ) (b : Binder)
     → nth Γ x ≡ some b → held L Γ (variableSlot (length Γ) x) ≡ some b
 held-variable L [] x b e = absurd (Option·some-ne-none b (sym e))
-held-variable L (y ∷ Γ) zero b e = rw (eq-eqb (64 + (suc (length Γ) - 1)) (64 + length Γ) (omega arith)) e
+held-variable L (y ∷ Γ) zero b e = rw (eq-eqb (most-labels + (suc (length Γ) - 1)) (most-labels + length Γ) (omega arith)) e
 held-variable L (y ∷ Γ) (suc x) b e =
     let below : x < length Γ = binder-below Γ x b e in
-    let same : 64 + (suc (length Γ) - suc (suc x)) ≡ 64 + (length Γ - suc x) = omega arith in
-    rw (same, ne-eqb (64 + (length Γ - suc x)) (64 + length Γ) (λ h. omega arith)) (held-variable L Γ x b e)
+    let same : most-labels + (suc (length Γ) - suc (suc x)) ≡ most-labels + (length Γ - suc x) = omega arith in
+    rw (same, ne-eqb (most-labels + (length Γ - suc x)) (most-labels + length Γ) (λ h. omega arith)) (held-variable L Γ x b e)
 
 pub held-label : (L : List Wire) (Γ : List Binder) (ℓ : ℕ) (α : Wire)
-    → length L ≤ 64 → nth L ℓ ≡ some α → held L Γ ℓ ≡ some (wire α under 0)
+    → length L ≤ most-labels → nth L ℓ ≡ some α → held L Γ ℓ ≡ some (wire α under 0)
 held-label L [] ℓ α h e = rw e
 held-label L (b ∷ Γ) ℓ α h e =
     let below : ℓ < length L = nth-below L ℓ α e in
-    rw (ne-eqb ℓ (64 + length Γ) (λ q. omega arith)) (held-label L Γ ℓ α h e)
+    rw (ne-eqb ℓ (most-labels + length Γ) (λ q. omega arith)) (held-label L Γ ℓ α h e)
 
 -- What denotes a type in memory goes on denoting it where the cells agree and there are more of them.
 pub loaded-kept : {f w w′ : List ℕ} {cells cells′ : ℕ}
@@ -123,7 +124,7 @@ slot-kept {w′ = w′} {cells′ = cells′} {b = b} a h c l s =
 -- The memory that a term leaves is ready for what follows it.
 pub environment-kept : {f w w′ : List ℕ} {e e′ cells cells′ : ℕ} {L : List Wire} {Γ : List Binder} {count : ℕ → ℕ}
     → Environment f w e cells L Γ
-    → Kept w w′ cells (64 + length Γ) count
+    → Kept w w′ cells (most-labels + length Γ) count
     → cells ≤ cells′
     → ((i : ℕ) → e + count i ≤ e′)
     → Environment f w′ e′ cells′ L Γ
@@ -187,56 +188,56 @@ kept-less cells′ d′ count′ c h same k =
 
 -- A cell that a rule makes changes no slot.
 pub kept-cell : {w w′ : List ℕ} {cells : ℕ} (n d : ℕ)
-    → n < 2700 → cells ≤ n → Agree w w′ n → ((k : ℕ) → 4 * n + 4 ≤ k → getD w′ k 0 ≡ getD w k 0)
+    → n < most-cells → cells ≤ n → Agree w w′ n → ((k : ℕ) → 4 * n + 4 ≤ k → getD w′ k 0 ≡ getD w k 0)
     → length w′ ≡ length w
     → Kept w w′ cells d (λ i. 0)
 kept-cell {cells = cells} n d h c a above l =
     record {
       agree = agree-less cells c a;
       length-kept = l;
-      cells-same = λ i below. above (4 * (2700 + i)) (omega arith);
-      lifts-same = λ i below. above (4 * (2700 + i) + 1) (omega arith);
-      uses-counted = λ i below. omega (arith, above (4 * (2700 + i) + 2) (omega arith));
+      cells-same = λ i below. above (4 * (most-cells + i)) (omega arith);
+      lifts-same = λ i below. above (4 * (most-cells + i) + 1) (omega arith);
+      uses-counted = λ i below. omega (arith, above (4 * (most-cells + i) + 2) (omega arith));
     }
 
 -- A binder that is pushed stands in the next slot, with no uses; the others are as they were.
 module _ (w : List ℕ) (d cell lifts : ℕ) where
   abbrev pub pushed : List ℕ
-  pushed = withCell w (2700 + (64 + d)) cell lifts 0 0
+  pushed = withCell w (most-cells + (most-labels + d)) cell lifts 0 0
 
-  word-kept : (i k : ℕ) → i < 64 + d → k < 4 * (2700 + i) + 4 → getD pushed k 0 ≡ getD w k 0
-  word-kept i k h s = agree-withCell w (2700 + (64 + d)) cell lifts 0 0 .words-same k (omega arith)
+  word-kept : (i k : ℕ) → i < most-labels + d → k < 4 * (most-cells + i) + 4 → getD pushed k 0 ≡ getD w k 0
+  word-kept i k h s = agree-withCell w (most-cells + (most-labels + d)) cell lifts 0 0 .words-same k (omega arith)
 
-  pub kept-pushed : (cells : ℕ) → cells ≤ 2700 → Kept w pushed cells (64 + d) (λ i. 0)
+  pub kept-pushed : (cells : ℕ) → cells ≤ most-cells → Kept w pushed cells (most-labels + d) (λ i. 0)
   kept-pushed cells h =
       record {
-        agree = agree-less cells (omega arith) (agree-withCell w (2700 + (64 + d)) cell lifts 0 0);
-        length-kept = length-withCell w (2700 + (64 + d)) cell lifts 0 0;
-        cells-same = λ i below. word-kept i (4 * (2700 + i)) below (omega arith);
-        lifts-same = λ i below. word-kept i (4 * (2700 + i) + 1) below (omega arith);
-        uses-counted = λ i below. omega (arith, word-kept i (4 * (2700 + i) + 2) below (omega arith));
+        agree = agree-less cells (omega arith) (agree-withCell w (most-cells + (most-labels + d)) cell lifts 0 0);
+        length-kept = length-withCell w (most-cells + (most-labels + d)) cell lifts 0 0;
+        cells-same = λ i below. word-kept i (4 * (most-cells + i)) below (omega arith);
+        lifts-same = λ i below. word-kept i (4 * (most-cells + i) + 1) below (omega arith);
+        uses-counted = λ i below. omega (arith, word-kept i (4 * (most-cells + i) + 2) below (omega arith));
       }
 
   -- The slot that was pushed.
   pub slot-pushed : (cells : ℕ) (A : Ty)
-      → 27440 ≤ length w → d < 4096 → cells ≤ 2700 → lifts < 65536 → Denotes w cells cell A
-      → Slot pushed cells (64 + d) (A under lifts)
+      → least-words ≤ length w → d < most-binders → cells ≤ most-cells → lifts < 65536 → Denotes w cells cell A
+      → Slot pushed cells (most-labels + d) (A under lifts)
   slot-pushed cells A room fits h l den =
       let below : cell < cells = row-of den .below in
       record {
         denotes =
             subst (λ j. Denotes pushed cells j A)
-            (sym (kind-written w (2700 + (64 + d)) cell lifts 0 0 (omega arith) (omega arith)))
+            (sym (kind-written w (most-cells + (most-labels + d)) cell lifts 0 0 (omega arith) (omega arith)))
             (denotes-kept (kept-pushed cells h .agree) (omega arith) den);
-        lifts = first-written w (2700 + (64 + d)) cell lifts 0 0 (omega arith) l;
+        lifts = first-written w (most-cells + (most-labels + d)) cell lifts 0 0 (omega arith) l;
       }
 
-  pub uses-pushed : 27440 ≤ length w → d < 4096 → slotUses pushed (64 + d) ≡ 0
-  uses-pushed room fits = second-written w (2700 + (64 + d)) cell lifts 0 0 (omega arith) (omega arith)
+  pub uses-pushed : least-words ≤ length w → d < most-binders → slotUses pushed (most-labels + d) ≡ 0
+  uses-pushed room fits = second-written w (most-cells + (most-labels + d)) cell lifts 0 0 (omega arith) (omega arith)
 
 -- The memory with a binder pushed is ready for the term under that binder.
 pub environment-pushed : {f w : List ℕ} {e cells : ℕ} {L : List Wire} {Γ : List Binder} (d cell lifts : ℕ) (A : Ty)
-    → d ≡ length Γ → d < 4096 → cells ≤ 2700 → lifts < 65536
+    → d ≡ length Γ → d < most-binders → cells ≤ most-cells → lifts < 65536
     → Environment f w e cells L Γ
     → Denotes w cells cell A
     → Environment f (pushed w d cell lifts) e cells L (A under lifts ∷ Γ)
@@ -245,30 +246,30 @@ environment-pushed {f} {w} {e} {cells} {L} {Γ} d cell lifts A is fits h l env d
       room = let r = env .room in omega (arith, kept .length-kept);
       labels-fit = env .labels-fit;
       loaded = loaded-kept (kept .agree) (omega arith) (env .loaded);
-      slots = λ i b q. slot-at i b (eqb i (64 + length Γ)) refl q;
-      uses-fit = λ i below. uses-at i below (eqb i (64 + d)) refl;
+      slots = λ i b q. slot-at i b (eqb i (most-labels + length Γ)) refl q;
+      uses-fit = λ i below. uses-at i below (eqb i (most-labels + d)) refl;
     }
   where
-    kept : Kept w (pushed w d cell lifts) cells (64 + d) (λ i. 0)
+    kept : Kept w (pushed w d cell lifts) cells (most-labels + d) (λ i. 0)
     kept = kept-pushed w d cell lifts cells h
 
-    slot-at : (i : ℕ) (b : Binder) (t : Bool) → eqb i (64 + length Γ) ≡ t
+    slot-at : (i : ℕ) (b : Binder) (t : Bool) → eqb i (most-labels + length Γ) ≡ t
         → cond t (some (A under lifts)) (held L Γ i) ≡ some b
         → Slot (pushed w d cell lifts) cells i b
     slot-at i b true t q =
-        let same : 64 + d ≡ i = omega (arith, eqb-true i (64 + length Γ) t) in
+        let same : most-labels + d ≡ i = omega (arith, eqb-true i (most-labels + length Γ) t) in
         let this : (A under lifts) ≡ b = cc in
         subst (λ j. Slot (pushed w d cell lifts) cells j b) same
-        (subst (λ x. Slot (pushed w d cell lifts) cells (64 + d) x) this
+        (subst (λ x. Slot (pushed w d cell lifts) cells (most-labels + d) x) this
         (slot-pushed w d cell lifts cells A (env .room) fits h l den))
     slot-at i b false t q =
-        let below : i < 64 + d = omega (arith, held-below L Γ i b (env .labels-fit) q) in
+        let below : i < most-labels + d = omega (arith, held-below L Γ i b (env .labels-fit) q) in
         slot-kept (kept .agree) (omega arith) (kept .cells-same i below) (kept .lifts-same i below) (env .slots i b q)
 
-    uses-at : (i : ℕ) → i < 64 + suc (length Γ) → (t : Bool) → eqb i (64 + d) ≡ t
+    uses-at : (i : ℕ) → i < most-labels + suc (length Γ) → (t : Bool) → eqb i (most-labels + d) ≡ t
         → slotUses (pushed w d cell lifts) i ≤ e
     uses-at i below true t =
-        rw (eqb-true i (64 + d) t, uses-pushed w d cell lifts (env .room) fits) (omega arith)
+        rw (eqb-true i (most-labels + d) t, uses-pushed w d cell lifts (env .room) fits) (omega arith)
     uses-at i below false t =
-        let less : i < 64 + d = omega (arith, eqb-false i (64 + d) t) in
+        let less : i < most-labels + d = omega (arith, eqb-false i (most-labels + d) t) in
         omega (arith, kept .uses-counted i less, env .uses-fit i (omega arith))

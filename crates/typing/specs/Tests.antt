@@ -18,6 +18,7 @@ use Rattle.cells.specs.declared.Ruled.the-variants.{Gives, Fails}
 use Rattle.typing.specs.declared.Inferred.the-variants.{Typed, Fault}
 use Rattle.typing.specs.Checking.{crosses, usedWrongly, if-so}
 use Rattle.typing.specs.Layout.{typeCell, coded}
+use Rattle.typing.specs.Layout.{most-labels}
 use Rattle.typing.specs.Heads.{partCount, partsOf}
 use Rattle.typing.specs.Inferring.{Whole, slotAt, entered, sooner, concludes, bindersInside, liftsInside, bindersAfter}
 use Rattle.typing.specs.Scope.{pushed}
@@ -50,11 +51,11 @@ module _ (f : List ℕ) (e binders n : ℕ) (is : n ≡ argumentAt f e) where
   unfolding slotAt
   slot-of-a-label k = rw (k, is)
 
-  pub slot-of-none : (kindAt f e ≡ 17 → ⊥) → binders ≤ n → 64 ≡ slotAt f e binders
+  pub slot-of-none : (kindAt f e ≡ 17 → ⊥) → binders ≤ n → most-labels ≡ slotAt f e binders
   unfolding slotAt
   slot-of-none k h = rw (ne-eqb (kindAt f e) 17 k) (omega arith)
 
-  pub slot-of-a-variable : (kindAt f e ≡ 17 → ⊥) → n < binders → 64 + (binders - 1 - n) ≡ slotAt f e binders
+  pub slot-of-a-variable : (kindAt f e ≡ 17 → ⊥) → n < binders → most-labels + (binders - 1 - n) ≡ slotAt f e binders
   unfolding slotAt
   slot-of-a-variable k h = rw (ne-eqb (kindAt f e) 17 k) (omega arith)
 

@@ -36,6 +36,7 @@ use Rattle.typing.specs.Answers.{tooShort, answerTo, outTo, checkAnswer,
 use Rattle.typing.specs.ReadBack.{labels-read, program-read}
 use Rattle.typing.specs.Loading.{section, section-length, slotsLoaded, program-ready, labels-fresh}
 use Rattle.typing.specs.Deciding.{CellOf, SaysVerdict, decidedAs, verdict-said}
+use Rattle.typing.specs.Layout.{least-words, least-work, most-labels}
 
 -- A file with these sizes is accepted.
 abbrev pub Readable : List ℕ → ℕ → ℕ → Type 0
@@ -75,16 +76,16 @@ handed-on-is a x q = sym (ap handedOn q)
 -- The steps of the check of a file, before the term is looked at.
 module _ (f : List ℕ) (labels types : ℕ) (work w₁ w₂ w₃ : List ℕ) (gates cells : ℕ)
     (readable : Readable f labels types)
-    (room : 54880 ≤ length work) (room₁ : length w₁ ≡ length work)
+    (room : least-work ≤ length work) (room₁ : length w₁ ≡ length work)
     (gates-are : gates ≡ gateCells)
     (first : words w₁ ≡ loadAllGates (words work))
     (codes : List ℕ) (codes-is : codes ≡ take types (drop (6 + labels) f))
     (second : gates + length codes ≤ 65536 → TypesLoaded (words w₁) (words w₂) gates codes cells)
-    (third : words w₃ ≡ slotsLoaded f (words w₂) 64) where
-  long : 27440 ≤ length (words work)
+    (third : words w₃ ≡ slotsLoaded f (words w₂) most-labels) where
+  long : least-words ≤ length (words work)
   long = omega (arith, length-words work)
 
-  long₁ : 27440 ≤ length (words w₁)
+  long₁ : least-words ≤ length (words w₁)
   long₁ = omega (arith, length-words w₁)
 
   codes-are : codes ≡ section f (labelCount f) (typeCount f)
@@ -138,12 +139,12 @@ judgement-said f work work′ (has-type A) r s = s
 judgement-said f work work′ (refusal n p) r s = s
 
 module _ (f work work′ : List ℕ) (r : Core) (answer : ReadAnswer) (is : answer ≡ readOf f)
-    (long : 54880 ≤ length work) where
-  not-short : ltb (length work) 54880 ≡ false
-  not-short = le-ltb (length work) 54880 long
+    (long : least-work ≤ length work) where
+  not-short : ltb (length work) least-work ≡ false
+  not-short = le-ltb (length work) least-work long
 
   at-judged : (j : Judged) → checkOf f ≡ j → SaysCore false j work work′ r
-      → SaysCore (ltb (length work) 54880) (checkOf f) work work′ r
+      → SaysCore (ltb (length work) least-work) (checkOf f) work work′ r
   at-judged j q s =
       subst (λ t. SaysCore t (checkOf f) work work′ r) (sym not-short)
       (subst (λ x. SaysCore false x work work′ r) (sym q) s)
@@ -153,11 +154,11 @@ module _ (f work work′ : List ℕ) (r : Core) (answer : ReadAnswer) (is : answ
   judged-from a q = ap (judgedAs f) (sym is ∙ q)
 
   pub core-refused : (x : Refusal) → answer ≡ NotRead x → r ≡ handedUp answer
-      → SaysCore (ltb (length work) 54880) (checkOf f) work work′ r
+      → SaysCore (ltb (length work) least-work) (checkOf f) work work′ r
   core-refused x q h = at-judged (refuses x) (judged-from (NotRead x) q) (h ∙ ap handedUp q)
 
   pub core-said : (labels types terms : ℕ) → answer ≡ Read labels types terms → SaysFile f (words work′) r
-      → SaysCore (ltb (length work) 54880) (checkOf f) work work′ r
+      → SaysCore (ltb (length work) least-work) (checkOf f) work work′ r
   core-said labels types terms q says =
       at-judged (judged (verdict (labelsOf f) (firstTerm f) (termOf f)))
       (judged-from (Read labels types terms) q)
@@ -177,10 +178,10 @@ readable-of f labels types terms answer is q =
     let trees = read-sound f labels types terms (sym is ∙ q) in
     (trees .0, trees .1, trees .2, trees .3, trees .4)
 
-pub core-short : (f work : List ℕ) → length work < 54880
-    → SaysCore (ltb (length work) 54880) (checkOf f) work work (NotFound (Run 19 0))
+pub core-short : (f work : List ℕ) → length work < least-work
+    → SaysCore (ltb (length work) least-work) (checkOf f) work work (NotFound (Run 19 0))
 core-short f work h =
-    subst (λ t. SaysCore t (checkOf f) work work (NotFound (Run 19 0))) (sym (lt-ltb (length work) 54880 h))
+    subst (λ t. SaysCore t (checkOf f) work work (NotFound (Run 19 0))) (sym (lt-ltb (length work) least-work h))
     (record { answer = refl; untouched = refl })
 
 -- What the core answers says what the check of the file is.
@@ -200,15 +201,15 @@ core-accepts (refuses y) work work′ core cell s q = let z : _≡_ {A = ℕ} 0 
 -- The answer and the buffers of the check, on each way through it.
 module _ (f out work : List ℕ) where
   short-out : length out < 512 → tooShort (length out) (length work) ≡ true
-  short-out h = ap (λ t. t || ltb (length work) 54880) (lt-ltb (length out) 512 h)
+  short-out h = ap (λ t. t || ltb (length work) least-work) (lt-ltb (length out) 512 h)
 
-  short-work : 512 ≤ length out → length work < 54880 → tooShort (length out) (length work) ≡ true
+  short-work : 512 ≤ length out → length work < least-work → tooShort (length out) (length work) ≡ true
   short-work h l =
-      ap (λ t. t || ltb (length work) 54880) (le-ltb (length out) 512 h) ∙ lt-ltb (length work) 54880 l
+      ap (λ t. t || ltb (length work) least-work) (le-ltb (length out) 512 h) ∙ lt-ltb (length work) least-work l
 
-  long-enough : 512 ≤ length out → 54880 ≤ length work → tooShort (length out) (length work) ≡ false
+  long-enough : 512 ≤ length out → least-work ≤ length work → tooShort (length out) (length work) ≡ false
   long-enough h l =
-      ap (λ t. t || ltb (length work) 54880) (le-ltb (length out) 512 h) ∙ le-ltb (length work) 54880 l
+      ap (λ t. t || ltb (length work) least-work) (le-ltb (length out) 512 h) ∙ le-ltb (length work) least-work l
 
   -- 19.
   refuses-short : tooShort (length out) (length work) ≡ true
@@ -228,12 +229,12 @@ module _ (f out work : List ℕ) where
       × ((out ≡ checkOut f out (length work)) × (work ≡ checkWork (length out) work))
   checks-short-out h = refuses-short (short-out h)
 
-  pub checks-short-work : 512 ≤ length out → length work < 54880
+  pub checks-short-work : 512 ≤ length out → length work < least-work
       → (Refused (Run 19 0) ≡ checkAnswer f (length out) (length work))
       × ((out ≡ checkOut f out (length work)) × (work ≡ checkWork (length out) work))
   checks-short-work h l = refuses-short (short-work h l)
 
-  module _ (h : 512 ≤ length out) (l : 54880 ≤ length work) where
+  module _ (h : 512 ≤ length out) (l : least-work ≤ length work) where
     checks-as : (j : Judged) (out′ work′ : List ℕ) (r : CheckAnswer)
         → checkOf f ≡ j → r ≡ answerTo j → out′ ≡ outTo out j → work′ ≡ replicate (length work) 0
         → (r ≡ checkAnswer f (length out) (length work))
@@ -249,9 +250,9 @@ module _ (f out work : List ℕ) where
         )
 
     module _ (work₁ : List ℕ) (core : Core)
-        (said : SaysCore (ltb (length work) 54880) (checkOf f) work work₁ core) where
+        (said : SaysCore (ltb (length work) least-work) (checkOf f) work work₁ core) where
       said-long : SaysCore false (checkOf f) work work₁ core
-      said-long = subst (λ t. SaysCore t (checkOf f) work work₁ core) (le-ltb (length work) 54880 l) said
+      said-long = subst (λ t. SaysCore t (checkOf f) work work₁ core) (le-ltb (length work) least-work l) said
 
       -- A refusal.
       pub checks-refused : (x : Refusal) (work′ : List ℕ) (r : CheckAnswer)

@@ -1,5 +1,6 @@
 // The inference (01, "Typing"): the type of a term on bytes, with the first 16, 17 and 18.
 use crate::Inferred;
+use crate::kinds::GATE;
 use crate::node::binders_after;
 use crate::node::binders_inside;
 use crate::node::finish_one;
@@ -18,9 +19,6 @@ ghost use Rattle.memory.specs.Words.{words};
 ghost use Rattle.program.specs.Format.{kindAt};
 ghost use Rattle.typing.specs.Heads.{partCount};
 ghost use Rattle.typing.specs.Inferring.{Possible, Meets};
-
-// The kind of a gate.
-const GATE: u8 = 26;
 
 // A variable, a label or a gate at entry e.
 pub(crate) fn leaf(
@@ -65,14 +63,9 @@ pub(crate) fn infer(
         return leaf(file, work, e, binders, lifts, cells);
     }
     enter(file, work, e, binders, lifts);
-    let first = infer(
-        file,
-        work,
-        e + 1,
-        binders_inside(kind, binders),
-        lifts_inside(kind, lifts),
-        cells,
-    );
+    let within = binders_inside(kind, binders);
+    let lifted = lifts_inside(kind, lifts);
+    let first = infer(file, work, e + 1, within, lifted, cells);
     if parts == 1 {
         return finish_one(file, work, e, binders, first);
     }
@@ -80,8 +73,7 @@ pub(crate) fn infer(
         cell,
         next,
         cells: more,
-        unused: _,
-        crossing: _,
+        ..
     } = first
     else {
         return first;

@@ -1,12 +1,14 @@
-// The check (01, "Typing" and "When each operation says no", Check). It works in one lent buffer, in rows of four 16-bit
-// words: the cells of types, at most 2,700, and behind them the slots of what is in scope: 64 of labels, then 4,096 of
-// binders, the outermost first. A slot holds the cell of its type, the lifts around it, and its uses so far.
+// The check (01, "Typing" and "When each operation says no", Check).
 pub mod infer;
+pub mod kinds;
+pub mod layout;
 pub mod node;
 pub mod slots;
 pub mod whole;
 
 use cells::write_type;
+use layout::LEAST_OUT;
+use layout::LEAST_WORK;
 use memory::clear;
 use program::ReadAnswer;
 use program::Refusal;
@@ -49,11 +51,6 @@ pub enum CheckAnswer {
     Accepted { length: usize },
     Refused(Refusal),
 }
-
-// The least lengths of the buffers, in bytes.
-pub const LEAST_OUT: usize = 512;
-
-pub const LEAST_WORK: usize = 54880;
 
 // A refusal of the reader, handed up unchanged.
 fn handed_up(answer: ReadAnswer) -> Core

@@ -1,5 +1,13 @@
 // The rules of nodes, and their ends.
 use crate::Inferred;
+use crate::kinds::ABSTRACTION;
+use crate::kinds::APPLICATION;
+use crate::kinds::APPLY;
+use crate::kinds::FORCE;
+use crate::kinds::LET;
+use crate::kinds::LIFT;
+use crate::kinds::PAIR;
+use crate::layout::LABEL_SLOTS;
 use crate::slots::named_cell;
 use crate::slots::unused_at;
 use cells::Ruled;
@@ -19,24 +27,6 @@ ghost use Rattle.memory.specs.Words.{words};
 ghost use Rattle.typing.specs.Heads.{partCount};
 ghost use Rattle.typing.specs.Inferring.{Whole, bindersInside, liftsInside, bindersAfter, sooner, concludes};
 ghost use Rattle.typing.specs.Inferring.{SaysOneRule, SaysOwnOne, EndsOne, SaysTwoRule, SaysOwnTwo, EndsTwo};
-
-// Kinds of terms.
-const ABSTRACTION: u8 = 18;
-
-const APPLICATION: u8 = 19;
-
-const PAIR: u8 = 20;
-
-const LET: u8 = 21;
-
-const LIFT: u8 = 22;
-
-const FORCE: u8 = 23;
-
-const APPLY: u8 = 25;
-
-// The first slot of a binder.
-const BINDERS: usize = 64;
 
 // How many parts an entry of a kind has.
 pub(crate) fn part_count(kind: u8) -> usize
@@ -139,7 +129,7 @@ pub(crate) fn own_one(file: &[u8], work: &[u8], e: usize, binders: usize) -> usi
     ensures { λ r. ⌜ SaysOwnOne (now (file .entry)) (words (now (work .entry))) e binders r ⌝ }
 {
     if kind_at(file, e) == ABSTRACTION {
-        return unused_at(work, BINDERS + binders, e);
+        return unused_at(work, LABEL_SLOTS + binders, e);
     }
     0
 }
@@ -203,8 +193,8 @@ pub(crate) fn own_two(file: &[u8], work: &[u8], e: usize, binders: usize) -> usi
     ensures { λ r. ⌜ SaysOwnTwo (now (file .entry)) (words (now (work .entry))) e binders r ⌝ }
 {
     if kind_at(file, e) == LET {
-        let first = unused_at(work, BINDERS + binders, e);
-        let second = unused_at(work, BINDERS + (binders + 1), e);
+        let first = unused_at(work, LABEL_SLOTS + binders, e);
+        let second = unused_at(work, LABEL_SLOTS + (binders + 1), e);
         return sooner_of(first, second);
     }
     0
@@ -224,10 +214,9 @@ pub(crate) fn finish_two(
 {
     let Inferred::Typed {
         cell: left,
-        next: _,
-        cells: _,
         unused: left_unused,
         crossing: left_crossing,
+        ..
     } = first
     else {
         return first;
@@ -244,11 +233,7 @@ pub(crate) fn finish_two(
     };
     let own = own_two(file, work, e, binders);
     let ruling = two_rule(file, work, e, cells, left, cell);
-    conclude(
-        ruling,
-        e,
-        next,
-        sooner_of(own, sooner_of(left_unused, unused)),
-        sooner_of(left_crossing, crossing),
-    )
+    let unused = sooner_of(own, sooner_of(left_unused, unused));
+    let crossing = sooner_of(left_crossing, crossing);
+    conclude(ruling, e, next, unused, crossing)
 }

@@ -1,5 +1,11 @@
 // Slots of the scope, and the entries that name them.
 use crate::Inferred;
+use crate::kinds::ABSTRACTION;
+use crate::kinds::LABEL;
+use crate::kinds::LET;
+use crate::layout::GATE_CELLS;
+use crate::layout::LABEL_SLOTS;
+use crate::layout::SCOPE;
 use cells::Parts;
 use cells::cell_first;
 use cells::cell_kind;
@@ -11,27 +17,12 @@ use memory::put;
 use program::format::kind_at;
 use program::format::word;
 ghost use mathlib.Core.Path.{_≡_};
-ghost use Prim.Native.Nat.{ℕ, _<_};
+ghost use Prim.Native.Nat.{_<_};
 ghost use Rattle.memory.specs.Words.{words};
 ghost use Rattle.program.specs.Format.{argumentAt};
 ghost use Rattle.typing.specs.Layout.{slotUses, typeCell};
+ghost use Rattle.typing.specs.Scope.{pushed};
 ghost use Rattle.typing.specs.Inferring.{Whole, entered, slotAt, SaysUsed, SaysUsedWrongly, SaysCrosses, SaysBetween};
-
-// The first row of the scope.
-const SCOPE: usize = 2700;
-
-// The first slot of a binder.
-const BINDERS: usize = 64;
-
-// How many cells the gates' types take, with Bit and Qubit.
-const GATE_CELLS: usize = 41;
-
-// Kinds of terms.
-const LABEL: u8 = 17;
-
-const ABSTRACTION: u8 = 18;
-
-const LET: u8 = 21;
 
 // The argument of entry e.
 pub(crate) fn argument_at(file: &[u8], e: usize) -> usize
@@ -68,9 +59,9 @@ pub(crate) fn slot_at(file: &[u8], e: usize, binders: usize) -> usize
         return n;
     }
     if binders <= n {
-        return BINDERS;
+        return LABEL_SLOTS;
     }
-    BINDERS + (binders - 1 - n)
+    LABEL_SLOTS + (binders - 1 - n)
 }
 
 // The 18 of a use at entry e, under so many lifts, of what is bound under so many: one more than its place, or 0.
@@ -120,20 +111,21 @@ pub(crate) fn unused_at(work: &[u8], i: usize, e: usize) -> usize
     e + 1
 }
 
+// Pushes a binder: its slot gets the cell of its type and the lifts around it, and has no uses.
+pub(crate) fn push(work: &mut [u8], binders: usize, cell: usize, lifts: usize)
+    requires { ⌜ binders < 65537 ⌝ }
+    ensures { λ r. ⌜ words (now (work .exit)) ≡ pushed (words (now (work .entry))) binders cell lifts ⌝ }
+{
+    new_cell(work, SCOPE + (LABEL_SLOTS + binders), cell, lifts, 0, 0);
+}
+
 // Before the first part of a node: an abstraction pushes its binder.
 pub(crate) fn enter(file: &[u8], work: &mut [u8], e: usize, binders: usize, lifts: usize)
     requires { ⌜ Whole (now file) × (binders < 65536) ⌝ }
     ensures { λ r. ⌜ words (now (work .exit)) ≡ entered (now (file .entry)) (words (now (work .entry))) e binders lifts ⌝ }
 {
     if kind_at(file, e) == ABSTRACTION {
-        new_cell(
-            work,
-            SCOPE + (BINDERS + binders),
-            named_cell(file, e),
-            lifts,
-            0,
-            0,
-        );
+        push(work, binders, named_cell(file, e), lifts);
     }
 }
 
@@ -157,7 +149,7 @@ pub(crate) fn between(
     let Parts::Both { first, second } = parts else {
         return false;
     };
-    new_cell(work, SCOPE + (BINDERS + binders), first, lifts, 0, 0);
-    new_cell(work, SCOPE + (BINDERS + (binders + 1)), second, lifts, 0, 0);
+    push(work, binders, first, lifts);
+    push(work, binders + 1, second, lifts);
     true
 }

@@ -2,6 +2,8 @@
 use crate::Core;
 use crate::Inferred;
 use crate::infer::infer;
+use crate::layout::LABEL_SLOTS;
+use crate::layout::SCOPE;
 use crate::node::sooner_of;
 use cells::cell_second;
 use cells::load_gates;
@@ -13,15 +15,10 @@ ghost use mathlib.Core.Path.{_≡_};
 ghost use Prim.Native.Nat.{_≤_};
 ghost use lib.ListN.{length};
 ghost use Rattle.memory.specs.Words.{words};
+ghost use Rattle.typing.specs.Layout.{least-work, most-labels};
 ghost use Rattle.typing.specs.Loading.{slotsLoaded};
 ghost use Rattle.typing.specs.Deciding.{wrongUse, settled, decidedAs};
 ghost use Rattle.typing.specs.Whole.{Readable, SaysFile};
-
-// The first row of the scope.
-const SCOPE: usize = 2700;
-
-// 01: "L labels (0 to 64)".
-const MOST_LABELS: usize = 64;
 
 fn wide(x: u8) -> usize
     ensures { λ r. ⌜ r ≡ x ⌝ }
@@ -31,10 +28,10 @@ fn wide(x: u8) -> usize
 
 // Writes the slots of the labels. The cells 0 and 1 are Bit and Qubit, as their kinds are.
 pub(crate) fn load_labels(file: &[u8], work: &mut [u8])
-    ensures { λ r. ⌜ words (now (work .exit)) ≡ slotsLoaded (now (file .entry)) (words (now (work .entry))) 64 ⌝ }
+    ensures { λ r. ⌜ words (now (work .exit)) ≡ slotsLoaded (now (file .entry)) (words (now (work .entry))) most-labels ⌝ }
 {
     let mut i: usize = 0;
-    while i < MOST_LABELS {
+    while i < LABEL_SLOTS {
         new_cell(work, SCOPE + i, wide(kind_at(file, i)), 0, 0, 0);
         i += 1;
     }
@@ -42,7 +39,7 @@ pub(crate) fn load_labels(file: &[u8], work: &mut [u8])
 
 // The first label that is not used exactly once: one more than its entry, or 0.
 pub(crate) fn wrong_label(work: &[u8], labels: usize) -> usize
-    requires { ⌜ labels ≤ 64 ⌝ }
+    requires { ⌜ labels ≤ most-labels ⌝ }
     ensures { λ r. ⌜ r ≡ wrongUse (words (now (work .entry))) 0 labels ⌝ }
 {
     let mut i: usize = 0;
@@ -76,7 +73,7 @@ pub(crate) fn settle(cell: usize, unused: usize, crossing: usize) -> Core
 
 // The answer, by what is found in the term: 16, then 17, labels first, then 18.
 pub(crate) fn decide(work: &[u8], labels: usize, found: Inferred) -> Core
-    requires { ⌜ labels ≤ 64 ⌝ }
+    requires { ⌜ labels ≤ most-labels ⌝ }
     ensures { λ r. ⌜ r ≡ decidedAs (words (now (work .entry))) labels found ⌝ }
 {
     match found {
@@ -96,7 +93,7 @@ pub(crate) fn decide(work: &[u8], labels: usize, found: Inferred) -> Core
 
 // The check of an accepted file with so many labels and types.
 pub(crate) fn check_file(file: &[u8], work: &mut [u8], labels: usize, types: usize) -> Core
-    requires { ⌜ Readable (now file) labels types × (54880 ≤ length (now work)) ⌝ }
+    requires { ⌜ Readable (now file) labels types × (least-work ≤ length (now work)) ⌝ }
     ensures { λ r. ⌜ SaysFile (now (file .entry)) (words (now (work .exit))) r ⌝ }
 {
     let gates = load_gates(work);

@@ -90,22 +90,22 @@ infer-enter-requires t c κs =
     let few = small (s .file .now) (words (s .work .now)) (s .e) (s .binders) (s .lifts) (s .cells) (c .before .before .before .before .before .before .pre .1) in
     (few .whole, omega arith)
 
-infer-add-infer : (t : ℕ) → infer-lts.Need-add-infer (calls t) (infer-at t) infer.Post
-infer-add-infer t c =
-    let s = c .before .before .before .before .before .before .before .before .before .before .args in
-    let few = small (s .file .now) (words (s .work .now)) (s .e) (s .binders) (s .lifts) (s .cells) (c .before .before .before .before .before .before .before .before .before .before .pre .1) in
-    omega arith
-
 infer-binders-inside-requires : (t : ℕ) → infer-lts.Need-binders-inside-requires (calls t) (infer-at t) infer.Post
 infer-binders-inside-requires t c κs =
-    let s = c .before .before .before .before .before .before .before .before .before .before .args in
-    let few = small (s .file .now) (words (s .work .now)) (s .e) (s .binders) (s .lifts) (s .cells) (c .before .before .before .before .before .before .before .before .before .before .pre .1) in
+    let s = c .before .before .before .before .before .before .before .before .before .args in
+    let few = small (s .file .now) (words (s .work .now)) (s .e) (s .binders) (s .lifts) (s .cells) (c .before .before .before .before .before .before .before .before .before .pre .1) in
     omega arith
 
 infer-lifts-inside-requires : (t : ℕ) → infer-lts.Need-lifts-inside-requires (calls t) (infer-at t) infer.Post
 infer-lifts-inside-requires t c κs =
-    let s = c .before .before .before .before .before .before .before .before .before .before .before .args in
-    let few = small (s .file .now) (words (s .work .now)) (s .e) (s .binders) (s .lifts) (s .cells) (c .before .before .before .before .before .before .before .before .before .before .before .pre .1) in
+    let s = c .before .before .before .before .before .before .before .before .before .before .args in
+    let few = small (s .file .now) (words (s .work .now)) (s .e) (s .binders) (s .lifts) (s .cells) (c .before .before .before .before .before .before .before .before .before .before .pre .1) in
+    omega arith
+
+infer-add-infer : (t : ℕ) → infer-lts.Need-add-infer (calls t) (infer-at t) infer.Post
+infer-add-infer t c =
+    let s = c .before .before .before .before .before .before .before .before .before .before .before .before .args in
+    let few = small (s .file .now) (words (s .work .now)) (s .e) (s .binders) (s .lifts) (s .cells) (c .before .before .before .before .before .before .before .before .before .before .before .before .pre .1) in
     omega arith
 
 infer-infer-requires : (t : ℕ) → infer-lts.Need-infer-requires (calls t) (infer-at t) infer.Post
@@ -114,8 +114,8 @@ infer-infer-requires t c κs =
     let few = small (s .file .now) (words (s .work .now)) (s .e) (s .binders) (s .lifts) (s .cells) (c .before .before .before .before .before .before .before .before .before .before .before .before .pre .1) in
     let here = c .before .before .before .before .before .before .before .before .before .before .before .before .pre .0 in (
       omega arith,
-      possible-inside (s .file .now) (words (c .before .before .before .before .before .enter .last .1 .0)) (s .e) (s .binders) (s .lifts) (s .cells) (c .before .before .before .before .before .before .before .before .before .kind-at .result) (c .before .binders-inside .result)
-          (c .lifts-inside .result) (c .before .before .before .before .before .before .before .before .before .kind-at .ensures) (c .before .binders-inside .ensures) (c .lifts-inside .ensures)
+      possible-inside (s .file .now) (words (c .before .before .before .before .before .enter .last .1 .0)) (s .e) (s .binders) (s .lifts) (s .cells) (c .before .before .before .before .before .before .before .before .before .kind-at .result) (c .before .before .binders-inside .result)
+          (c .before .lifts-inside .result) (c .before .before .before .before .before .before .before .before .before .kind-at .ensures) (c .before .before .binders-inside .ensures) (c .before .lifts-inside .ensures)
           (first-possible (words (c .before .before .before .before .before .enter .last .1 .0))
           (λ q. c .before .before .before .before .before .before .before .if1 .left (c .before .before .before .before .before .before .before .before .part-count .ensures ∙ ap partCount (c .before .before .before .before .before .before .before .before .before .kind-at .ensures) ∙ q))
           (c .before .before .before .before .before .enter .ensures)
@@ -137,8 +137,8 @@ infer-returns-2 t c =
     one-meets (words (c .before .before .before .before .before .before .before .before .before .before .before .before .before .enter .last .1 .0)) (words (c .before .before .before .before .before .before .before .infer .last .1 .0)) (words (c .before .before .finish-one .last .1 .0)) (c .before .before .before .before .before .before .before .infer .result) (c .before .before .finish-one .result)
     (ap partCount (sym (c .before .before .before .before .before .before .before .before .before .before .before .before .before .before .before .before .before .kind-at .ensures)) ∙ sym (c .before .before .before .before .before .before .before .before .before .before .before .before .before .before .before .before .part-count .ensures) ∙ c .before .before .before .before .if2 .taken)
     (c .before .before .before .before .before .before .before .before .before .before .before .before .before .enter .ensures)
-    (meets-inside (s .file .now) (words (c .before .before .before .before .before .before .before .before .before .before .before .before .before .enter .last .1 .0)) (s .e) (s .binders) (s .lifts) (s .cells) (c .before .before .before .before .before .before .before .before .before .before .before .before .before .before .before .before .before .kind-at .result) (c .before .before .before .before .before .before .before .before .before .binders-inside .result)
-    (c .before .before .before .before .before .before .before .before .lifts-inside .result) (c .before .before .before .before .before .before .before .before .before .before .before .before .before .before .before .before .before .kind-at .ensures) (c .before .before .before .before .before .before .before .before .before .binders-inside .ensures) (c .before .before .before .before .before .before .before .before .lifts-inside .ensures)
+    (meets-inside (s .file .now) (words (c .before .before .before .before .before .before .before .before .before .before .before .before .before .enter .last .1 .0)) (s .e) (s .binders) (s .lifts) (s .cells) (c .before .before .before .before .before .before .before .before .before .before .before .before .before .before .before .before .before .kind-at .result) (c .before .before .before .before .before .before .before .before .before .before .binders-inside .result)
+    (c .before .before .before .before .before .before .before .before .before .lifts-inside .result) (c .before .before .before .before .before .before .before .before .before .before .before .before .before .before .before .before .before .kind-at .ensures) (c .before .before .before .before .before .before .before .before .before .before .binders-inside .ensures) (c .before .before .before .before .before .before .before .before .before .lifts-inside .ensures)
     (words (c .before .before .before .before .before .before .before .infer .last .1 .0)) (c .before .before .before .before .before .before .before .infer .result) (c .before .before .before .before .before .before .before .infer .ensures))
     (c .before .before .finish-one .ensures)
 
@@ -157,8 +157,8 @@ infer-returns-3 t c =
     first-faults (s .file .now) (words (s .work .now)) (s .e) (s .binders) (s .lifts) (s .cells) (words (c .before .before .before .before .before .before .before .before .before .before .before .enter .last .1 .0)) (words (c .before .before .before .before .before .infer .last .1 .0)) (c .before .before .before .before .before .infer .result)
     (two-left (partCount (kindAt (s .file .now) (s .e))) (partCount-most (kindAt (s .file .now) (s .e))) (λ q. c .before .before .before .before .before .before .before .before .before .before .before .before .before .if1 .left (c .before .before .before .before .before .before .before .before .before .before .before .before .before .before .part-count .ensures ∙ ap partCount (c .before .before .before .before .before .before .before .before .before .before .before .before .before .before .before .kind-at .ensures) ∙ q)) (λ q. c .before .before .if2 .left (c .before .before .before .before .before .before .before .before .before .before .before .before .before .before .part-count .ensures ∙ ap partCount (c .before .before .before .before .before .before .before .before .before .before .before .before .before .before .before .kind-at .ensures) ∙ q)))
     (c .before .before .before .before .before .before .before .before .before .before .before .enter .ensures)
-    (meets-inside (s .file .now) (words (c .before .before .before .before .before .before .before .before .before .before .before .enter .last .1 .0)) (s .e) (s .binders) (s .lifts) (s .cells) (c .before .before .before .before .before .before .before .before .before .before .before .before .before .before .before .kind-at .result) (c .before .before .before .before .before .before .before .binders-inside .result)
-    (c .before .before .before .before .before .before .lifts-inside .result) (c .before .before .before .before .before .before .before .before .before .before .before .before .before .before .before .kind-at .ensures) (c .before .before .before .before .before .before .before .binders-inside .ensures) (c .before .before .before .before .before .before .lifts-inside .ensures)
+    (meets-inside (s .file .now) (words (c .before .before .before .before .before .before .before .before .before .before .before .enter .last .1 .0)) (s .e) (s .binders) (s .lifts) (s .cells) (c .before .before .before .before .before .before .before .before .before .before .before .before .before .before .before .kind-at .result) (c .before .before .before .before .before .before .before .before .binders-inside .result)
+    (c .before .before .before .before .before .before .before .lifts-inside .result) (c .before .before .before .before .before .before .before .before .before .before .before .before .before .before .before .kind-at .ensures) (c .before .before .before .before .before .before .before .before .binders-inside .ensures) (c .before .before .before .before .before .before .before .lifts-inside .ensures)
     (words (c .before .before .before .before .before .infer .last .1 .0)) (c .before .before .before .before .before .infer .result) (c .before .before .before .before .before .infer .ensures))
     (c .enum-told .given .0 .0) (c .enum-told .given .1)
 
@@ -178,8 +178,8 @@ infer-returns-4 t c =
     no-pair (s .file .now) (words (s .work .now)) (s .e) (s .binders) (s .lifts) (s .cells) (words (c .before .before .before .before .before .before .before .before .before .before .before .before .before .before .before .before .before .enter .last .1 .0)) (words (c .before .before .before .before .before .before .before .before .before .before .before .infer .last .1 .0)) (c .before .before .before .before .before .before .before .before .before .before .before .infer .result)
     (two-left (partCount (kindAt (s .file .now) (s .e))) (partCount-most (kindAt (s .file .now) (s .e))) (λ q. c .before .before .before .before .before .before .before .before .before .before .before .before .before .before .before .before .before .before .before .if1 .left (c .before .before .before .before .before .before .before .before .before .before .before .before .before .before .before .before .before .before .before .before .part-count .ensures ∙ ap partCount (c .before .before .before .before .before .before .before .before .before .before .before .before .before .before .before .before .before .before .before .before .before .kind-at .ensures) ∙ q)) (λ q. c .before .before .before .before .before .before .before .before .if2 .left (c .before .before .before .before .before .before .before .before .before .before .before .before .before .before .before .before .before .before .before .before .part-count .ensures ∙ ap partCount (c .before .before .before .before .before .before .before .before .before .before .before .before .before .before .before .before .before .before .before .before .before .kind-at .ensures) ∙ q)))
     (c .before .before .before .before .before .before .before .before .before .before .before .before .before .before .before .before .before .enter .ensures)
-    (meets-inside (s .file .now) (words (c .before .before .before .before .before .before .before .before .before .before .before .before .before .before .before .before .before .enter .last .1 .0)) (s .e) (s .binders) (s .lifts) (s .cells) (c .before .before .before .before .before .before .before .before .before .before .before .before .before .before .before .before .before .before .before .before .before .kind-at .result) (c .before .before .before .before .before .before .before .before .before .before .before .before .before .binders-inside .result)
-    (c .before .before .before .before .before .before .before .before .before .before .before .before .lifts-inside .result) (c .before .before .before .before .before .before .before .before .before .before .before .before .before .before .before .before .before .before .before .before .before .kind-at .ensures) (c .before .before .before .before .before .before .before .before .before .before .before .before .before .binders-inside .ensures) (c .before .before .before .before .before .before .before .before .before .before .before .before .lifts-inside .ensures)
+    (meets-inside (s .file .now) (words (c .before .before .before .before .before .before .before .before .before .before .before .before .before .before .before .before .before .enter .last .1 .0)) (s .e) (s .binders) (s .lifts) (s .cells) (c .before .before .before .before .before .before .before .before .before .before .before .before .before .before .before .before .before .before .before .before .before .kind-at .result) (c .before .before .before .before .before .before .before .before .before .before .before .before .before .before .binders-inside .result)
+    (c .before .before .before .before .before .before .before .before .before .before .before .before .before .lifts-inside .result) (c .before .before .before .before .before .before .before .before .before .before .before .before .before .before .before .before .before .before .before .before .before .kind-at .ensures) (c .before .before .before .before .before .before .before .before .before .before .before .before .before .before .binders-inside .ensures) (c .before .before .before .before .before .before .before .before .before .before .before .before .before .lifts-inside .ensures)
     (words (c .before .before .before .before .before .before .before .before .before .before .before .infer .last .1 .0)) (c .before .before .before .before .before .before .before .before .before .before .before .infer .result) (c .before .before .before .before .before .before .before .before .before .before .before .infer .ensures))
     (p .0) (p .1 .0) (p .1 .1 .0) (p .1 .1 .1 .0) (p .1 .1 .1 .1 .0) (c .before .before .before .before .before .before .first .given .1) (words (c .before .before .before .between .last .1 .0)) (c .before .before .before .between .result) (c .before .before .before .between .ensures)
     (not-true _ (c .if3 .taken))
@@ -200,8 +200,8 @@ infer-infer-requires-2 t c κs =
     second-later (s .file .now) (words (s .work .now)) (s .e) (s .binders) (s .lifts) (s .cells) (words (c .before .before .before .before .before .before .before .before .before .before .before .before .before .before .before .before .before .before .before .enter .last .1 .0)) (words (c .before .before .before .before .before .before .before .before .before .before .before .before .before .infer .last .1 .0)) (c .before .before .before .before .before .before .before .before .before .before .before .before .before .infer .result)
     (two-left (partCount (kindAt (s .file .now) (s .e))) (partCount-most (kindAt (s .file .now) (s .e))) (λ q. c .before .before .before .before .before .before .before .before .before .before .before .before .before .before .before .before .before .before .before .before .before .if1 .left (c .before .before .before .before .before .before .before .before .before .before .before .before .before .before .before .before .before .before .before .before .before .before .part-count .ensures ∙ ap partCount (c .before .before .before .before .before .before .before .before .before .before .before .before .before .before .before .before .before .before .before .before .before .before .before .kind-at .ensures) ∙ q)) (λ q. c .before .before .before .before .before .before .before .before .before .before .if2 .left (c .before .before .before .before .before .before .before .before .before .before .before .before .before .before .before .before .before .before .before .before .before .before .part-count .ensures ∙ ap partCount (c .before .before .before .before .before .before .before .before .before .before .before .before .before .before .before .before .before .before .before .before .before .before .before .kind-at .ensures) ∙ q)))
     (c .before .before .before .before .before .before .before .before .before .before .before .before .before .before .before .before .before .before .before .enter .ensures)
-    (meets-inside (s .file .now) (words (c .before .before .before .before .before .before .before .before .before .before .before .before .before .before .before .before .before .before .before .enter .last .1 .0)) (s .e) (s .binders) (s .lifts) (s .cells) (c .before .before .before .before .before .before .before .before .before .before .before .before .before .before .before .before .before .before .before .before .before .before .before .kind-at .result) (c .before .before .before .before .before .before .before .before .before .before .before .before .before .before .before .binders-inside .result)
-    (c .before .before .before .before .before .before .before .before .before .before .before .before .before .before .lifts-inside .result) (c .before .before .before .before .before .before .before .before .before .before .before .before .before .before .before .before .before .before .before .before .before .before .before .kind-at .ensures) (c .before .before .before .before .before .before .before .before .before .before .before .before .before .before .before .binders-inside .ensures) (c .before .before .before .before .before .before .before .before .before .before .before .before .before .before .lifts-inside .ensures)
+    (meets-inside (s .file .now) (words (c .before .before .before .before .before .before .before .before .before .before .before .before .before .before .before .before .before .before .before .enter .last .1 .0)) (s .e) (s .binders) (s .lifts) (s .cells) (c .before .before .before .before .before .before .before .before .before .before .before .before .before .before .before .before .before .before .before .before .before .before .before .kind-at .result) (c .before .before .before .before .before .before .before .before .before .before .before .before .before .before .before .before .binders-inside .result)
+    (c .before .before .before .before .before .before .before .before .before .before .before .before .before .before .before .lifts-inside .result) (c .before .before .before .before .before .before .before .before .before .before .before .before .before .before .before .before .before .before .before .before .before .before .before .kind-at .ensures) (c .before .before .before .before .before .before .before .before .before .before .before .before .before .before .before .before .binders-inside .ensures) (c .before .before .before .before .before .before .before .before .before .before .before .before .before .before .before .lifts-inside .ensures)
     (words (c .before .before .before .before .before .before .before .before .before .before .before .before .before .infer .last .1 .0)) (c .before .before .before .before .before .before .before .before .before .before .before .before .before .infer .result) (c .before .before .before .before .before .before .before .before .before .before .before .before .before .infer .ensures))
     (p .0) (p .1 .0) (p .1 .1 .0) (p .1 .1 .1 .0) (p .1 .1 .1 .1 .0) (c .before .before .before .before .before .before .before .before .first .given .1) (words (c .before .before .before .before .before .between .last .1 .0)) (c .before .before .before .before .before .between .result) (c .before .before .before .before .before .between .ensures)
     (c .before .before .before .before .before .before .before .before .before .before .before .before .before .before .before .before .before .before .before .before .before .before .before .before .before .before .pre .1)
@@ -212,8 +212,8 @@ infer-infer-requires-2 t c κs =
           (second-possible (s .file .now) (words (s .work .now)) (s .e) (s .binders) (s .lifts) (s .cells) (words (c .before .before .before .before .before .before .before .before .before .before .before .before .before .before .before .before .before .before .before .enter .last .1 .0)) (words (c .before .before .before .before .before .before .before .before .before .before .before .before .before .infer .last .1 .0)) (c .before .before .before .before .before .before .before .before .before .before .before .before .before .infer .result)
           (two-left (partCount (kindAt (s .file .now) (s .e))) (partCount-most (kindAt (s .file .now) (s .e))) (λ q. c .before .before .before .before .before .before .before .before .before .before .before .before .before .before .before .before .before .before .before .before .before .if1 .left (c .before .before .before .before .before .before .before .before .before .before .before .before .before .before .before .before .before .before .before .before .before .before .part-count .ensures ∙ ap partCount (c .before .before .before .before .before .before .before .before .before .before .before .before .before .before .before .before .before .before .before .before .before .before .before .kind-at .ensures) ∙ q)) (λ q. c .before .before .before .before .before .before .before .before .before .before .if2 .left (c .before .before .before .before .before .before .before .before .before .before .before .before .before .before .before .before .before .before .before .before .before .before .part-count .ensures ∙ ap partCount (c .before .before .before .before .before .before .before .before .before .before .before .before .before .before .before .before .before .before .before .before .before .before .before .kind-at .ensures) ∙ q)))
           (c .before .before .before .before .before .before .before .before .before .before .before .before .before .before .before .before .before .before .before .enter .ensures)
-          (meets-inside (s .file .now) (words (c .before .before .before .before .before .before .before .before .before .before .before .before .before .before .before .before .before .before .before .enter .last .1 .0)) (s .e) (s .binders) (s .lifts) (s .cells) (c .before .before .before .before .before .before .before .before .before .before .before .before .before .before .before .before .before .before .before .before .before .before .before .kind-at .result) (c .before .before .before .before .before .before .before .before .before .before .before .before .before .before .before .binders-inside .result)
-          (c .before .before .before .before .before .before .before .before .before .before .before .before .before .before .lifts-inside .result) (c .before .before .before .before .before .before .before .before .before .before .before .before .before .before .before .before .before .before .before .before .before .before .before .kind-at .ensures) (c .before .before .before .before .before .before .before .before .before .before .before .before .before .before .before .binders-inside .ensures) (c .before .before .before .before .before .before .before .before .before .before .before .before .before .before .lifts-inside .ensures)
+          (meets-inside (s .file .now) (words (c .before .before .before .before .before .before .before .before .before .before .before .before .before .before .before .before .before .before .before .enter .last .1 .0)) (s .e) (s .binders) (s .lifts) (s .cells) (c .before .before .before .before .before .before .before .before .before .before .before .before .before .before .before .before .before .before .before .before .before .before .before .kind-at .result) (c .before .before .before .before .before .before .before .before .before .before .before .before .before .before .before .before .binders-inside .result)
+          (c .before .before .before .before .before .before .before .before .before .before .before .before .before .before .before .lifts-inside .result) (c .before .before .before .before .before .before .before .before .before .before .before .before .before .before .before .before .before .before .before .before .before .before .before .kind-at .ensures) (c .before .before .before .before .before .before .before .before .before .before .before .before .before .before .before .before .binders-inside .ensures) (c .before .before .before .before .before .before .before .before .before .before .before .before .before .before .before .lifts-inside .ensures)
           (words (c .before .before .before .before .before .before .before .before .before .before .before .before .before .infer .last .1 .0)) (c .before .before .before .before .before .before .before .before .before .before .before .before .before .infer .result) (c .before .before .before .before .before .before .before .before .before .before .before .before .before .infer .ensures))
           (p .0) (p .1 .0) (p .1 .1 .0) (p .1 .1 .1 .0) (p .1 .1 .1 .1 .0) (c .before .before .before .before .before .before .before .before .first .given .1) (words (c .before .before .before .before .before .between .last .1 .0)) (c .before .before .before .before .before .between .result) (c .before .before .before .before .before .between .ensures)
           (not-false _ (c .before .before .if3 .left))
@@ -236,8 +236,8 @@ infer-returns-5 t c =
     two-meets (s .file .now) (words (s .work .now)) (s .e) (s .binders) (s .lifts) (s .cells) (words (c .before .before .before .before .before .before .before .before .before .before .before .before .before .before .before .before .before .before .before .before .before .before .before .before .before .before .enter .last .1 .0)) (words (c .before .before .before .before .before .before .before .before .before .before .before .before .before .before .before .before .before .before .before .before .infer .last .1 .0)) (c .before .before .before .before .before .before .before .before .before .before .before .before .before .before .before .before .before .before .before .before .infer .result)
     (two-left (partCount (kindAt (s .file .now) (s .e))) (partCount-most (kindAt (s .file .now) (s .e))) (λ q. c .before .before .before .before .before .before .before .before .before .before .before .before .before .before .before .before .before .before .before .before .before .before .before .before .before .before .before .before .if1 .left (c .before .before .before .before .before .before .before .before .before .before .before .before .before .before .before .before .before .before .before .before .before .before .before .before .before .before .before .before .before .part-count .ensures ∙ ap partCount (c .before .before .before .before .before .before .before .before .before .before .before .before .before .before .before .before .before .before .before .before .before .before .before .before .before .before .before .before .before .before .kind-at .ensures) ∙ q)) (λ q. c .before .before .before .before .before .before .before .before .before .before .before .before .before .before .before .before .before .if2 .left (c .before .before .before .before .before .before .before .before .before .before .before .before .before .before .before .before .before .before .before .before .before .before .before .before .before .before .before .before .before .part-count .ensures ∙ ap partCount (c .before .before .before .before .before .before .before .before .before .before .before .before .before .before .before .before .before .before .before .before .before .before .before .before .before .before .before .before .before .before .kind-at .ensures) ∙ q)))
     (c .before .before .before .before .before .before .before .before .before .before .before .before .before .before .before .before .before .before .before .before .before .before .before .before .before .before .enter .ensures)
-    (meets-inside (s .file .now) (words (c .before .before .before .before .before .before .before .before .before .before .before .before .before .before .before .before .before .before .before .before .before .before .before .before .before .before .enter .last .1 .0)) (s .e) (s .binders) (s .lifts) (s .cells) (c .before .before .before .before .before .before .before .before .before .before .before .before .before .before .before .before .before .before .before .before .before .before .before .before .before .before .before .before .before .before .kind-at .result) (c .before .before .before .before .before .before .before .before .before .before .before .before .before .before .before .before .before .before .before .before .before .before .binders-inside .result)
-    (c .before .before .before .before .before .before .before .before .before .before .before .before .before .before .before .before .before .before .before .before .before .lifts-inside .result) (c .before .before .before .before .before .before .before .before .before .before .before .before .before .before .before .before .before .before .before .before .before .before .before .before .before .before .before .before .before .before .kind-at .ensures) (c .before .before .before .before .before .before .before .before .before .before .before .before .before .before .before .before .before .before .before .before .before .before .binders-inside .ensures) (c .before .before .before .before .before .before .before .before .before .before .before .before .before .before .before .before .before .before .before .before .before .lifts-inside .ensures)
+    (meets-inside (s .file .now) (words (c .before .before .before .before .before .before .before .before .before .before .before .before .before .before .before .before .before .before .before .before .before .before .before .before .before .before .enter .last .1 .0)) (s .e) (s .binders) (s .lifts) (s .cells) (c .before .before .before .before .before .before .before .before .before .before .before .before .before .before .before .before .before .before .before .before .before .before .before .before .before .before .before .before .before .before .kind-at .result) (c .before .before .before .before .before .before .before .before .before .before .before .before .before .before .before .before .before .before .before .before .before .before .before .binders-inside .result)
+    (c .before .before .before .before .before .before .before .before .before .before .before .before .before .before .before .before .before .before .before .before .before .before .lifts-inside .result) (c .before .before .before .before .before .before .before .before .before .before .before .before .before .before .before .before .before .before .before .before .before .before .before .before .before .before .before .before .before .before .kind-at .ensures) (c .before .before .before .before .before .before .before .before .before .before .before .before .before .before .before .before .before .before .before .before .before .before .before .binders-inside .ensures) (c .before .before .before .before .before .before .before .before .before .before .before .before .before .before .before .before .before .before .before .before .before .before .lifts-inside .ensures)
     (words (c .before .before .before .before .before .before .before .before .before .before .before .before .before .before .before .before .before .before .before .before .infer .last .1 .0)) (c .before .before .before .before .before .before .before .before .before .before .before .before .before .before .before .before .before .before .before .before .infer .result) (c .before .before .before .before .before .before .before .before .before .before .before .before .before .before .before .before .before .before .before .before .infer .ensures))
     (p .0) (p .1 .0) (p .1 .1 .0) (p .1 .1 .1 .0) (p .1 .1 .1 .1 .0) (c .before .before .before .before .before .before .before .before .before .before .before .before .before .before .before .first .given .1) (words (c .before .before .before .before .before .before .before .before .before .before .before .before .between .last .1 .0)) (c .before .before .before .before .before .before .before .before .before .before .before .before .between .result) (c .before .before .before .before .before .before .before .before .before .before .before .before .between .ensures)
     (not-false _ (c .before .before .before .before .before .before .before .before .before .if3 .left))
@@ -259,9 +259,9 @@ pub +infer-spec : {M : Type 1} → statement M
     (infer-same-length t)
     (infer-returns t)
     (infer-enter-requires t)
-    (infer-add-infer t)
     (infer-binders-inside-requires t)
     (infer-lifts-inside-requires t)
+    (infer-add-infer t)
     (infer-infer-requires t)
     (infer-finish-one-requires t)
     (infer-same-length-2 t)

@@ -35,26 +35,14 @@ returns-2 c =
     (c .before .before .pair-parts .ensures)
     (c .enum-told .given .1)
 
-add-new-cell : tie.Need-add-new-cell
-add-new-cell c = search needs
+push-requires : tie.Need-push-requires
+push-requires c κs = search needs
 
-add-new-cell-2 : tie.Need-add-new-cell-2
-add-new-cell-2 c = search needs
+add-push : tie.Need-add-push
+add-push c = search needs
 
-new-cell-requires : tie.Need-new-cell-requires
-new-cell-requires c κs = search needs
-
-add-new-cell-3 : tie.Need-add-new-cell-3
-add-new-cell-3 c = search needs
-
-add-new-cell-4 : tie.Need-add-new-cell-4
-add-new-cell-4 c = search needs
-
-add-new-cell-5 : tie.Need-add-new-cell-5
-add-new-cell-5 c = search needs
-
-new-cell-requires-2 : tie.Need-new-cell-requires-2
-new-cell-requires-2 c κs = search needs
+push-requires-2 : tie.Need-push-requires-2
+push-requires-2 c κs = search needs
 
 same-length-2 : tie.Need-same-length-2
 same-length-2 c = search needs
@@ -66,10 +54,10 @@ returns-3 c =
     between-pair (s .file .now) (words (s .work .now)) (s .e) (s .binders) (s .lifts) (s .cell) (c .before .before .before .before .before .before .before .before .before .before .before .pair-parts .result)
     (sym (c .before .before .before .before .before .before .before .before .before .before .before .before .before .before .kind-at .ensures) ∙ c .before .before .before .before .before .before .before .before .before .before .before .before .before .if1 .left)
     (c .before .before .before .before .before .before .before .before .before .before .before .pair-parts .ensures)
-    (found .0 .0) (found .0 .1 .0) (words (c .before .before .before .before .before .before .new-cell .last .0)) (words (c .before .before .new-cell2 .last .0))
+    (found .0 .0) (found .0 .1 .0) (words (c .before .before .before .before .before .before .push .last .0)) (words (c .before .before .push2 .last .0))
     (found .1)
-    (c .before .before .before .before .before .before .new-cell .ensures .0)
-    (c .before .before .new-cell2 .ensures .0)
+    (c .before .before .before .before .before .before .push .ensures)
+    (c .before .before .push2 .ensures)
 
 pub between-spec : {M : Type 1} → statement M
 between-spec =
@@ -82,12 +70,8 @@ between-spec =
     enum-told
     same-length
     returns-2
-    add-new-cell
-    add-new-cell-2
-    new-cell-requires
-    add-new-cell-3
-    add-new-cell-4
-    add-new-cell-5
-    new-cell-requires-2
+    push-requires
+    add-push
+    push-requires-2
     same-length-2
     returns-3)

@@ -9,17 +9,11 @@ use Rattle.typing.proofs.slots.enter.Tie as tie
 kind-at-requires : tie.Need-kind-at-requires
 kind-at-requires c κs = search needs
 
-add-new-cell : tie.Need-add-new-cell
-add-new-cell c = search needs
-
-add-new-cell-2 : tie.Need-add-new-cell-2
-add-new-cell-2 c = search needs
-
 named-cell-requires : tie.Need-named-cell-requires
 named-cell-requires c κs = search needs
 
-new-cell-requires : tie.Need-new-cell-requires
-new-cell-requires c κs = search needs
+push-requires : tie.Need-push-requires
+push-requires c κs = search needs
 
 same-length : tie.Need-same-length
 same-length c = search needs
@@ -27,7 +21,7 @@ same-length c = search needs
 returns : tie.Need-returns
 returns c =
     let s = c .before .before .before .before .before .before .before .before .before .args in
-    c .before .before .new-cell .ensures .0
+    c .before .before .push .ensures
     ∙ enters-abstraction (s .file .now) (words (s .work .now)) (s .e) (s .binders) (s .lifts) (c .before .before .before .named-cell .result)
     (sym (c .before .before .before .before .before .before .kind-at .ensures) ∙ c .before .before .before .before .before .if1 .taken)
     (c .before .before .before .named-cell .ensures)
@@ -40,12 +34,4 @@ returns-2 c =
 pub enter-spec : {M : Type 1} → statement M
 enter-spec =
     tie.close
-    (tie.spec
-    kind-at-requires
-    add-new-cell
-    add-new-cell-2
-    named-cell-requires
-    new-cell-requires
-    same-length
-    returns
-    returns-2)
+    (tie.spec kind-at-requires named-cell-requires push-requires same-length returns returns-2)
