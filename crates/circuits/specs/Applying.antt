@@ -1,0 +1,288 @@
+-- What the buffers hold after each step that changes them: apply of a closed circuit or of a gate, box entry, box exit.
+use Prim.Native.Nat.{ℕ, zero, suc, _+_, _≤_, _<_, _%_}
+use native.Mathlib.Omega.{arith}
+use mathlib.Core.Path.{_≡_, refl, sym, _∙_, ap, ap₂, subst}
+use mathlib.Core.Logic.{_⊎_, inl, inr}
+use mathlib.Core.List.{List, [], _∷_, _++_, map}
+use mathlib.Core.Option.{some}
+use lib.ListN.{length, set, take, length-map, length-append}
+use lib.Seq.{getD-set-same, getD-set-other}
+use Rattle.rules.specs.Types.{Wire, Ty, wire, _⊗_, _⊸_, !_, Circ, wires}
+use Rattle.rules.specs.Gates.{_to_, gateTable, gateType, gateOutputs}
+use Rattle.rules.specs.GateCodes.{wiresIn, wiresOut, inputWires}
+use Rattle.rules.specs.Terms.{Tuple, single, both, labels, tupleFrom, Gate, _on_, Boxed, boxed}
+use Rattle.rules.specs.Circuits.{Circuit, circuit, wireCount, outputs, numbers, rename, renameGate, renameTuple, appended}
+use Rattle.rules.specs.Circuits.{returned, gateBoxed}
+use Rattle.rules.specs.Sizes.{closedGates}
+use Rattle.rules.specs.Theorems.Wires.{nth-some-within}
+use Rattle.evaluation.specs.Trees.{preorder, tupleTree}
+use Rattle.evaluation.specs.States.{openGates}
+use Rattle.evaluation.specs.Theorems.Reading.{rename-later}
+use Rattle.circuits.specs.Layout.{Row, row, rowAt, rowWord, gateOf, gateRow, gatesIn, tupleWords, HoldsOpen, closed-from}
+use Rattle.circuits.specs.Layout.{slot-words, HoldsBoxed, HoldsClosed}
+use Rattle.circuits.specs.Gates.{read-back}
+use Rattle.circuits.specs.Copies.{GatesCopied, GatesMoved}
+use Rattle.circuits.specs.Results.{LabelsCollected, resultNodes}
+use Rattle.circuits.specs.Held.{open-kept, open-more, closed-kept, Closes, one-more-closed}
+
+-- The open circuits, the innermost first, and the closed ones, the latest first, stand in the buffers: rows of gates, rows of
+-- closed circuits, results. The gates of the open circuits end before those of the closed ones.
+pub record HoldsCircuits (types : ℕ → Ty) (gs cs : List Row) (results : ℕ → List ℕ) (Cs : List Circuit) (K : List Boxed)
+    : Type 0 where
+  pub open-held : HoldsOpen gs Cs
+  pub closed-held : HoldsClosed types gs cs results K
+  pub fewer : openGates Cs ≤ closed-from
+
+-- At the start the buffers hold the outermost circuit without gates.
+pub nothing-built : (types : ℕ → Ty) (gs cs : List Row) (results : ℕ → List ℕ) (L : List Wire)
+    → HoldsCircuits types gs cs results (circuit L [] ∷ []) []
+nothing-built types gs cs results L = record { open-held = (refl, tt); closed-held = tt; fewer = omega arith }
+
+-- New gates behind those of the innermost circuit, and no other row changed.
+gates-added : (types : ℕ → Ty) (gs gs′ cs : List Row) (results : ℕ → List ℕ) (I : List Wire) (hs new : List Gate)
+    (Cs : List Circuit) (K : List Boxed)
+    → HoldsCircuits types gs cs results (circuit I hs ∷ Cs) K
+    → gatesIn gs′ (openGates (circuit I hs ∷ Cs)) (length new) ≡ new
+    → ((i : ℕ) → (i < openGates (circuit I hs ∷ Cs)) ⊎ (openGates (circuit I hs ∷ Cs) + length new ≤ i)
+    → rowAt gs′ i ≡ rowAt gs i)
+    → length new + openGates (circuit I hs ∷ Cs) ≤ closed-from
+    → HoldsCircuits types gs′ cs results (circuit I (new ++ hs) ∷ Cs) K
+gates-added types gs gs′ cs results I hs new Cs K held made kept room =
+    record {
+      open-held = open-more gs gs′ I hs new Cs (held .open-held) (λ i h. kept i (inl h)) made;
+      closed-held =
+          closed-kept types gs gs′ cs results K (λ i from below. kept i (inr (omega arith))) (held .closed-held);
+      fewer = omega (arith, length-append new hs);
+    }
+
+-- The gates of a closed circuit are copied behind those of the innermost circuit: this is the circuit that append gives.
+copied-behind : (types : ℕ → Ty) (gs gs′ cs : List Row) (results : ℕ → List ℕ) (I : List Wire) (hs copied : List Gate)
+    (Cs : List Circuit) (K : List Boxed) (k r : Tuple) (T : Ty) (from : ℕ)
+    → HoldsCircuits types gs cs results (circuit I hs ∷ Cs) K
+    → gatesIn gs from (length copied) ≡ copied
+    → GatesCopied gs gs′ from (length copied) (openGates (circuit I hs ∷ Cs)) (labels k) (wireCount (circuit I hs))
+    → length copied + openGates (circuit I hs ∷ Cs) ≤ closed-from
+    → HoldsCircuits types gs′ cs results (appended (circuit I hs) k (boxed T copied r) ∷ Cs) K
+copied-behind types gs gs′ cs results I hs copied Cs K k r T from held stands done room =
+    let next = wireCount (circuit I hs) in
+    let new = map (renameGate (labels k) next) copied in
+    let long : length new ≡ length copied = length-map copied (renameGate (labels k) next) in
+    let top = openGates (circuit I hs ∷ Cs) in
+    gates-added types gs gs′ cs results I hs new Cs K held
+    (ap (gatesIn gs′ top) long ∙ done .copied ∙ ap (map (renameGate (labels k) next)) stands)
+    (λ i. at i)
+    (omega arith)
+  where
+    at : (i : ℕ)
+        → (i < openGates (circuit I hs ∷ Cs))
+        ⊎ (openGates (circuit I hs ∷ Cs) + length (map (renameGate (labels k) (wireCount (circuit I hs))) copied) ≤ i)
+        → rowAt gs′ i ≡ rowAt gs i
+    at i (inl h) = done .kept i (inl h)
+    at i (inr h) =
+        done .kept i (inr (omega (arith, length-map copied (renameGate (labels k) (wireCount (circuit I hs))))))
+
+-- Apply of closed circuit i to the labels of k: after its gates are copied behind those of the innermost circuit, that is the
+-- circuit which append gives.
+pub constant-applied : (types : ℕ → Ty) (gs gs′ cs : List Row) (results : ℕ → List ℕ) (I : List Wire) (hs copied : List Gate)
+    (Cs : List Circuit) (K : List Boxed) (k r : Tuple) (T : Ty) (i before : ℕ) (ws : List ℕ) (n : ℕ)
+    → HoldsCircuits types gs cs results (circuit I hs ∷ Cs) K
+    → HoldsBoxed types gs cs results i before T copied r
+    → LabelsCollected k ws n
+    → GatesCopied gs gs′ (rowWord (rowAt cs i) 1) (rowWord (rowAt cs i) 2) (openGates (circuit I hs ∷ Cs)) (take n ws)
+    (wireCount (circuit I hs))
+    → length copied + openGates (circuit I hs ∷ Cs) ≤ closed-from
+    → HoldsCircuits types gs′ cs results (appended (circuit I hs) k (boxed T copied r) ∷ Cs) K
+constant-applied types gs gs′ cs results I hs copied Cs K k r T i before ws n held h collected done room =
+    copied-behind types gs gs′ cs results I hs copied Cs K k r T (closed-from + before) held (h .gates)
+    (subst
+    (λ ks. GatesCopied gs gs′ (closed-from + before) (length copied) top ks next)
+    (collected .collected)
+    (subst
+    (λ count. GatesCopied gs gs′ (closed-from + before) count top (take n ws) next)
+    (h .many)
+    (subst (λ from. GatesCopied gs gs′ from (rowWord (rowAt cs i) 2) top (take n ws) next) (h .first) done)))
+    room
+  where
+    top : ℕ
+    top = openGates (circuit I hs ∷ Cs)
+
+    next : ℕ
+    next = wireCount (circuit I hs)
+
+-- The result of the closed circuit, loaded with its wires renamed, is the tuple which append gives.
+pub result-returned : (C : Circuit) (k r : Tuple) (T : Ty) (gs : List Gate) (ws : List ℕ) (n : ℕ)
+    → LabelsCollected k ws n
+    → resultNodes r (take n ws) (wireCount C) ≡ preorder (tupleTree (returned C k (boxed T gs r)))
+result-returned (circuit I hs) k r T gs ws n collected =
+    ap (λ ks. resultNodes r ks (wireCount (circuit I hs))) (collected .collected)
+
+-- The number of the next wire: that of the inputs with that of the wires which the gates make; append adds those of the
+-- copied gates.
+pub next-number : (I : List Wire) (hs : List Gate) → wireCount (circuit I hs) ≡ length I + length (outputs hs)
+next-number I hs = length-append I (outputs hs)
+
+outputs-joined : (ks : List ℕ) (next : ℕ) (gs hs : List Gate)
+    → length (outputs (map (renameGate ks next) gs ++ hs)) ≡ length (outputs hs) + length (outputs gs)
+outputs-joined ks next [] hs = omega arith
+outputs-joined ks next ((n on ws) ∷ gs) hs =
+    omega (
+      arith,
+      length-append (outputs (map (renameGate ks next) gs ++ hs)) (gateOutputs n),
+      length-append (outputs gs) (gateOutputs n),
+      outputs-joined ks next gs hs,
+    )
+
+pub next-appended : (C : Circuit) (k r : Tuple) (T : Ty) (gs : List Gate)
+    → wireCount (appended C k (boxed T gs r)) ≡ wireCount C + length (outputs gs)
+next-appended (circuit I hs) k r T gs =
+    omega (
+      arith,
+      next-number I (map (renameGate (labels k) (wireCount (circuit I hs))) gs ++ hs),
+      next-number I hs,
+      outputs-joined (labels k) (wireCount (circuit I hs)) gs hs,
+    )
+
+-- Labels renamed in order are the argument's labels.
+numbers-suc : (m n : ℕ) → numbers (suc m) n ≡ map suc (numbers m n)
+numbers-suc m zero = refl
+numbers-suc m (suc n) = ap (λ l. suc m ∷ l) (numbers-suc (suc m) n)
+
+renamed-suc : (ℓ : ℕ) (ℓs : List ℕ) (next : ℕ) (ws : List ℕ)
+    → map (rename (ℓ ∷ ℓs) next) (map suc ws) ≡ map (rename ℓs next) ws
+renamed-suc ℓ ℓs next [] = refl
+renamed-suc ℓ ℓs next (w ∷ ws) = ap (λ l. rename ℓs next w ∷ l) (renamed-suc ℓ ℓs next ws)
+
+renamed-all : (ℓs : List ℕ) (next : ℕ) → map (rename ℓs next) (numbers 0 (length ℓs)) ≡ ℓs
+renamed-all [] next = refl
+renamed-all (ℓ ∷ ℓs) next =
+    ap
+    (λ l. ℓ ∷ l)
+    (ap (map (rename (ℓ ∷ ℓs) next)) (numbers-suc 0 (length ℓs))
+    ∙ renamed-suc ℓ ℓs next (numbers 0 (length ℓs))
+    ∙ renamed-all ℓs next)
+
+-- A gate applied to as many labels as it takes is that gate on these labels.
+pub gate-appended : (I : List Wire) (hs : List Gate) (k : Tuple) (n : ℕ) (T U : Ty)
+    → length (labels k) ≡ length (wires T)
+    → appended (circuit I hs) k (gateBoxed n T U) ≡ circuit I ((n on labels k) ∷ hs)
+gate-appended I hs k n T U e =
+    let next = wireCount (circuit I hs) in
+    ap
+    (λ ws. circuit I ((n on ws) ∷ hs))
+    (ap (λ j. map (rename (labels k) next) (numbers 0 j)) (sym e) ∙ renamed-all (labels k) next)
+
+numbered-on : (ks : List ℕ) (next j i : ℕ) → i ≡ length ks + j → rename ks next i ≡ next + j
+numbered-on ks next j i e = rename-later ks next i (omega arith) ∙ omega arith
+
+gate-takes : (n : ℕ) (T U : Ty) → gateType n ≡ some (T to U) → wiresIn n ≡ length (wires T)
+unfolding wiresIn
+gate-takes n T U e = ap (λ g. length (inputWires g)) e
+
+-- Its result is the tuple of the wires that it makes, numbered on.
+tuple-renamed : (ks : List ℕ) (next j i : ℕ) (U : Ty)
+    → i ≡ length ks + j
+    → renameTuple ks next (tupleFrom i U) ≡ tupleFrom (next + j) U
+tuple-renamed ks next j i (wire α) e = ap single (numbered-on ks next j i e)
+tuple-renamed ks next j i (A ⊗ B) e =
+    ap₂
+    both
+    (tuple-renamed ks next j i A e)
+    (tuple-renamed ks next (j + length (wires A)) (i + length (wires A)) B (omega arith) ∙ further)
+  where
+    further : tupleFrom (next + (j + length (wires A))) B ≡ tupleFrom (next + j + length (wires A)) B
+    further = let f : next + (j + length (wires A)) ≡ next + j + length (wires A) = omega arith in ap (λ x. tupleFrom x B) f
+tuple-renamed ks next j i (A ⊸ B) e = ap single (numbered-on ks next j i e)
+tuple-renamed ks next j i (! A) e = ap single (numbered-on ks next j i e)
+tuple-renamed ks next j i (Circ A B) e = ap single (numbered-on ks next j i e)
+
+pub gate-returned : (I : List Wire) (hs : List Gate) (k : Tuple) (n : ℕ) (T U : Ty)
+    → length (labels k) ≡ length (wires T)
+    → returned (circuit I hs) k (gateBoxed n T U) ≡ tupleFrom (wireCount (circuit I hs)) U
+gate-returned I hs k n T U e =
+    let next = wireCount (circuit I hs) in
+    let f : next + 0 ≡ next = omega arith in
+    tuple-renamed (labels k) next 0 (length (wires T)) U (omega arith) ∙ ap (λ j. tupleFrom j U) f
+
+pub next-after-gate : (C : Circuit) (k : Tuple) (n : ℕ) (T U : Ty)
+    → wireCount (appended C k (gateBoxed n T U)) ≡ wireCount C + wiresOut n
+unfolding wiresOut
+next-after-gate C k n T U =
+    next-appended C k (tupleFrom (length (wires T)) U) T ((n on numbers 0 (length (wires T))) ∷ [])
+
+-- Apply of a gate: after its row is put behind those of the innermost circuit, this is the circuit that append gives.
+pub gate-applied : (types : ℕ → Ty) (gs gs′ cs : List Row) (results : ℕ → List ℕ) (I : List Wire) (hs : List Gate)
+    (Cs : List Circuit) (K : List Boxed) (k : Tuple) (n : ℕ) (T U : Ty) (ws : List ℕ) (found : ℕ)
+    → HoldsCircuits types gs cs results (circuit I hs ∷ Cs) K
+    → gateType n ≡ some (T to U)
+    → length (labels k) ≡ length (wires T)
+    → LabelsCollected k ws found
+    → gs′ ≡ set gs (openGates (circuit I hs ∷ Cs)) (gateRow ((n % 65536) on take (wiresIn n) ws))
+    → openGates (circuit I hs ∷ Cs) < closed-from
+    → closed-from ≤ length gs
+    → HoldsCircuits types gs′ cs results (appended (circuit I hs) k (gateBoxed n T U) ∷ Cs) K
+gate-applied types gs gs′ cs results I hs Cs K k n T U ws found held e fits collected put room inside =
+    subst (λ C. HoldsCircuits types gs′ cs results (C ∷ Cs) K) (sym (gate-appended I hs k n T U fits))
+    (gates-added types gs gs′ cs results I hs ((n on labels k) ∷ []) Cs K held
+    (ap (λ g. g ∷ []) (ap (λ j. gateOf (rowAt gs′ j)) first ∙ ap gateOf at-top ∙ read-back n (labels k) counted))
+    (λ i. at i)
+    (omega arith))
+  where
+    first : openGates (circuit I hs ∷ Cs) + 0 ≡ openGates (circuit I hs ∷ Cs)
+    first = omega arith
+
+    counted : length (labels k) ≡ wiresIn n
+    counted = fits ∙ sym (gate-takes n T U e)
+
+    low : n % 65536 ≡ n
+    low = let h : n < length gateTable = nth-some-within gateTable n e in omega arith
+
+    all : take (wiresIn n) ws ≡ labels k
+    all = ap (λ j. take j ws) (sym (collected .number ∙ counted)) ∙ collected .collected
+
+    at-top : rowAt gs′ (openGates (circuit I hs ∷ Cs)) ≡ gateRow (n on labels k)
+    at-top =
+        ap (λ rs. rowAt rs (openGates (circuit I hs ∷ Cs))) put
+        ∙ getD-set-same gs (openGates (circuit I hs ∷ Cs)) _ (row 0 0 0 0) (omega arith)
+        ∙ ap₂ (λ m l. gateRow (m on l)) low all
+
+    other : (i : ℕ) → (i ≡ openGates (circuit I hs ∷ Cs) → ⊥) → rowAt gs′ i ≡ rowAt gs i
+    other i f =
+        ap (λ rs. rowAt rs i) put ∙ getD-set-other gs (openGates (circuit I hs ∷ Cs)) i _ (row 0 0 0 0) f
+
+    at : (i : ℕ)
+        → (i < openGates (circuit I hs ∷ Cs)) ⊎ (openGates (circuit I hs ∷ Cs) + 1 ≤ i)
+        → rowAt gs′ i ≡ rowAt gs i
+    at i (inl h) = other i (λ p. omega arith)
+    at i (inr h) = other i (λ p. omega arith)
+
+-- Box entry: the new circuit has no gate yet.
+pub box-entered : (types : ℕ → Ty) (gs cs : List Row) (results : ℕ → List ℕ) (I : List Wire) (Cs : List Circuit)
+    (K : List Boxed)
+    → HoldsCircuits types gs cs results Cs K
+    → HoldsCircuits types gs cs results (circuit I [] ∷ Cs) K
+box-entered types gs cs results I Cs K held =
+    record { open-held = (refl, held .open-held); closed-held = held .closed-held; fewer = omega (arith, held .fewer) }
+
+-- Box exit: after the innermost circuit's gates are moved behind those of the closed circuits, and its row and its result
+-- are put, it is the latest closed circuit.
+pub box-left : (types : ℕ → Ty) (gs gs′ cs cs′ : List Row) (results results′ : ℕ → List ℕ) (I : List Wire) (hs : List Gate)
+    (Cs : List Circuit) (K : List Boxed) (position : ℕ) (k : Tuple)
+    → HoldsCircuits types gs cs results (circuit I hs ∷ Cs) K
+    → GatesMoved gs gs′ (openGates Cs) (length hs) (closed-from + closedGates K)
+    → length (tupleWords k) ≤ slot-words
+    → Closes cs cs′ results results′ (length K)
+    (row position (closed-from + closedGates K) (length hs) (length (tupleWords k)))
+    k
+    → HoldsCircuits types gs′ cs′ results′ Cs (boxed (types position) hs k ∷ K)
+box-left types gs gs′ cs cs′ results results′ I hs Cs K position k held moved short closes =
+    record {
+      open-held =
+          open-kept gs gs′ Cs (λ i h. moved .kept i (inl (omega (arith, held .fewer)))) (held .open-held .1);
+      closed-held =
+          one-more-closed types gs gs′ cs cs′ results results′ K position hs k (held .closed-held)
+          (λ i from below. moved .kept i (inl below))
+          (moved .moved ∙ held .open-held .0)
+          short
+          closes;
+      fewer = omega (arith, held .fewer);
+    }

@@ -1,0 +1,14 @@
+pub mod Layout
+pub mod Rows
+pub mod Gates
+pub mod Copies
+pub mod Nodes
+pub mod Regions
+pub mod Prefixes
+pub mod Tuples
+pub mod Results
+pub mod Writing
+pub mod Outputs
+pub mod Typed
+pub mod Held
+pub mod Applying

@@ -1,0 +1,245 @@
+-- Label tuples as nodes, as the words of a result, and as the tuple of a type's wires.
+use Prim.Native.Nat.{ℕ, zero, suc, _+_, _≤_, _<_, _%_}
+use native.Mathlib.Omega.{arith}
+use mathlib.Core.Path.{_≡_, refl, sym, _∙_, ap, ap₂}
+use mathlib.Core.Bool.{cond}
+use mathlib.Core.List.{List, [], _∷_, _++_, map, append-assoc, append-nil}
+use lib.Dec.{T as IsTrue, eqb}
+use lib.ListN.{length, take, drop, length-append}
+use borrow.Author.Tests.{eq-eqb, ne-eqb}
+use Rattle.rules.specs.Types.{Wire, Bit, Qubit, Ty, wire, _⊗_, _⊸_, !_, Circ, isWireType, wires, entries}
+use Rattle.rules.specs.GateCodes.{wireCode, typeCodes}
+use Rattle.rules.specs.Terms.{Tuple, single, both, labels, tupleFrom}
+use Rattle.rules.specs.Circuits.{rename, renameTuple}
+use Rattle.rules.specs.Theorems.Wires.{and-left, and-right}
+use Rattle.evaluation.specs.Trees.{Node, node, kind, argument, preorder, tupleTree}
+use Rattle.circuits.specs.Layout.{no-wire, tupleWords}
+use Rattle.circuits.specs.Nodes.{nodeAt, no-node}
+use Rattle.circuits.specs.Prefixes.{prefix-next}
+use Rattle.circuits.specs.Copies.{AllBelow, renamed-below}
+
+-- A tuple has as many nodes as words, and at least one.
+pub tuple-size : (k : Tuple) → length (preorder (tupleTree k)) ≡ length (tupleWords k)
+tuple-size (single ℓ) = refl
+tuple-size (both k l) =
+    ap suc (
+    length-append (preorder (tupleTree k)) (preorder (tupleTree l))
+    ∙ ap₂ _+_ (tuple-size k) (tuple-size l)
+    ∙ sym (length-append (tupleWords k) (tupleWords l))
+    )
+
+-- The labels among nodes, in order.
+abbrev pub labelOf : Node → List ℕ
+labelOf n = cond (eqb (kind n) 17) (argument n ∷ []) []
+
+abbrev pub labelNumbers : List Node → List ℕ
+labelNumbers [] = []
+labelNumbers (n ∷ ns) = labelOf n ++ labelNumbers ns
+
+pub labels-append : (ns ms : List Node) → labelNumbers (ns ++ ms) ≡ labelNumbers ns ++ labelNumbers ms
+labels-append [] ms = refl
+labels-append (n ∷ ns) ms =
+    ap (λ l. labelOf n ++ l) (labels-append ns ms)
+    ∙ sym (append-assoc (labelOf n) (labelNumbers ns) (labelNumbers ms))
+
+pub labels-tuple : (k : Tuple) → labelNumbers (preorder (tupleTree k)) ≡ labels k
+labels-tuple (single ℓ) = refl
+labels-tuple (both k l) =
+    labels-append (preorder (tupleTree k)) (preorder (tupleTree l)) ∙ ap₂ _++_ (labels-tuple k) (labels-tuple l)
+
+-- The labels among the nodes passed, and with one node more.
+abbrev pub labelsPassed : List Node → ℕ → ℕ → List ℕ
+labelsPassed ns at i = labelNumbers (take i (drop at ns))
+
+labels-next : (ns : List Node) (at i : ℕ)
+    → at + i < length ns
+    → labelsPassed ns at (i + 1) ≡ labelsPassed ns at i ++ labelOf (nodeAt ns (at + i))
+labels-next ns at i h =
+    ap labelNumbers (prefix-next ns at i no-node h)
+    ∙ labels-append (take i (drop at ns)) (nodeAt ns (at + i) ∷ [])
+    ∙ ap (λ l. labelsPassed ns at i ++ l) (append-nil (labelOf (nodeAt ns (at + i))))
+
+pub label-passed : (ns : List Node) (at i : ℕ)
+    → at + i < length ns
+    → kind (nodeAt ns (at + i)) ≡ 17
+    → labelsPassed ns at (i + 1) ≡ labelsPassed ns at i ++ (argument (nodeAt ns (at + i)) ∷ [])
+label-passed ns at i h e =
+    labels-next ns at i h
+    ∙ ap
+    (λ b. labelsPassed ns at i ++ cond b (argument (nodeAt ns (at + i)) ∷ []) [])
+    (eq-eqb (kind (nodeAt ns (at + i))) 17 e)
+
+pub other-passed : (ns : List Node) (at i : ℕ)
+    → at + i < length ns
+    → (kind (nodeAt ns (at + i)) ≡ 17 → ⊥)
+    → labelsPassed ns at (i + 1) ≡ labelsPassed ns at i
+other-passed ns at i h e =
+    labels-next ns at i h
+    ∙ ap
+    (λ b. labelsPassed ns at i ++ cond b (argument (nodeAt ns (at + i)) ∷ []) [])
+    (ne-eqb (kind (nodeAt ns (at + i))) 17 e)
+    ∙ append-nil (labelsPassed ns at i)
+
+-- The word of a node in a result.
+abbrev pub wordOf : Node → ℕ
+wordOf n = cond (eqb (kind n) 20) no-wire (argument n)
+
+map-append : {A B : Type 0} (f : A → B) (xs ys : List A) → map f (xs ++ ys) ≡ map f xs ++ map f ys
+map-append f [] ys = refl
+map-append f (x ∷ xs) ys = ap (λ l. f x ∷ l) (map-append f xs ys)
+
+pub words-tuple : (k : Tuple) → map wordOf (preorder (tupleTree k)) ≡ tupleWords k
+words-tuple (single ℓ) = refl
+words-tuple (both k l) =
+    ap
+    (λ t. no-wire ∷ t)
+    (map-append wordOf (preorder (tupleTree k)) (preorder (tupleTree l)) ∙ ap₂ _++_ (words-tuple k) (words-tuple l))
+
+-- The node of a word of a result, its wire renamed.
+abbrev pub loadedNode : List ℕ → ℕ → ℕ → Node
+loadedNode ks next w = cond (eqb w no-wire) (node 20 0) (node 17 (rename ks next w % 65536))
+
+all-below-left : (m : ℕ) (xs ys : List ℕ) → AllBelow m (xs ++ ys) → AllBelow m xs
+all-below-left m [] ys h = tt
+all-below-left m (x ∷ xs) ys h = (h .0, all-below-left m xs ys (h .1))
+
+all-below-right : (m : ℕ) (xs ys : List ℕ) → AllBelow m (xs ++ ys) → AllBelow m ys
+all-below-right m [] ys h = h
+all-below-right m (x ∷ xs) ys h = all-below-right m xs ys (h .1)
+
+loaded-label : (ks : List ℕ) (next m ℓ : ℕ)
+    → AllBelow 65536 ks
+    → next + m ≤ no-wire
+    → ℓ < m
+    → loadedNode ks next ℓ ≡ node 17 (rename ks next ℓ)
+loaded-label ks next m ℓ low room below =
+    let small : rename ks next ℓ < 65536 = renamed-below ks next m ℓ low room below in
+    let e : rename ks next ℓ % 65536 ≡ rename ks next ℓ = omega arith in
+    ap
+    (λ b. cond b (node 20 0) (node 17 (rename ks next ℓ % 65536)))
+    (ne-eqb ℓ no-wire (λ p. omega arith))
+    ∙ ap (node 17) e
+
+pub loaded-tuple : (ks : List ℕ) (next m : ℕ) (k : Tuple)
+    → AllBelow 65536 ks
+    → next + m ≤ no-wire
+    → AllBelow m (labels k)
+    → map (loadedNode ks next) (tupleWords k) ≡ preorder (tupleTree (renameTuple ks next k))
+loaded-tuple ks next m (single ℓ) low room below = ap (λ n. n ∷ []) (loaded-label ks next m ℓ low room (below .0))
+loaded-tuple ks next m (both k l) low room below =
+    ap
+    (λ t. node 20 0 ∷ t)
+    (map-append (loadedNode ks next) (tupleWords k) (tupleWords l)
+    ∙ ap₂
+    _++_
+    (loaded-tuple ks next m k low room (all-below-left m (labels k) (labels l) below))
+    (loaded-tuple ks next m l low room (all-below-right m (labels k) (labels l) below)))
+
+-- The nodes of a tuple from the codes of its type: a pair for a pair, else the next label.
+abbrev pub nodeOfCode : ℕ → ℕ → Node
+nodeOfCode ℓ c = cond (eqb c 2) (node 20 0) (node 17 (ℓ % 65536))
+
+abbrev pub labelAfter : ℕ → ℕ → ℕ
+labelAfter ℓ c = cond (eqb c 2) ℓ (ℓ + 1)
+
+abbrev pub nodesOfCodes : ℕ → List ℕ → List Node
+nodesOfCodes ℓ [] = []
+nodesOfCodes ℓ (c ∷ cs) = nodeOfCode ℓ c ∷ nodesOfCodes (labelAfter ℓ c) cs
+
+abbrev pub labelBehind : ℕ → List ℕ → ℕ
+labelBehind ℓ [] = ℓ
+labelBehind ℓ (c ∷ cs) = labelBehind (labelAfter ℓ c) cs
+
+pub nodes-append : (ℓ : ℕ) (cs ds : List ℕ)
+    → nodesOfCodes ℓ (cs ++ ds) ≡ nodesOfCodes ℓ cs ++ nodesOfCodes (labelBehind ℓ cs) ds
+nodes-append ℓ [] ds = refl
+nodes-append ℓ (c ∷ cs) ds = ap (λ t. nodeOfCode ℓ c ∷ t) (nodes-append (labelAfter ℓ c) cs ds)
+
+pub behind-append : (ℓ : ℕ) (cs ds : List ℕ) → labelBehind ℓ (cs ++ ds) ≡ labelBehind (labelBehind ℓ cs) ds
+behind-append ℓ [] ds = refl
+behind-append ℓ (c ∷ cs) ds = behind-append (labelAfter ℓ c) cs ds
+
+pub length-nodesOfCodes : (ℓ : ℕ) (cs : List ℕ) → length (nodesOfCodes ℓ cs) ≡ length cs
+length-nodesOfCodes ℓ [] = refl
+length-nodesOfCodes ℓ (c ∷ cs) = ap suc (length-nodesOfCodes (labelAfter ℓ c) cs)
+
+-- A wire type has no code 2 at a wire.
+wire-code : (ℓ : ℕ) (α : Wire) → nodeOfCode ℓ (wireCode α) ≡ node 17 (ℓ % 65536)
+wire-code ℓ Bit = refl
+wire-code ℓ Qubit = refl
+
+wire-after : (ℓ : ℕ) (α : Wire) → labelAfter ℓ (wireCode α) ≡ ℓ + 1
+wire-after ℓ Bit = refl
+wire-after ℓ Qubit = refl
+
+-- Behind the tuple of a wire type, as many labels are used as it has wires.
+pub behind-type : (ℓ : ℕ) (T : Ty) → IsTrue (isWireType T) → labelBehind ℓ (typeCodes T) ≡ ℓ + length (wires T)
+behind-type ℓ (wire α) t = wire-after ℓ α
+behind-type ℓ (A ⊗ B) t =
+    behind-append ℓ (typeCodes A) (typeCodes B)
+    ∙ ap (λ j. labelBehind j (typeCodes B)) (behind-type ℓ A (and-left (isWireType A) (isWireType B) t))
+    ∙ behind-type (ℓ + length (wires A)) B (and-right (isWireType A) (isWireType B) t)
+    ∙ omega (arith, length-append (wires A) (wires B))
+behind-type ℓ (A ⊸ B) t = absurd t
+behind-type ℓ (! A) t = absurd t
+behind-type ℓ (Circ T U) t = absurd t
+
+-- The nodes from a wire type's codes are those of the tuple of its wires.
+pub nodes-type : (ℓ : ℕ) (T : Ty)
+    → IsTrue (isWireType T)
+    → ℓ + length (wires T) ≤ 65536
+    → nodesOfCodes ℓ (typeCodes T) ≡ preorder (tupleTree (tupleFrom ℓ T))
+nodes-type ℓ (wire α) t room =
+    let e : ℓ % 65536 ≡ ℓ = omega arith in
+    ap (λ n. n ∷ []) (wire-code ℓ α ∙ ap (node 17) e)
+nodes-type ℓ (A ⊗ B) t room =
+    let long : length (wires A ++ wires B) ≡ length (wires A) + length (wires B) = length-append (wires A) (wires B) in
+    ap
+    (λ l. node 20 0 ∷ l)
+    (nodes-append ℓ (typeCodes A) (typeCodes B)
+    ∙ ap₂
+    _++_
+    (nodes-type ℓ A (and-left (isWireType A) (isWireType B) t) (omega arith))
+    (ap (λ j. nodesOfCodes j (typeCodes B)) (behind-type ℓ A (and-left (isWireType A) (isWireType B) t))
+    ∙ nodes-type (ℓ + length (wires A)) B (and-right (isWireType A) (isWireType B) t) (omega arith)))
+nodes-type ℓ (A ⊸ B) t room = absurd t
+nodes-type ℓ (! A) t room = absurd t
+nodes-type ℓ (Circ T U) t room = absurd t
+
+-- How many codes so many wire types take that stand one behind the other; all codes where they run out before.
+unfoldable pub codeSpan : List ℕ → ℕ → ℕ
+codeSpan [] waiting = zero
+codeSpan (c ∷ cs) zero = zero
+codeSpan (c ∷ cs) (suc waiting) = suc (codeSpan cs (cond (eqb c 2) (suc (suc waiting)) waiting))
+
+pub span-none : (cs : List ℕ) → codeSpan cs 0 ≡ 0
+unfolding codeSpan
+span-none [] = refl
+span-none (c ∷ cs) = refl
+
+pub span-at-most : (cs : List ℕ) (waiting : ℕ) → codeSpan cs waiting ≤ length cs
+unfolding codeSpan
+span-at-most [] waiting = omega arith
+span-at-most (c ∷ cs) zero = omega arith
+span-at-most (c ∷ cs) (suc waiting) = omega (arith, span-at-most cs (cond (eqb c 2) (suc (suc waiting)) waiting))
+
+wire-waits : (w : ℕ) (α : Wire) → cond (eqb (wireCode α) 2) (suc (suc w)) w ≡ w
+wire-waits w Bit = refl
+wire-waits w Qubit = refl
+
+pub span-type : (T : Ty) (cs : List ℕ) (waiting : ℕ)
+    → IsTrue (isWireType T)
+    → codeSpan (typeCodes T ++ cs) (suc waiting) ≡ entries T + codeSpan cs waiting
+unfolding codeSpan
+span-type (wire α) cs waiting t =
+    ap (λ w. suc (codeSpan cs w)) (wire-waits waiting α) ∙ omega arith
+span-type (A ⊗ B) cs waiting t =
+    rw (append-assoc (typeCodes A) (typeCodes B) cs)
+    (omega (
+      arith,
+      span-type A (typeCodes B ++ cs) (suc waiting) (and-left (isWireType A) (isWireType B) t),
+      span-type B cs waiting (and-right (isWireType A) (isWireType B) t),
+    ))
+span-type (A ⊸ B) cs waiting t = absurd t
+span-type (! A) cs waiting t = absurd t
+span-type (Circ T U) cs waiting t = absurd t

@@ -1,0 +1,211 @@
+-- One turn of each loop that collects, saves, loads or writes a tuple, and what there is when it ends.
+use Prim.Native.Nat.{ℕ, zero, suc, _+_, _-_, _≤_, _<_, _%_}
+use native.Mathlib.Omega.{arith}
+use mathlib.Core.Path.{_≡_, refl, sym, _∙_, ap, ap₂}
+use mathlib.Core.Bool.{Bool, true, false, cond}
+use mathlib.Core.List.{List, [], _∷_, _++_, map}
+use lib.Dec.{T as IsTrue, eqb}
+use lib.ListN.{length, getD, set, take, drop, length-drop, length-map}
+use lib.Seq.{take-suc-set, drop-cons}
+use borrow.Author.Tests.{eq-eqb, ne-eqb}
+use Rattle.rules.specs.Types.{Ty, isWireType, wires, entries}
+use Rattle.rules.specs.GateCodes.{typeCodes, typeCodes-entries}
+use Rattle.rules.specs.Terms.{Tuple, single, both, labels}
+use Rattle.evaluation.specs.Trees.{Node, node, preorder, tupleTree}
+use Rattle.circuits.specs.Layout.{no-wire, tupleWords}
+use Rattle.circuits.specs.Regions.{over, Stands, stands-rest}
+use Rattle.circuits.specs.Prefixes.{over-next, prefix-next, length-prefix, prefix-whole, stands-inside}
+use Rattle.circuits.specs.Copies.{AllBelow}
+use Rattle.circuits.specs.Tuples.{labelsPassed, labelNumbers, labels-tuple, nodeOfCode, labelAfter, nodesOfCodes}
+use Rattle.circuits.specs.Tuples.{labelBehind, nodes-append, behind-append, length-nodesOfCodes, behind-type}
+use Rattle.circuits.specs.Tuples.{nodes-type, codeSpan, span-none, span-at-most, span-type, loadedNode}
+use Rattle.circuits.specs.Tuples.{loaded-tuple, wordOf, words-tuple}
+use Rattle.circuits.specs.Results.{LabelsCollected, ResultFits, resultNodes, TupleWritten}
+
+-- A tuple that stands somewhere ends before the list does.
+pub tuple-inside : (k : Tuple) (ns : List Node) (at : ℕ)
+    → Stands ns at (preorder (tupleTree k))
+    → at + length (preorder (tupleTree k)) ≤ length ns
+tuple-inside (single ℓ) ns at h = stands-inside ns at (node 17 ℓ) [] h
+tuple-inside (both k l) ns at h =
+    stands-inside ns at (node 20 0) (preorder (tupleTree k) ++ preorder (tupleTree l)) h
+
+pub result-inside : (k : Tuple) (ws : List ℕ) (from : ℕ)
+    → Stands ws from (tupleWords k)
+    → from + length (tupleWords k) ≤ length ws
+result-inside (single ℓ) ws from h = stands-inside ws from ℓ [] h
+result-inside (both k l) ws from h = stands-inside ws from no-wire (tupleWords k ++ tupleWords l) h
+
+-- One more word is written behind others.
+pub collected-more : (ws ws′ ls ls′ : List ℕ) (found a : ℕ)
+    → take found ws ≡ ls
+    → found < length ws
+    → a < 65536
+    → ws′ ≡ set ws found (a % 65536)
+    → ls′ ≡ ls ++ (a ∷ [])
+    → take (found + 1) ws′ ≡ ls′
+collected-more ws ws′ ls ls′ found a e inside small written more =
+    let low : a % 65536 ≡ a = omega arith in
+    let next : found + 1 ≡ suc found = omega arith in
+    ap₂ take next written
+    ∙ take-suc-set ws found (a % 65536) inside
+    ∙ ap₂ (λ l x. l ++ (x ∷ [])) e low
+    ∙ sym more
+
+-- All labels of a tuple are collected.
+pub all-collected : (k : Tuple) (ns : List Node) (ws : List ℕ) (at count found : ℕ)
+    → Stands ns at (preorder (tupleTree k))
+    → count ≡ length (preorder (tupleTree k))
+    → found ≡ length (labelsPassed ns at count)
+    → take found ws ≡ labelsPassed ns at count
+    → LabelsCollected k ws found
+all-collected k ns ws at count found stands whole number taken =
+    let passed : labelsPassed ns at count ≡ labels k
+    = ap labelNumbers (prefix-whole ns at count (preorder (tupleTree k)) stands whole) ∙ labels-tuple k in
+    record { number = number ∙ ap length passed; collected = taken ∙ passed }
+
+-- One more element is written, made of one more that is read.
+pub mapped-next : {A B : Type 0} (f : A → B) (d : A) (l : List A) (at : ℕ) (t t₁ t₂ : List B) (to i : ℕ) (y : B)
+    → at + i < length l
+    → to + i < length t
+    → t₁ ≡ over t to (map f (take i (drop at l)))
+    → y ≡ f (getD l (at + i) d)
+    → t₂ ≡ set t₁ (to + i) y
+    → t₂ ≡ over t to (map f (take (i + 1) (drop at l)))
+mapped-next {A} {B} f d l at t t₁ t₂ to i y inside room sofar made written =
+    let xs = take i (drop at l) in
+    let long : length (map f xs) ≡ i = length-map xs f ∙ length-prefix l at i (omega arith) in
+    written
+    ∙ ap₂ (λ s x. set s (to + i) x) sofar made
+    ∙ over-next t to (map f xs) (f (getD l (at + i) d)) i long room
+    ∙ ap (over t to) (sym (map-snoc xs (getD l (at + i) d)) ∙ ap (map f) (sym (prefix-next l at i d inside)))
+  where
+    map-snoc : (xs : List A) (x : A) → map f (xs ++ (x ∷ [])) ≡ map f xs ++ (f x ∷ [])
+    map-snoc [] x = refl
+    map-snoc (z ∷ xs) x = ap (λ l. f z ∷ l) (map-snoc xs x)
+
+-- A whole tuple is saved, and a whole result is loaded.
+pub all-saved : (k : Tuple) (ns : List Node) (ws ws′ : List ℕ) (at count from : ℕ)
+    → Stands ns at (preorder (tupleTree k))
+    → count ≡ length (preorder (tupleTree k))
+    → ws′ ≡ over ws from (map wordOf (take count (drop at ns)))
+    → ws′ ≡ over ws from (tupleWords k)
+all-saved k ns ws ws′ at count from stands whole written =
+    written
+    ∙ ap
+    (over ws from)
+    (ap (map wordOf) (prefix-whole ns at count (preorder (tupleTree k)) stands whole) ∙ words-tuple k)
+
+pub all-loaded : (k : Tuple) (m : ℕ) (ws : List ℕ) (ns ns′ : List Node) (ks : List ℕ) (from count size to available n next : ℕ)
+    → ResultFits k m ws from count size to available n next
+    → AllBelow 65536 ks
+    → ns′ ≡ over ns to (map (loadedNode ks next) (take count (drop from ws)))
+    → ns′ ≡ over ns to (resultNodes k ks next)
+all-loaded k m ws ns ns′ ks from count size to available n next fits low written =
+    written
+    ∙ ap
+    (over ns to)
+    (ap (map (loadedNode ks next)) (prefix-whole ws from count (tupleWords k) (fits .stands) (fits .whole))
+    ∙ loaded-tuple ks next m k low (fits .room) (fits .below))
+
+pub ne-zero : (n : ℕ) → (n ≡ 0 → ⊥) → 0 < n
+ne-zero zero h = absurd (h refl)
+ne-zero (suc n) h = omega arith
+
+-- Where codes have run out, nothing is left to take.
+pub span-past : (cs : List ℕ) (at waiting : ℕ) → length cs ≤ at → codeSpan (drop at cs) waiting ≡ 0
+span-past cs at waiting h = omega (arith, span-at-most (drop at cs) waiting, length-drop at cs)
+
+-- A pair waits for one more type; anything else ends one.
+pub span-pair : (cs : List ℕ) (at i waiting : ℕ)
+    → at + i < length cs
+    → getD cs (at + i) 0 ≡ 2
+    → 0 < waiting
+    → i + codeSpan (drop (at + i) cs) waiting ≡ (i + 1) + codeSpan (drop (at + (i + 1)) cs) (waiting + 1)
+unfolding codeSpan
+span-pair cs at i zero h e positive = absurd (omega arith)
+span-pair cs at i (suc w) h e positive =
+    let next : at + (i + 1) ≡ suc (at + i) = omega arith in
+    let more : suc w + 1 ≡ suc (suc w) = omega arith in
+    rw (next, more, drop-cons cs (at + i) 0 h, eq-eqb (getD cs (at + i) 0) 2 e) (omega arith)
+
+pub span-wire : (cs : List ℕ) (at i waiting : ℕ)
+    → at + i < length cs
+    → (getD cs (at + i) 0 ≡ 2 → ⊥)
+    → 0 < waiting
+    → i + codeSpan (drop (at + i) cs) waiting ≡ (i + 1) + codeSpan (drop (at + (i + 1)) cs) (waiting - 1)
+unfolding codeSpan
+span-wire cs at i zero h e positive = absurd (omega arith)
+span-wire cs at i (suc w) h e positive =
+    let next : at + (i + 1) ≡ suc (at + i) = omega arith in
+    let less : suc w - 1 ≡ w = omega arith in
+    rw (next, less, drop-cons cs (at + i) 0 h, ne-eqb (getD cs (at + i) 0) 2 e) (omega arith)
+
+-- The wire type that stands at a position takes as many codes as it has entries.
+pub span-whole : (T : Ty) (cs : List ℕ) (at : ℕ)
+    → IsTrue (isWireType T)
+    → Stands cs at (typeCodes T)
+    → codeSpan (drop at cs) 1 ≡ entries T
+span-whole T cs at t stands =
+    ap (λ l. codeSpan l 1) (stands-rest cs at (typeCodes T) stands)
+    ∙ omega (
+      arith,
+      span-type T (drop (at + length (typeCodes T)) cs) 0 t,
+      span-none (drop (at + length (typeCodes T)) cs),
+    )
+
+-- The next label, and the nodes with one more.
+pub after-bounds : (ℓ c : ℕ) → (ℓ ≤ labelAfter ℓ c) × (labelAfter ℓ c ≤ ℓ + 1)
+after-bounds ℓ c = by-test (eqb c 2)
+  where
+    by-test : (b : Bool) → (ℓ ≤ cond b ℓ (ℓ + 1)) × (cond b ℓ (ℓ + 1) ≤ ℓ + 1)
+    by-test true = (omega arith, omega arith)
+    by-test false = (omega arith, omega arith)
+
+pub behind-next : (ℓ : ℕ) (cs : List ℕ) (at i : ℕ)
+    → at + i < length cs
+    → labelBehind ℓ (take (i + 1) (drop at cs)) ≡ labelAfter (labelBehind ℓ (take i (drop at cs))) (getD cs (at + i) 0)
+behind-next ℓ cs at i h =
+    ap (labelBehind ℓ) (prefix-next cs at i 0 h)
+    ∙ behind-append ℓ (take i (drop at cs)) (getD cs (at + i) 0 ∷ [])
+
+pub coded-next : (ℓ : ℕ) (cs : List ℕ) (at : ℕ) (t t₁ t₂ : List Node) (to i label code : ℕ)
+    → at + i < length cs
+    → to + i < length t
+    → t₁ ≡ over t to (nodesOfCodes ℓ (take i (drop at cs)))
+    → label ≡ labelBehind ℓ (take i (drop at cs))
+    → code ≡ getD cs (at + i) 0
+    → t₂ ≡ set t₁ (to + i) (nodeOfCode label code)
+    → t₂ ≡ over t to (nodesOfCodes ℓ (take (i + 1) (drop at cs)))
+coded-next ℓ cs at t t₁ t₂ to i label code inside room sofar behind read written =
+    let xs = take i (drop at cs) in
+    let x = getD cs (at + i) 0 in
+    let long : length (nodesOfCodes ℓ xs) ≡ i = length-nodesOfCodes ℓ xs ∙ length-prefix cs at i (omega arith) in
+    written
+    ∙ ap₂ (λ s y. set s (to + i) y) sofar (ap₂ nodeOfCode behind read)
+    ∙ over-next t to (nodesOfCodes ℓ xs) (nodeOfCode (labelBehind ℓ xs) x) i long room
+    ∙ ap (over t to) (
+    sym (nodes-append ℓ xs (x ∷ [])) ∙ ap (nodesOfCodes ℓ) (sym (prefix-next cs at i 0 inside))
+    )
+
+-- The whole tuple of a type's wires is written.
+pub all-written : (T : Ty) (first : ℕ) (cs : List ℕ) (at count : ℕ) (ns ns′ : List Node) (to label : ℕ)
+    → IsTrue (isWireType T)
+    → Stands cs at (typeCodes T)
+    → count ≡ entries T
+    → first + length (wires T) ≤ no-wire
+    → label ≡ labelBehind first (take count (drop at cs))
+    → ns′ ≡ over ns to (nodesOfCodes first (take count (drop at cs)))
+    → TupleWritten T first ns ns′ to count (label - first)
+all-written T first cs at count ns ns′ to label t stands whole room behind written =
+    let codes : take count (drop at cs) ≡ typeCodes T
+    = prefix-whole cs at count (typeCodes T) stands (whole ∙ sym (typeCodes-entries T)) in
+    let last : label ≡ first + length (wires T)
+    = behind ∙ ap (labelBehind first) codes ∙ behind-type first T t in
+    record {
+      nodes =
+          written
+          ∙ ap (over ns to) (ap (nodesOfCodes first) codes ∙ nodes-type first T t (omega arith));
+      entries-written = whole;
+      labels-written = omega arith;
+    }

@@ -1,0 +1,191 @@
+// The gates of circuits, a row each: its number, and the wires that it takes in three slots.
+use crate::rows::put_row;
+use crate::rows::row_word;
+use crate::rows::runs_past;
+ghost use Prim.Native.Nat.{ℕ, _+_, _%_, _≤_, _<_};
+ghost use mathlib.Core.Path.{_≡_};
+ghost use lib.ListN.{length, getD, set, take};
+ghost use Rattle.rules.specs.GateCodes.{wiresIn};
+ghost use Rattle.rules.specs.Terms.{_on_};
+ghost use Rattle.rules.specs.Circuits.{outputs, rename, renameGate};
+ghost use Rattle.memory.specs.Words.{words};
+ghost use Rattle.circuits.specs.Layout.{rowsIn, rowAt, no-wire, gateOf, slotOf, gateRow, gatesIn};
+ghost use Rattle.circuits.specs.Copies.{lowRow, CopyFits, GatesCopied, GatesMoved};
+
+// Rows 0 to 2,047 have the gates of the open circuits, rows 2,048 to 4,095 those of the closed ones.
+pub const CLOSED_FROM: usize = 2048;
+
+pub const GATE_ROWS: usize = 4096;
+
+// How many slots a row has, at least as many as a gate has wires, and what stands in one that is not used.
+pub const GATE_SLOTS: usize = 3;
+
+pub const NO_WIRE: usize = 65535;
+
+// The wire in a slot of the gate in a row; NO_WIRE where it has no such slot.
+pub fn gate_wire(gates: &[u8], row: usize, slot: usize) -> usize
+    ensures { λ r. ⌜ r ≡ slotOf (gateOf (rowAt (rowsIn (now (gates .entry))) row)) slot ⌝ }
+{
+    let number = row_word(gates, row, 0);
+    if rules::wires_in(number) <= slot {
+        return NO_WIRE;
+    }
+    row_word(gates, row, 1 + slot)
+}
+
+// Label k of the first n; NO_WIRE where there is none.
+fn label_at(labels: &[u8], n: usize, k: usize) -> usize
+    ensures { λ r. ⌜ r ≡ getD (take n (words (now (labels .entry)))) k no-wire ⌝ }
+    ensures { λ r. ⌜ r < 65536 ⌝ }
+{
+    if n <= k {
+        return NO_WIRE;
+    }
+    if labels.len() / 2 <= k {
+        return NO_WIRE;
+    }
+    memory::get(labels, k)
+}
+
+// A gate that takes the first labels stands in a row.
+pub fn append_gate(gates: &mut [u8], row: usize, number: usize, labels: &[u8])
+    ensures { λ r. ⌜ rowsIn (now (gates .exit)) ≡ set (rowsIn (now (gates .entry))) row (gateRow ((number % 65536) on take (wiresIn number) (words (now (labels .entry))))) ⌝ }
+{
+    let n = rules::wires_in(number);
+    let first = label_at(labels, n, 0);
+    let second = label_at(labels, n, 1);
+    let third = label_at(labels, n, 2);
+    put_row(gates, row, number, first, second, third);
+}
+
+// The number that a wire of a copied circuit with n inputs gets: the label at its place, or the next numbers on.
+pub(crate) fn renamed(labels: &[u8], n: usize, next: usize, wire: usize) -> usize
+    requires { ⌜ next < 65536 ⌝ }
+    requires { ⌜ wire < 65536 ⌝ }
+    ensures { λ r. ⌜ (n ≤ length (words (now (labels .entry))) → r ≡ rename (take n (words (now (labels .entry)))) next wire) ⌝ }
+{
+    if wire < n {
+        return memory::get(labels, wire);
+    }
+    next + (wire - n)
+}
+
+// The wire in a slot of the gate in a row, renamed; NO_WIRE where it has no such slot.
+fn renamed_slot(
+    gates: &[u8],
+    row: usize,
+    slot: usize,
+    labels: &[u8],
+    n: usize,
+    next: usize,
+) -> usize
+    requires { ⌜ next < 65536 ⌝ }
+    ensures { λ r. ⌜ (n ≤ length (words (now (labels .entry))) → r ≡ slotOf (renameGate (take n (words (now (labels .entry)))) next (gateOf (rowAt (rowsIn (now (gates .entry))) row))) slot) ⌝ }
+{
+    let number = row_word(gates, row, 0);
+    if rules::wires_in(number) <= slot {
+        return NO_WIRE;
+    }
+    let wire = row_word(gates, row, 1 + slot);
+    renamed(labels, n, next, wire)
+}
+
+// The gate in a row is copied to another row with its wires renamed.
+fn copy_gate(gates: &mut [u8], from: usize, to: usize, labels: &[u8], n: usize, next: usize)
+    requires { ⌜ next < 65536 ⌝ }
+    ensures { λ r. ⌜ (n ≤ length (words (now (labels .entry))) → rowsIn (now (gates .exit)) ≡ set (rowsIn (now (gates .entry))) to
+        (lowRow (gateRow (renameGate (take n (words (now (labels .entry)))) next (gateOf (rowAt (rowsIn (now (gates .entry))) from)))))) ⌝ }
+{
+    let number = row_word(gates, from, 0);
+    let first = renamed_slot(gates, from, 0, labels, n, next);
+    let second = renamed_slot(gates, from, 1, labels, n, next);
+    let third = renamed_slot(gates, from, 2, labels, n, next);
+    put_row(gates, to, number, first, second, third);
+}
+
+// The gates of a closed circuit with n inputs are copied, the oldest first, with their wires renamed: an input becomes the
+// label at its place, the others follow on from the next number. Where they do not stand in the buffer, or the rows to be
+// written do not end before them, nothing changes.
+pub fn copy_gates(
+    gates: &mut [u8],
+    from: usize,
+    count: usize,
+    to: usize,
+    labels: &[u8],
+    n: usize,
+    next: usize,
+)
+    ensures { λ r. ⌜ ((m : ℕ) → CopyFits (rowsIn (now (gates .entry))) from count to (length (words (now (labels .entry)))) n next m
+        → GatesCopied (rowsIn (now (gates .entry))) (rowsIn (now (gates .exit))) from count to (take n (words (now (labels .entry)))) next) ⌝ }
+{
+    let rows = gates.len() / 8;
+    if runs_past(rows, from, count) {
+        return;
+    }
+    if runs_past(from, to, count) {
+        return;
+    }
+    if NO_WIRE < next {
+        return;
+    }
+    let mut left = count;
+    while 0 < left {
+        copy_gate(
+            gates,
+            from + (count - left),
+            to + (count - left),
+            labels,
+            n,
+            next,
+        );
+        left -= 1;
+    }
+}
+
+// A row is copied to another.
+fn move_row(gates: &mut [u8], from: usize, to: usize)
+    ensures { λ r. ⌜ rowsIn (now (gates .exit)) ≡ set (rowsIn (now (gates .entry))) to (rowAt (rowsIn (now (gates .entry))) from) ⌝ }
+{
+    let number = row_word(gates, from, 0);
+    let first = row_word(gates, from, 1);
+    let second = row_word(gates, from, 2);
+    let third = row_word(gates, from, 3);
+    put_row(gates, to, number, first, second, third);
+}
+
+// The gates of an open circuit are copied as they are, the oldest first, to rows behind them. Where those rows do not stand
+// in the buffer, or do not start behind the gates, nothing changes.
+pub fn move_gates(gates: &mut [u8], from: usize, count: usize, to: usize)
+    ensures { λ r. ⌜ (from + count ≤ to → to + count ≤ length (rowsIn (now (gates .entry)))
+        → GatesMoved (rowsIn (now (gates .entry))) (rowsIn (now (gates .exit))) from count to) ⌝ }
+{
+    let rows = gates.len() / 8;
+    if runs_past(rows, to, count) {
+        return;
+    }
+    if runs_past(to, from, count) {
+        return;
+    }
+    let mut i: usize = 0;
+    while i < count {
+        move_row(gates, from + i, to + i);
+        i += 1;
+    }
+}
+
+// How many wires the gates of some rows make; 0 where the rows do not stand in the buffer.
+pub fn wires_made(gates: &[u8], from: usize, count: usize) -> usize
+    ensures { λ r. ⌜ (from + count ≤ length (rowsIn (now (gates .entry))) → r ≡ length (outputs (gatesIn (rowsIn (now (gates .entry))) from count))) ⌝ }
+{
+    let rows = gates.len() / 8;
+    if runs_past(rows, from, count) {
+        return 0;
+    }
+    let mut made: usize = 0;
+    let mut i: usize = 0;
+    while i < count {
+        made += rules::wires_out(row_word(gates, from + i, 0));
+        i += 1;
+    }
+    made
+}
