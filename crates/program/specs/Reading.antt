@@ -59,7 +59,7 @@ wiresWrong f e =
     cond (ltb e (labelCount f)) false
     (cond (ltb e (firstTerm f)) (eqb (kindAt f e) 5 && circWrong f e) (eqb (kindAt f e) 24 && boxWrong f e))
 
--- 9: "a variable with no binder; first entry."
+-- 9: "a variable with no binder; first entry." The walk does not run out here: by 8 the section is one whole term.
 abbrev pub scopeAnswer : List ℕ → Walked → ReadAnswer
 scopeAnswer f (To e) = Accepted (labelCount f) (typeCount f) (termCount f)
 scopeAnswer f (Stopped e) = refused 9 e
@@ -68,7 +68,8 @@ scopeAnswer f Out = Accepted (labelCount f) (typeCount f) (termCount f)
 unfoldable pub readScope : List ℕ → ReadAnswer
 readScope f = scopeAnswer f (walkFrom Scope f (termCount f) (firstTerm f) (0 ∷ []))
 
--- 8: "the term section is not one whole term; place E if it runs out, else the first entry left over."
+-- 8: "the term section is not one whole term; place E if it runs out, else the first entry left over." The walk is not
+-- stopped here: by 4 every kind is known.
 abbrev pub wholeAnswer : List ℕ → Walked → ReadAnswer
 wholeAnswer f (To e) = let later = readScope f in cond (eqb e (entryCount f)) later (refused 8 e)
 wholeAnswer f (Stopped e) = refused 8 e

@@ -3,8 +3,8 @@
 use Prim.Native.Nat.{ℕ, zero, suc}
 use mathlib.Core.Path.{_≡_, refl}
 use mathlib.Core.List.{List, [], _∷_}
-use Rattle.rules.specs.Types.{Wire, Qubit, Ty, wire, _⊸_, !_, Circ}
-use Rattle.rules.specs.Terms.{Term, variable, label, gate, abstraction, application, pair, let-in, lift, force}
+use Rattle.rules.specs.Types.{Ty, _⊗_, _⊸_, !_, Circ}
+use Rattle.rules.specs.Terms.{Term, variable, label, gate, abstraction, pair, let-in, lift}
 use Rattle.rules.specs.Cases.{one-label, two-labels, qubit, c1, c2, c3, c4, c5, c6, c7, c8, c9, c10, c11, c12}
 use Rattle.typing.specs.Checking.{has-type, refusal, verdict}
 
@@ -14,6 +14,9 @@ c1-verdict = refl
 
 pub c2-verdict : verdict one-label 1 c2 ≡ has-type qubit
 c2-verdict = refl
+
+pub c3-verdict : verdict two-labels 2 c3 ≡ has-type (qubit ⊗ qubit)
+c3-verdict = refl
 
 pub c4-verdict : verdict one-label 2 c4 ≡ has-type qubit
 c4-verdict = refl
