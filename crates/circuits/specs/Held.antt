@@ -19,7 +19,7 @@ use Rattle.evaluation.specs.Meaning.{circuitAt}
 use Rattle.circuits.specs.Layout.{Row, row, rowAt, rowWord, no-wire, gatesIn, tupleWords, HoldsOpen}
 use Rattle.circuits.specs.Layout.{closed-from, slot-words, slots-each, HoldsBoxed, HoldsCircuit, HoldsClosed}
 use Rattle.circuits.specs.Layout.{fourResults}
-use Rattle.circuits.specs.Regions.{over, Stands, stands-written, stands-before}
+use Rattle.nodes.specs.Regions.{over, Stands, stands-written, stands-before}
 use Rattle.circuits.specs.Gates.{gates-same, gates-more}
 use Rattle.circuits.specs.Copies.{AllBelow, CopyFits}
 use Rattle.circuits.specs.Results.{ResultFits}

@@ -10,7 +10,7 @@ use Rattle.rules.specs.Circuits.{Circuit, circuit}
 use Rattle.rules.specs.Sizes.{closedGates}
 use Rattle.evaluation.specs.States.{openGates}
 use Rattle.memory.specs.Words.{words}
-use Rattle.circuits.specs.Regions.{Stands}
+use Rattle.nodes.specs.Regions.{Stands}
 
 -- A row: four words.
 pub data Row : Type 0 where

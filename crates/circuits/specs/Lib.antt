@@ -2,8 +2,6 @@ pub mod Layout
 pub mod Rows
 pub mod Gates
 pub mod Copies
-pub mod Nodes
-pub mod Regions
 pub mod Prefixes
 pub mod Tuples
 pub mod Results

@@ -12,7 +12,7 @@ use Rattle.rules.specs.Types.{Ty, isWireType, entries}
 use Rattle.rules.specs.Gates.{GateType, _to_, gateTable, gateType}
 use Rattle.rules.specs.GateCodes.{typeCodes, circCodes, typeCode, typeEntries, typeCodes-entries}
 use Rattle.rules.specs.Theorems.Wires.{every-nth, and-left, and-right}
-use Rattle.circuits.specs.Regions.{Stands, stands-first}
+use Rattle.nodes.specs.Regions.{Stands, stands-first}
 use Rattle.circuits.specs.Tuples.{codeSpan, span-none, span-type}
 
 -- The codes of the gate with a number.

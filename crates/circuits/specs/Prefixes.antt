@@ -5,7 +5,7 @@ use mathlib.Core.Path.{_≡_, sym, _∙_, ap}
 use mathlib.Core.List.{List, [], _∷_, _++_}
 use lib.ListN.{length, getD, set, take, drop, length-take, length-drop}
 use lib.Seq.{getD-drop, length-take-le, take-suc}
-use Rattle.circuits.specs.Regions.{over, over-more, Stands}
+use Rattle.nodes.specs.Regions.{over, over-more, Stands}
 
 module _ {A : Type 0} where
   -- One more element is written behind i others.

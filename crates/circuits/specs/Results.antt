@@ -8,7 +8,7 @@ use Rattle.rules.specs.Terms.{Tuple, labels, tupleFrom}
 use Rattle.rules.specs.Circuits.{renameTuple}
 use Rattle.evaluation.specs.Trees.{Node, preorder, tupleTree}
 use Rattle.circuits.specs.Layout.{no-wire, tupleWords}
-use Rattle.circuits.specs.Regions.{over, Stands}
+use Rattle.nodes.specs.Regions.{over, Stands}
 use Rattle.circuits.specs.Copies.{AllBelow}
 
 -- The first words are the labels of a tuple, and this is their number.

@@ -12,9 +12,10 @@ use Rattle.rules.specs.GateCodes.{wireCode, typeCodes}
 use Rattle.rules.specs.Terms.{Tuple, single, both, labels, tupleFrom}
 use Rattle.rules.specs.Circuits.{rename, renameTuple}
 use Rattle.rules.specs.Theorems.Wires.{and-left, and-right}
-use Rattle.evaluation.specs.Trees.{Node, node, kind, argument, preorder, tupleTree}
+use Rattle.evaluation.specs.Trees.{Node, node, kind, argument, Tree, preorder, tupleTree}
+use Rattle.evaluation.specs.Theorems.Tuples.{IsTuple, is-label, is-pair}
 use Rattle.circuits.specs.Layout.{no-wire, tupleWords}
-use Rattle.circuits.specs.Nodes.{nodeAt, no-node}
+use Rattle.nodes.specs.Nodes.{nodeAt, no-node}
 use Rattle.circuits.specs.Prefixes.{prefix-next}
 use Rattle.circuits.specs.Copies.{AllBelow, renamed-below}
 
@@ -27,6 +28,30 @@ tuple-size (both k l) =
     ∙ ap₂ _+_ (tuple-size k) (tuple-size l)
     ∙ sym (length-append (tupleWords k) (tupleWords l))
     )
+
+-- The tuple of a wire type's wires has as many nodes as the type has entries.
+pub tuple-entries : (ℓ : ℕ) (T : Ty) → IsTrue (isWireType T) → length (preorder (tupleTree (tupleFrom ℓ T))) ≡ entries T
+tuple-entries ℓ (wire α) t = refl
+tuple-entries ℓ (A ⊗ B) t =
+    let k = preorder (tupleTree (tupleFrom ℓ A)) in
+    let l = preorder (tupleTree (tupleFrom (ℓ + length (wires A)) B)) in
+    omega (
+      arith,
+      length-append k l,
+      tuple-entries ℓ A (and-left (isWireType A) (isWireType B) t),
+      tuple-entries (ℓ + length (wires A)) B (and-right (isWireType A) (isWireType B) t),
+    )
+tuple-entries ℓ (A ⊸ B) t = absurd t
+tuple-entries ℓ (! A) t = absurd t
+tuple-entries ℓ (Circ T U) t = absurd t
+
+-- No type has more wires than entries.
+pub wires-few : (T : Ty) → length (wires T) ≤ entries T
+wires-few (wire α) = omega arith
+wires-few (A ⊗ B) = omega (arith, length-append (wires A) (wires B), wires-few A, wires-few B)
+wires-few (A ⊸ B) = omega arith
+wires-few (! A) = omega arith
+wires-few (Circ T U) = omega arith
 
 -- The labels among nodes, in order.
 abbrev pub labelOf : Node → List ℕ
@@ -42,10 +67,12 @@ labels-append (n ∷ ns) ms =
     ap (λ l. labelOf n ++ l) (labels-append ns ms)
     ∙ sym (append-assoc (labelOf n) (labelNumbers ns) (labelNumbers ms))
 
-pub labels-tuple : (k : Tuple) → labelNumbers (preorder (tupleTree k)) ≡ labels k
-labels-tuple (single ℓ) = refl
-labels-tuple (both k l) =
-    labels-append (preorder (tupleTree k)) (preorder (tupleTree l)) ∙ ap₂ _++_ (labels-tuple k) (labels-tuple l)
+pub labels-tree : {v : Tree} {k : Tuple} → IsTuple v k → labelNumbers (preorder v) ≡ labels k
+labels-tree (is-label {n = n} e) = ap (λ b. cond b (argument n ∷ []) [] ++ []) (eq-eqb (kind n) 17 e)
+labels-tree (is-pair {n = n} {t = t} {u = u} {k = k} {l = l} e i j) =
+    ap (λ b. cond b (argument n ∷ []) [] ++ labelNumbers (preorder t ++ preorder u)) (ne-eqb (kind n) 17 (λ h. omega arith))
+    ∙ labels-append (preorder t) (preorder u)
+    ∙ ap₂ _++_ (labels-tree i) (labels-tree j)
 
 -- The labels among the nodes passed, and with one node more.
 abbrev pub labelsPassed : List Node → ℕ → ℕ → List ℕ
@@ -88,12 +115,14 @@ map-append : {A B : Type 0} (f : A → B) (xs ys : List A) → map f (xs ++ ys) 
 map-append f [] ys = refl
 map-append f (x ∷ xs) ys = ap (λ l. f x ∷ l) (map-append f xs ys)
 
-pub words-tuple : (k : Tuple) → map wordOf (preorder (tupleTree k)) ≡ tupleWords k
-words-tuple (single ℓ) = refl
-words-tuple (both k l) =
-    ap
-    (λ t. no-wire ∷ t)
-    (map-append wordOf (preorder (tupleTree k)) (preorder (tupleTree l)) ∙ ap₂ _++_ (words-tuple k) (words-tuple l))
+pub words-tree : {v : Tree} {k : Tuple} → IsTuple v k → map wordOf (preorder v) ≡ tupleWords k
+words-tree (is-label {n = n} e) =
+    ap (λ b. cond b no-wire (argument n) ∷ []) (ne-eqb (kind n) 20 (λ h. omega arith))
+words-tree (is-pair {n = n} {t = t} {u = u} e i j) =
+    ap₂
+    (λ b l. cond b no-wire (argument n) ∷ l)
+    (eq-eqb (kind n) 20 e)
+    (map-append wordOf (preorder t) (preorder u) ∙ ap₂ _++_ (words-tree i) (words-tree j))
 
 -- The node of a word of a result, its wire renamed.
 abbrev pub loadedNode : List ℕ → ℕ → ℕ → Node

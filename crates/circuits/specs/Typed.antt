@@ -1,7 +1,7 @@
 -- What the typing rules say of circuits and tuples: how many wires there are, and below which number they are.
 use Prim.Native.Nat.{ℕ, zero, suc, _+_, _*_, _≤_, _<_}
 use native.Mathlib.Omega.{arith}
-use mathlib.Core.Path.{_≡_, refl, sym, _∙_, ap, ap₂}
+use mathlib.Core.Path.{_≡_, sym, _∙_, ap}
 use mathlib.Core.List.{List, [], _∷_, _++_, append-assoc}
 use mathlib.Core.Option.{Option, some}
 use lib.ListN.{length, length-append}
@@ -15,6 +15,7 @@ use Rattle.rules.specs.Typing.{Shares, nowhere, left, right, copied, Never, Lab
 use Rattle.rules.specs.Typing.{by-circ, by-tuple}
 use Rattle.rules.specs.Theorems.Wires.{nth-some-within}
 use Rattle.evaluation.specs.Trees.{preorder, tupleTree}
+use Rattle.evaluation.specs.Theorems.Typed.{nodes-typed}
 use Rattle.circuits.specs.Layout.{gate-slots}
 use Rattle.circuits.specs.Gates.{few-out}
 use Rattle.circuits.specs.Copies.{AllBelow, WiresBelow}
@@ -90,26 +91,6 @@ labels-below (both k l) m known (by-tuple b split-end s d e) =
     all-below-append m (labels k) (labels l)
     (labels-below k m (λ ℓ α p. known ℓ α (shares-left (s ℓ) p)) d)
     (labels-below l m (λ ℓ α p. known ℓ α (shares-right (s ℓ) p)) e)
-
--- A typed tuple has as many labels as its type has wires, and as many nodes as it has entries.
-pub labels-typed : (k : Tuple) {Q : LabelContext} {T : Ty} → [] ∣ Q ⊢ tuple k ∶ T → length (labels k) ≡ length (wires T)
-labels-typed (single ℓ) (by-label p o) = refl
-labels-typed (both k l) (by-tuple {A = A} {B = B} b split-end s d e) =
-    length-append (labels k) (labels l)
-    ∙ ap₂ _+_ (labels-typed k d) (labels-typed l e)
-    ∙ sym (length-append (wires A) (wires B))
-
-pub nodes-typed : (k : Tuple) {Q : LabelContext} {T : Ty}
-    → [] ∣ Q ⊢ tuple k ∶ T
-    → length (preorder (tupleTree k)) ≡ entries T
-nodes-typed (single ℓ) (by-label p o) = refl
-nodes-typed (both k l) (by-tuple {A = A} {B = B} b split-end s d e) =
-    omega (
-      arith,
-      length-append (preorder (tupleTree k)) (preorder (tupleTree l)),
-      nodes-typed k d,
-      nodes-typed l e,
-    )
 
 -- A circuit constant's gates take wires that it has made, and the labels of its result are such wires.
 pub record ConstantBelow (T U : Ty) (gs : List Gate) (r : Tuple) : Type 0 where

@@ -11,24 +11,26 @@ use borrow.Author.Tests.{eq-eqb, ne-eqb}
 use Rattle.rules.specs.Types.{Ty, isWireType, wires, entries}
 use Rattle.rules.specs.GateCodes.{typeCodes, typeCodes-entries}
 use Rattle.rules.specs.Terms.{Tuple, single, both, labels}
-use Rattle.evaluation.specs.Trees.{Node, node, preorder, tupleTree}
+use mathlib.Core.Option.{some}
+use Rattle.evaluation.specs.Trees.{Node, node, Tree, leaf, one, two, preorder, tupleOfTree}
+use Rattle.evaluation.specs.Theorems.Tuples.{is-tuple}
 use Rattle.circuits.specs.Layout.{no-wire, tupleWords}
-use Rattle.circuits.specs.Regions.{over, Stands, stands-rest}
+use Rattle.nodes.specs.Regions.{over, Stands, stands-rest}
 use Rattle.circuits.specs.Prefixes.{over-next, prefix-next, length-prefix, prefix-whole, stands-inside}
 use Rattle.circuits.specs.Copies.{AllBelow}
-use Rattle.circuits.specs.Tuples.{labelsPassed, labelNumbers, labels-tuple, nodeOfCode, labelAfter, nodesOfCodes}
+use Rattle.circuits.specs.Tuples.{labelsPassed, labelNumbers, labels-tree, nodeOfCode, labelAfter, nodesOfCodes}
 use Rattle.circuits.specs.Tuples.{labelBehind, nodes-append, behind-append, length-nodesOfCodes, behind-type}
 use Rattle.circuits.specs.Tuples.{nodes-type, codeSpan, span-none, span-at-most, span-type, loadedNode}
-use Rattle.circuits.specs.Tuples.{loaded-tuple, wordOf, words-tuple}
+use Rattle.circuits.specs.Tuples.{loaded-tuple, wordOf, words-tree}
 use Rattle.circuits.specs.Results.{LabelsCollected, ResultFits, resultNodes, TupleWritten}
 
--- A tuple that stands somewhere ends before the list does.
-pub tuple-inside : (k : Tuple) (ns : List Node) (at : ℕ)
-    → Stands ns at (preorder (tupleTree k))
-    → at + length (preorder (tupleTree k)) ≤ length ns
-tuple-inside (single ℓ) ns at h = stands-inside ns at (node 17 ℓ) [] h
-tuple-inside (both k l) ns at h =
-    stands-inside ns at (node 20 0) (preorder (tupleTree k) ++ preorder (tupleTree l)) h
+-- A tree that stands somewhere ends before the list does, and so does a result.
+pub tree-inside : (v : Tree) (ns : List Node) (at : ℕ)
+    → Stands ns at (preorder v)
+    → at + length (preorder v) ≤ length ns
+tree-inside (leaf n) ns at h = stands-inside ns at n [] h
+tree-inside (one n t) ns at h = stands-inside ns at n (preorder t) h
+tree-inside (two n t u) ns at h = stands-inside ns at n (preorder t ++ preorder u) h
 
 pub result-inside : (k : Tuple) (ws : List ℕ) (from : ℕ)
     → Stands ws from (tupleWords k)
@@ -53,15 +55,16 @@ collected-more ws ws′ ls ls′ found a e inside small written more =
     ∙ sym more
 
 -- All labels of a tuple are collected.
-pub all-collected : (k : Tuple) (ns : List Node) (ws : List ℕ) (at count found : ℕ)
-    → Stands ns at (preorder (tupleTree k))
-    → count ≡ length (preorder (tupleTree k))
+pub all-collected : (v : Tree) (k : Tuple) (ns : List Node) (ws : List ℕ) (at count found : ℕ)
+    → tupleOfTree v ≡ some k
+    → Stands ns at (preorder v)
+    → count ≡ length (preorder v)
     → found ≡ length (labelsPassed ns at count)
     → take found ws ≡ labelsPassed ns at count
     → LabelsCollected k ws found
-all-collected k ns ws at count found stands whole number taken =
+all-collected v k ns ws at count found e stands whole number taken =
     let passed : labelsPassed ns at count ≡ labels k
-    = ap labelNumbers (prefix-whole ns at count (preorder (tupleTree k)) stands whole) ∙ labels-tuple k in
+    = ap labelNumbers (prefix-whole ns at count (preorder v) stands whole) ∙ labels-tree (is-tuple v k e) in
     record { number = number ∙ ap length passed; collected = taken ∙ passed }
 
 -- One more element is written, made of one more that is read.
@@ -85,16 +88,17 @@ mapped-next {A} {B} f d l at t t₁ t₂ to i y inside room sofar made written =
     map-snoc (z ∷ xs) x = ap (λ l. f z ∷ l) (map-snoc xs x)
 
 -- A whole tuple is saved, and a whole result is loaded.
-pub all-saved : (k : Tuple) (ns : List Node) (ws ws′ : List ℕ) (at count from : ℕ)
-    → Stands ns at (preorder (tupleTree k))
-    → count ≡ length (preorder (tupleTree k))
+pub all-saved : (v : Tree) (k : Tuple) (ns : List Node) (ws ws′ : List ℕ) (at count from : ℕ)
+    → tupleOfTree v ≡ some k
+    → Stands ns at (preorder v)
+    → count ≡ length (preorder v)
     → ws′ ≡ over ws from (map wordOf (take count (drop at ns)))
     → ws′ ≡ over ws from (tupleWords k)
-all-saved k ns ws ws′ at count from stands whole written =
+all-saved v k ns ws ws′ at count from e stands whole written =
     written
     ∙ ap
     (over ws from)
-    (ap (map wordOf) (prefix-whole ns at count (preorder (tupleTree k)) stands whole) ∙ words-tuple k)
+    (ap (map wordOf) (prefix-whole ns at count (preorder v) stands whole) ∙ words-tree (is-tuple v k e))
 
 pub all-loaded : (k : Tuple) (m : ℕ) (ws : List ℕ) (ns ns′ : List Node) (ks : List ℕ) (from count size to available n next : ℕ)
     → ResultFits k m ws from count size to available n next

@@ -2,6 +2,5 @@
 // closed ones. docs/FORMATS.md has the layout.
 pub mod closed;
 pub mod gates;
-pub mod nodes;
 pub mod rows;
 pub mod tuples;

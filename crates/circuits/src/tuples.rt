@@ -1,10 +1,10 @@
 // Label tuples: as nodes of a term, as the results of closed circuits, and as the tuple of a type's wires.
 use crate::gates::NO_WIRE;
 use crate::gates::renamed;
-use crate::nodes::argument_at;
-use crate::nodes::kind_at;
-use crate::nodes::put_node;
 use crate::rows::runs_past;
+use nodes::argument_at;
+use nodes::kind_at;
+use nodes::put_node;
 ghost use Prim.Native.Nat.{ℕ, _+_, _^_, _≤_, _<_};
 ghost use mathlib.Core.Path.{_≡_};
 ghost use mathlib.Core.Option.{some};
@@ -14,11 +14,11 @@ ghost use Rattle.rules.specs.Types.{Ty, isWireType, wires, entries};
 ghost use Rattle.rules.specs.Terms.{Tuple};
 ghost use Rattle.rules.specs.Gates.{gateType, _to_ as gate-from};
 ghost use Rattle.rules.specs.GateCodes.{typeCodes, circCodes, typeCode};
-ghost use Rattle.evaluation.specs.Trees.{preorder, tupleTree};
+ghost use Rattle.evaluation.specs.Trees.{Tree, preorder, tupleOfTree};
 ghost use Rattle.memory.specs.Words.{words};
 ghost use Rattle.circuits.specs.Layout.{no-wire, tupleWords};
-ghost use Rattle.circuits.specs.Nodes.{nodesIn, nodeAt};
-ghost use Rattle.circuits.specs.Regions.{over, Stands};
+ghost use Rattle.nodes.specs.Nodes.{nodesIn, nodeAt};
+ghost use Rattle.nodes.specs.Regions.{over, Stands};
 ghost use Rattle.circuits.specs.Tuples.{wordOf, loadedNode, nodeOfCode, labelAfter, codeSpan};
 ghost use Rattle.circuits.specs.Results.{LabelsCollected, ResultFits, resultNodes, TupleWritten};
 
@@ -37,7 +37,7 @@ pub struct TupleSize {
 
 // The labels of the tuple at a place are written as words, in order; answers how many there are.
 pub fn collect_labels(nodes: &[u8], at: usize, count: usize, labels: &mut [u8]) -> usize
-    ensures { λ r. ⌜ ((k : Tuple) → Stands (nodesIn (now (nodes .entry))) at (preorder (tupleTree k)) → count ≡ length (preorder (tupleTree k))
+    ensures { λ r. ⌜ ((v : Tree) (k : Tuple) → tupleOfTree v ≡ some k → Stands (nodesIn (now (nodes .entry))) at (preorder v) → count ≡ length (preorder v)
         → count ≤ length (words (now (labels .entry)))
         → LabelsCollected k (words (now (labels .exit))) r) ⌝ }
 {
@@ -71,7 +71,7 @@ fn result_word(nodes: &[u8], i: usize) -> usize
 
 // The tuple at a place is saved as a result: a word a node, from a word on.
 pub fn save_result(nodes: &[u8], at: usize, count: usize, result: &mut [u8], from: usize)
-    ensures { λ r. ⌜ ((k : Tuple) → Stands (nodesIn (now (nodes .entry))) at (preorder (tupleTree k)) → count ≡ length (preorder (tupleTree k))
+    ensures { λ r. ⌜ ((v : Tree) (k : Tuple) → tupleOfTree v ≡ some k → Stands (nodesIn (now (nodes .entry))) at (preorder v) → count ≡ length (preorder v)
         → from + count ≤ length (words (now (result .entry)))
         → words (now (result .exit)) ≡ over (words (now (result .entry))) from (tupleWords k)) ⌝ }
 {
@@ -240,6 +240,18 @@ fn input_size(number: usize) -> usize
         }
     }
     i
+}
+
+// How many nodes the tuple of the wires that a gate makes has: one for each entry of its output's type.
+pub fn output_size(number: usize) -> usize
+    ensures { λ r. ⌜ ((T U : Ty) → gateType number ≡ some (gate-from T U) → r ≡ entries U) ⌝ }
+{
+    let end = rules::type_entries(number);
+    let start = 1 + input_size(number);
+    if end < start {
+        return 0;
+    }
+    end - start
 }
 
 // The tuple of the wires that a gate makes is written from a node on, its labels numbered from the next number on.

@@ -11,26 +11,27 @@ use Rattle.program.specs.Reading.{readScope, readWhole, readWires, readT
 use Rattle.program.specs.declared.ReadAnswer.{ReadAnswer}
 use Rattle.program.specs.declared.ReadAnswer.the-variants.{Accepted}
 
--- `readOf` with every definition of the reader open: a line `unfolding opened` below opens them all.
-opened : List ℕ → ReadAnswer
+-- `readOf` with every definition of the reader open: a line `unfolding opened` opens them all.
+unfoldable pub opened : List ℕ → ReadAnswer
 unfolding isGate
     wordAt kindAt argumentAt labelShape typeShape termShape shapeAt sizesRight kindWrong argumentWrong typeWrong
     circWrong boxWrong wiresWrong readScope readWhole readWires readTypes readArguments readKinds readOf
 opened f = readOf f
 
 -- A file of these sizes, kinds and arguments, each less than 256.
-abbrev words : List ℕ → List ℕ
+abbrev pub words : List ℕ → List ℕ
 words [] = []
 words (a ∷ more) = a ∷ 0 ∷ words more
 
-abbrev fileOf : ℕ → ℕ → ℕ → List ℕ → List ℕ → List ℕ
+abbrev pub fileOf : ℕ → ℕ → ℕ → List ℕ → List ℕ → List ℕ
 fileOf labels types terms kinds arguments =
     (labels ∷ 0 ∷ types ∷ 0 ∷ terms ∷ 0 ∷ []) ++ (kinds ++ words arguments)
 
--- c1: label 0 alone.
-pub c1-accepted
-    : readOf (0x01 ∷ 0x00 ∷ 0x00 ∷ 0x00 ∷ 0x01 ∷ 0x00 ∷ 0x01 ∷ 0x11 ∷ 0x00 ∷ 0x00 ∷ 0x00 ∷ 0x00 ∷ [])
-    ≡ Accepted 1 0 1
+-- c1: label 0 alone. "File (hex) 01 00 00 00 01 00 01 11 00 00 00 00."
+abbrev pub c1-file : List ℕ
+c1-file = 0x01 ∷ 0x00 ∷ 0x00 ∷ 0x00 ∷ 0x01 ∷ 0x00 ∷ 0x01 ∷ 0x11 ∷ 0x00 ∷ 0x00 ∷ 0x00 ∷ 0x00 ∷ []
+
+pub c1-accepted : readOf c1-file ≡ Accepted 1 0 1
 unfolding opened
 c1-accepted = refl
 
@@ -39,7 +40,10 @@ pub empty-file : readOf [] ≡ refused 1 0
 unfolding opened
 empty-file = refl
 
-pub sizes-alone : readOf (0x01 ∷ 0x00 ∷ 0x00 ∷ 0x00 ∷ 0x00 ∷ 0x00 ∷ []) ≡ refused 2 0
+abbrev pub sizes-file : List ℕ
+sizes-file = 0x01 ∷ 0x00 ∷ 0x00 ∷ 0x00 ∷ 0x00 ∷ 0x00 ∷ []
+
+pub sizes-alone : readOf sizes-file ≡ refused 2 0
 unfolding opened
 sizes-alone = refl
 

@@ -9,6 +9,7 @@ pub mod Steps
 pub mod Sizes
 pub mod Demand3
 pub mod Next
+pub mod Runs
 pub mod Inference
 pub mod Cases
 pub mod Theorems

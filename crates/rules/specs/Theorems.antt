@@ -7,3 +7,4 @@ pub mod Appending
 pub mod Counting
 pub mod Inferring
 pub mod Safety
+pub mod Runs

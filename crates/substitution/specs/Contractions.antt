@@ -11,11 +11,11 @@ use Rattle.rules.specs.Sizes.{most-nodes}
 use Rattle.evaluation.specs.Trees.{Node, Tree, one, two, preorder, substituteTree, WellKinded}
 use Rattle.evaluation.specs.Holes.{Hole, first, second}
 use Rattle.evaluation.specs.Walks.{evaluating, returning}
-use Rattle.walking.specs.Regions.{over, length-over, Stands, stands-right, stands-left, stands-written}
-use Rattle.walking.specs.Spans.{span}
+use Rattle.nodes.specs.Regions.{over, length-over, Stands, stands-right, stands-left, stands-written}
+use Rattle.nodes.specs.Spans.{span}
 use Rattle.walking.specs.Rows.{Row, rowAt, rowNode, rowStart}
 use Rattle.walking.specs.Places.{Holds}
-use Rattle.walking.specs.Copies.{Clear}
+use Rattle.nodes.specs.Copies.{Clear}
 use Rattle.walking.specs.Redexes.{FirstRedex, SecondRedex, first-redex, second-redex, node-count, gap-wide, gap-written}
 use Rattle.walking.specs.Redexes.{reduct-written, stands-span}
 use Rattle.walking.specs.declared.Place.{Place}

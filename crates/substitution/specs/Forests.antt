@@ -5,8 +5,8 @@ use mathlib.Core.List.{List, [], _∷_, _++_, append-assoc, append-nil}
 use Rattle.evaluation.specs.Trees.{Node, node, kind, Tree, leaf, one, two, preorder, parts, leafKind, oneKind}
 use Rattle.evaluation.specs.Trees.{twoKind, bindersOne, bindersTwo, treeAt, variableTree, underTree, substituteTree}
 use Rattle.evaluation.specs.Trees.{WellKinded}
-use Rattle.walking.specs.Heads.{KindIs, kind-variable, kind-label, kind-gate, kind-constant, kind-abstraction, kind-lift}
-use Rattle.walking.specs.Heads.{kind-force, kind-box, kind-application, kind-pair, kind-let, kind-apply, kind-view}
+use Rattle.nodes.specs.Kinds.{KindIs, kind-variable, kind-label, kind-gate, kind-constant, kind-abstraction, kind-lift}
+use Rattle.nodes.specs.Kinds.{kind-force, kind-box, kind-application, kind-pair, kind-let, kind-apply, kind-view}
 use Rattle.substitution.specs.Substituted.{valueAt, variableNodes, pieceFor, partsWaiting, waitingAfter, substituted}
 
 -- The nodes of each tree.

@@ -9,7 +9,7 @@ use lib.ListN.{length, take, drop, length-take, length-drop}
 use lib.Seq.{drop-cons}
 use borrow.Author.Tests.{ltb-true, ltb-false, eq-eqb, ne-eqb, lt-ltb, le-ltb}
 use Rattle.evaluation.specs.Trees.{Node, node, kind, argument}
-use Rattle.walking.specs.Nodes.{nodeAt, no-node}
+use Rattle.nodes.specs.Nodes.{nodeAt, no-node}
 use Rattle.substitution.specs.declared.Region.{Region}
 use Rattle.substitution.specs.declared.Values.{Values}
 use Rattle.substitution.specs.Substituted.{valueAt, variableNodes, pieceFor, nodesOfRegion, nodesOfValues}

@@ -11,16 +11,15 @@ use lib.ListN.{length, getD, set, drop, length-append, length-set, drop-of-lengt
 use lib.Seq.{drop-cons, getD-take, getD-drop}
 use Rattle.rules.specs.Sizes.{most-nodes}
 use Rattle.evaluation.specs.Trees.{Node, node, kind, argument}
-use Rattle.walking.specs.Nodes.{nodeAt, no-node, node-whole}
-use Rattle.walking.specs.Regions.{over, over-nil, length-over}
-use Rattle.walking.specs.Copies.{Clear}
+use Rattle.nodes.specs.Nodes.{nodeAt, no-node, node-whole}
+use Rattle.nodes.specs.Regions.{over, over-nil, length-over, getD-under, region-below, over-behind}
+use Rattle.nodes.specs.Copies.{Clear}
 use Rattle.substitution.specs.declared.Region.{Region}
 use Rattle.substitution.specs.declared.Values.{Values}
 use Rattle.substitution.specs.declared.Size.{Size}
 use Rattle.substitution.specs.declared.Size.the-variants.{Nodes, TooMany}
 use Rattle.substitution.specs.Substituted.{pieceFor, waitingAfter, substituted, nodesOfRegion, nodesOfValues, reduct}
 use Rattle.substitution.specs.Waiting.{stackOf, stack-push, stack-top, AtMost, at-most-next}
-use Rattle.substitution.specs.Writes.{region-below, getD-below, over-append}
 use Rattle.substitution.specs.Pieces.{pieceRegion, piece-nodes, EndsBy, piece-ends, length-region}
 
 -- The source and the values end at a place of the buffer or before it, the source is no larger than a configuration may
@@ -329,7 +328,7 @@ module _ (ns : List Node) (words : ℕ) (source : Region) (values : Values) (to 
     same-node : nodeAt ns′ (source .start + i) ≡ nodeAt ns (source .start + i)
     same-node =
         ap (λ x. nodeAt x (source .start + i)) (w .nodes-are)
-        ∙ getD-below ns to (w .done) (source .start + i) no-node (ready .inside) (omega (arith, ready .source-ends))
+        ∙ getD-under ns to (w .done) (source .start + i) no-node (ready .inside) (omega (arith, ready .source-ends))
 
     same-turn : NextPiece ns ws ws′ values (source .start + i) depth piece depth′
     same-turn =
@@ -400,7 +399,7 @@ module _ (ns : List Node) (words : ℕ) (source : Region) (values : Values) (to 
               ∙ ap (λ x. over ns′ end x) same-piece
               ∙ ap (λ x. over x end (nodesOfRegion ns piece)) (w .nodes-are)
               ∙ ap (λ j. over (over ns to (w .done)) j (nodesOfRegion ns piece)) (w .end-is)
-              ∙ over-append ns to (w .done) (nodesOfRegion ns piece) fits;
+              ∙ over-behind ns to (w .done) (nodesOfRegion ns piece) fits;
           end-is = omega (arith, w .end-is, piece-long, length-append (w .done) (nodesOfRegion ns piece));
           whole = whole-next;
           around =

@@ -8,8 +8,8 @@ use lib.Dec.{eqb}
 use lib.ListN.{length, getD, set, length-set}
 use lib.Seq.{getD-set-same, getD-set-other}
 use Rattle.evaluation.specs.Trees.{parts, oneKind, twoKind, bindersOne, bindersTwo}
-use Rattle.walking.specs.Heads.{KindIs, kind-abstraction, kind-lift, kind-force, kind-box, kind-application, kind-pair}
-use Rattle.walking.specs.Heads.{kind-let, kind-apply, kind-variable, kind-label, kind-gate, kind-constant, no-kind, kind-view}
+use Rattle.nodes.specs.Kinds.{KindIs, kind-abstraction, kind-lift, kind-force, kind-box, kind-application, kind-pair}
+use Rattle.nodes.specs.Kinds.{kind-let, kind-apply, kind-variable, kind-label, kind-gate, kind-constant, no-kind, kind-view}
 use Rattle.substitution.specs.Substituted.{partsWaiting, waitingAfter}
 
 -- The first d words, the last of them on top.

@@ -7,7 +7,7 @@ ghost use mathlib.Core.Path.{_≡_};
 ghost use lib.ListN.{length};
 ghost use Rattle.memory.specs.Words.{words};
 ghost use Rattle.evaluation.specs.Trees.{node};
-ghost use Rattle.walking.specs.Nodes.{nodesIn};
+ghost use Rattle.nodes.specs.Nodes.{nodesIn};
 ghost use Rattle.substitution.specs.Substituted.{waitingAfter, reduct};
 ghost use Rattle.substitution.specs.Waiting.{stackOf, bindersOf};
 ghost use Rattle.substitution.specs.Pieces.{pieceRegion};
@@ -66,7 +66,7 @@ fn wait_for_parts(waiting: &mut [u8], depth: usize, kind: usize, binders: usize)
     ensures { λ r. ⌜ (depth + 1 < length (words (now (waiting .entry))) → binders + 2 < 65536
         → stackOf (words (now (waiting .exit))) r ≡ waitingAfter kind binders (stackOf (words (now (waiting .entry))) depth)) ⌝ }
 {
-    let parts = walking::nodes::parts_of(kind);
+    let parts = nodes::parts_of(kind);
     let last = binders + binders_of(kind);
     if parts == 1 {
         memory::put(waiting, depth, last);
@@ -117,8 +117,8 @@ fn next_piece(nodes: &[u8], waiting: &mut [u8], place: usize, depth: usize, valu
         values place depth (r .piece) (r .depth) ⌝ }
 {
     let binders = memory::get(waiting, depth - 1);
-    let kind = walking::nodes::kind_at(nodes, place);
-    let argument = walking::nodes::argument_at(nodes, place);
+    let kind = nodes::kind_at(nodes, place);
+    let argument = nodes::argument_at(nodes, place);
     let piece = piece_for(values, kind, argument, binders, place);
     let depth = wait_for_parts(waiting, depth - 1, kind, binders);
     Next { piece, depth }
@@ -205,7 +205,7 @@ pub fn write_reduct(
         if n - end < more {
             return end;
         }
-        walking::nodes::copy_nodes(nodes, from, end, more);
+        nodes::copy_nodes(nodes, from, end, more);
         end += more;
         depth = next.depth;
         i += 1;

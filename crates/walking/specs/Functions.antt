@@ -10,9 +10,9 @@ use Rattle.evaluation.specs.Trees.{Node, kind, oneKind, twoKind}
 use Rattle.evaluation.specs.Holes.{waits}
 use Rattle.evaluation.specs.Walks.{Walk, WalkFits, stopOne, turn, walk}
 use Rattle.evaluation.specs.Theorems.Walking.{turn-fits, walk-onward, walk-stopped}
-use Rattle.walking.specs.Nodes.{nodesIn, nodeAt, length-nodesIn}
-use Rattle.walking.specs.Regions.{over}
-use Rattle.walking.specs.Spans.{span, span-positive}
+use Rattle.nodes.specs.Nodes.{nodesIn, nodeAt, length-nodesIn}
+use Rattle.nodes.specs.Regions.{over}
+use Rattle.nodes.specs.Spans.{span, span-positive}
 use Rattle.walking.specs.Rows.{Row, row, rowAt, rowTag, rowNode}
 use Rattle.walking.specs.Places.{Holds, stopOf, TurnedTo, Turns, Walks}
 use Rattle.walking.specs.Heads.{headOf}

@@ -7,8 +7,8 @@ use lib.ListN.{length, set, take, drop, length-append, length-drop}
 use lib.Seq.{take-at, drop-at, drop-drop, drop-cons, take-suc-set, getD-take, getD-at, take-take, length-take-le}
 use Rattle.evaluation.specs.Trees.{Node}
 use Rattle.evaluation.specs.Holes.{Hole, only, first, second, opened, nodesBefore, before}
-use Rattle.walking.specs.Nodes.{nodeAt, no-node}
-use Rattle.walking.specs.Regions.{over, take-over-end, drop-over, length-over}
+use Rattle.nodes.specs.Nodes.{nodeAt, no-node}
+use Rattle.nodes.specs.Regions.{over, take-over-end, drop-over, length-over}
 use Rattle.walking.specs.Rows.{Row, row, rowAt, no-row}
 use Rattle.walking.specs.Places.{rowFor, rowsFor, GapBuffer, Stacked}
 

@@ -1,8 +1,4 @@
-pub mod Nodes
-pub mod Regions
 pub mod Rows
-pub mod Spans
-pub mod Copies
 pub mod Places
 pub mod Heads
 pub mod Laws

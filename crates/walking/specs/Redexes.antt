@@ -7,15 +7,15 @@ use mathlib.Core.List.{List, [], _∷_, _++_, append-assoc, append-nil}
 use lib.ListN.{length, set, take, drop, length-append, length-set, length-drop}
 use lib.Seq.{take-take, take-at, drop-drop, drop-at}
 use Rattle.rules.specs.Sizes.{most-nodes}
-use Rattle.evaluation.specs.Trees.{Node, Tree, preorder, WellKinded}
+use Rattle.evaluation.specs.Trees.{Node, Tree, leaf, preorder, WellKinded}
 use Rattle.evaluation.specs.Holes.{Hole, only, first, second, opened, nodesBefore, before, after}
 use Rattle.evaluation.specs.Walks.{Walk, evaluating, returning, turnsLeft, walk, WalkFits, Stopped as StoppedAt}
 use Rattle.evaluation.specs.Walks.{left as walkedNodes, right as nodesToWalk}
 use Rattle.evaluation.specs.Theorems.Walking.{turns-fit, turn-stopped}
-use Rattle.walking.specs.Nodes.{nodeAt}
-use Rattle.walking.specs.Regions.{over, take-over, written, drop-over, length-over, Stands, stands-first, stands-within}
-use Rattle.walking.specs.Regions.{stands-rest, stands-left, stands-right}
-use Rattle.walking.specs.Spans.{span, span-one-tree}
+use Rattle.nodes.specs.Nodes.{nodeAt, no-node}
+use Rattle.nodes.specs.Regions.{over, take-over, written, drop-over, length-over, Stands, stands-first, stands-within}
+use Rattle.nodes.specs.Regions.{stands-rest, stands-left, stands-right, stands-alone}
+use Rattle.nodes.specs.Spans.{span, span-one-tree}
 use Rattle.walking.specs.Rows.{Row, row, rowAt, rowNode, rowStart}
 use Rattle.walking.specs.Places.{rowFor, least-nodes, Stacked, Holds, stopOf, Walked}
 use Rattle.walking.specs.Laws.{front-length, back-length, one-before, holes-few, pop-row, top-row, replace-row}
@@ -271,6 +271,15 @@ module _ (ns : List Node) (rs : List Row) (p : Place) (hs : List Hole) where
         ends = omega (arith, f .2);
         behind = m .buffer .back;
       }
+
+  -- A first part that is a leaf is the node behind that of the redex.
+  pub first-leaf : (n l : Node) (v : Tree) (at : ℕ)
+      → Holds ns rs p (returning v (second n (leaf l) ∷ hs))
+      → at ≡ rowNode (rowAt rs (p .depth - 1))
+      → nodeAt ns (at + 1) ≡ l
+  first-leaf n l v at m e =
+      stands-alone ns (at + 1) l no-node
+      (second-redex n (leaf l) v at (rowStart (rowAt rs (p .depth - 1))) m e refl .first-at)
 
   pub exit-redex : (n : Node) (b v : Tree) (at start : ℕ)
       → Holds ns rs p (returning v (opened n b ∷ hs))

@@ -14,9 +14,9 @@ use Rattle.evaluation.specs.Trees.{a-pair, a-let, an-apply, twoKind, WellKinded
 use Rattle.evaluation.specs.Holes.{Hole, only, first, second, opened, nodesBefore, before, after, waits}
 use Rattle.evaluation.specs.Walks.{Walk, evaluating, returning, goes-on, stops, turn, WalkFits, stopOne, turnFirst}
 use Rattle.evaluation.specs.Walks.{turnSecond, Stop as StopOf, at-application, at-let, at-apply, at-box, at-end}
-use Rattle.walking.specs.Nodes.{nodeAt, no-node}
-use Rattle.walking.specs.Regions.{over}
-use Rattle.walking.specs.Spans.{span, span-one-tree}
+use Rattle.nodes.specs.Nodes.{nodeAt, no-node}
+use Rattle.nodes.specs.Regions.{over}
+use Rattle.nodes.specs.Spans.{span, span-one-tree}
 use Rattle.walking.specs.Rows.{Row, row, rowAt, rowTag, rowNode}
 use Rattle.walking.specs.Places.{rowFor, GapBuffer, Holds, stopOf, TurnedTo}
 use Rattle.walking.specs.Heads.{headOf, Headed, head-value, head-one, head-two, head-neither-one, rootOf, headed}

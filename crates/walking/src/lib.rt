@@ -2,18 +2,17 @@
 // those still to be walked at its end; each opened node has a row on a stack in a second buffer.
 // The public functions have no `requires`: their contracts say what is done for every walk that the memory holds. In any
 // other memory they end too, with an answer that says nothing.
-pub mod nodes;
 pub mod rows;
 
-use crate::nodes::copy_nodes;
-use crate::nodes::kind_at;
-use crate::nodes::subtree_end;
 use crate::rows::FIRST;
 use crate::rows::ONLY;
 use crate::rows::SECOND;
 use crate::rows::put_row;
 use crate::rows::row_node;
 use crate::rows::row_tag;
+use nodes::copy_nodes;
+use nodes::kind_at;
+use nodes::subtree_end;
 ghost use Prim.Native.Nat.{ℕ, _<_};
 ghost use mathlib.Core.Path.{_≡_};
 ghost use mathlib.Core.List.{List};
@@ -23,7 +22,7 @@ ghost use lib.ListN.{length};
 ghost use Rattle.evaluation.specs.Trees.{kind, oneKind, twoKind};
 ghost use Rattle.evaluation.specs.Holes.{waits};
 ghost use Rattle.evaluation.specs.Walks.{stopOne};
-ghost use Rattle.walking.specs.Nodes.{nodesIn};
+ghost use Rattle.nodes.specs.Nodes.{nodesIn};
 ghost use Rattle.walking.specs.Rows.{Row, rowsIn};
 ghost use Rattle.walking.specs.Places.{stopOf, Turns, Walks};
 ghost use Rattle.walking.specs.Heads.{headOf};

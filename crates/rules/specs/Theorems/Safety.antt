@@ -465,7 +465,8 @@ program-gone {A} t (finished v) (program-has (outermost (frame-has {I = I} {gs =
     let (r, p) = canonical-wires t v d in
     all-gone r p (gone-once I gs r (s .taken-once) (subst (λ N. [] ∣ loose I gs ⊢ N ∶ A) p d))
 
-finished-stops : {c d : Configuration} → Finished c → c ⟶ d → ⊥
+-- Where the program is finished there is no step.
+pub finished-stops : {c d : Configuration} → Finished c → c ⟶ d → ⊥
 finished-stops (finished v) s = value-no-step v s
 
 -- DEMAND 3, for every program that the rules type with exactly its inputs as labels and every row of steps that fit.

@@ -5,7 +5,7 @@ use mathlib.Core.Path.{sym, subst}
 use borrow.Author.Needs.{needs}
 use Rattle.memory.specs.Words.{words}
 use Rattle.memory.specs.Laws.{word-below}
-use Rattle.walking.specs.Nodes.{nodesIn}
+use Rattle.nodes.specs.Nodes.{nodesIn}
 use Rattle.substitution.specs.Reducts.{found-piece}
 use Rattle.substitution.proofs.next_piece.Statement.{statement}
 use Rattle.substitution.proofs.next_piece.Tie as tie

@@ -7,7 +7,7 @@ use mathlib.Core.Path.{_≡_, refl, _∙_}
 use lib.ListN.{length}
 use Rattle.memory.specs.Words.{words}
 use Rattle.memory.specs.Laws.{same-words}
-use Rattle.walking.specs.Nodes.{nodesIn, length-nodesIn}
+use Rattle.nodes.specs.Nodes.{nodesIn, length-nodesIn}
 use Rattle.substitution.specs.Substituted.{reduct}
 use Rattle.substitution.specs.Reducts.{Ready, same-ready, Counting, counting-start, counting-next, counting-least}
 use Rattle.substitution.specs.Reducts.{counting-end, too-many, nothing-waiting, nothing-left}

@@ -2,7 +2,7 @@
 use native.Mathlib.Omega.{arith}
 use mathlib.Core.Path.{refl}
 use borrow.Author.Needs.{needs}
-use Rattle.walking.specs.Nodes.{nodesIn, length-nodesIn}
+use Rattle.nodes.specs.Nodes.{nodesIn, length-nodesIn}
 use Rattle.walking.specs.Rows.{rowsIn}
 use Rattle.walking.specs.declared.Head.the-variants.{Value, OnePart, TwoParts, Neither}
 use Rattle.walking.specs.Functions.{evaluates-by, neither-turns, no-node-there, no-gap-there}

@@ -1,7 +1,7 @@
 -- `walking::open_node` meets its contract. Assumes nothing.
 use native.Mathlib.Omega.{arith}
 use mathlib.Core.Logic.{inl}
-use Rattle.walking.specs.Nodes.{nodesIn, length-nodesIn}
+use Rattle.nodes.specs.Nodes.{nodesIn, length-nodesIn}
 use Rattle.walking.specs.Rows.{rowsIn, length-rowsIn}
 use Rattle.walking.specs.Functions.{headOfTag, open-turns, open-falls, no-row-there}
 use Rattle.walking.specs.declared.Turned.the-variants.{Stops}

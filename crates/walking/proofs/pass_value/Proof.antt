@@ -3,8 +3,8 @@ use native.Mathlib.Omega.{arith}
 use mathlib.Core.Logic.{inl}
 use lib.ListN.{drop, length-drop}
 use borrow.Author.Needs.{needs}
-use Rattle.walking.specs.Nodes.{nodesIn}
-use Rattle.walking.specs.Spans.{span-at-most}
+use Rattle.nodes.specs.Nodes.{nodesIn}
+use Rattle.nodes.specs.Spans.{span-at-most}
 use Rattle.walking.specs.Functions.{value-turns, value-falls}
 use Rattle.walking.proofs.pass_value.Statement.{statement}
 use Rattle.walking.proofs.pass_value.Tie as tie

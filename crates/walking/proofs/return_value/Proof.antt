@@ -2,7 +2,7 @@
 use native.Mathlib.Omega.{arith}
 use mathlib.Core.Path.{refl}
 use lib.ListN.{length}
-use Rattle.walking.specs.Nodes.{nodesIn}
+use Rattle.nodes.specs.Nodes.{nodesIn}
 use Rattle.walking.specs.Rows.{rowsIn}
 use Rattle.walking.specs.Functions.{returns-to, end-turns, only-turns, exit-turns}
 use Rattle.walking.proofs.return_value.Statement.{statement}

@@ -3,7 +3,7 @@
 use mathlib.Core.Path.{_≡_, refl, _∙_}
 use lib.ListN.{length}
 use borrow.Author.Needs.{needs}
-use Rattle.walking.specs.Nodes.{nodesIn, same-nodes}
+use Rattle.nodes.specs.Nodes.{nodesIn, same-nodes}
 use Rattle.walking.specs.Rows.{rowsIn}
 use Rattle.walking.specs.Turning.{turnsFrom}
 use Rattle.walking.specs.Functions.{Reaches, reaches-none, reaches-more, reaches-stop, falls-on}

@@ -8,10 +8,10 @@ use lib.ListN.{length, take, length-append}
 use borrow.Author.Needs.{needs}
 use Rattle.memory.specs.Words.{words}
 use Rattle.memory.specs.Laws.{same-words}
-use Rattle.circuits.specs.Nodes.{nodesIn, nodeAt, length-nodesIn}
+use Rattle.nodes.specs.Nodes.{nodesIn, nodeAt, length-nodesIn}
 use Rattle.circuits.specs.Rows.{past-end, not-past}
 use Rattle.circuits.specs.Tuples.{labelsPassed, label-passed, other-passed}
-use Rattle.circuits.specs.Writing.{collected-more, all-collected, tuple-inside}
+use Rattle.circuits.specs.Writing.{collected-more, all-collected, tree-inside}
 use Rattle.circuits.proofs.tuples.collect_labels.Statement.{statement}
 use Rattle.circuits.proofs.tuples.collect_labels.Tie as tie
 
@@ -31,13 +31,13 @@ runs-past-requires : tie.Need-runs-past-requires Inv-loop μ-loop
 runs-past-requires c κs = search needs
 
 returns : tie.Need-returns Inv-loop μ-loop
-returns c = λ k stands whole room.
+returns c = λ v k e stands whole room.
     let a = c .before .before .before .before .args in
     absurd (omega (
       arith,
       past-end (c .before .runs-past .result) (length (a .nodes .now) / 4) (a .at) (a .count) (c .before .runs-past .ensures) (c .if1 .taken),
       length-nodesIn (a .nodes .now),
-      tuple-inside k (nodesIn (a .nodes .now)) (a .at) stands,
+      tree-inside v (nodesIn (a .nodes .now)) (a .at) stands,
     ))
 
 loop-holds : tie.Need-loop-holds Inv-loop μ-loop
@@ -135,12 +135,12 @@ same-length : tie.Need-same-length Inv-loop μ-loop
 same-length c = c .before .loop .inv .3
 
 returns-2 : tie.Need-returns-2 Inv-loop μ-loop
-returns-2 c = λ k stands whole room.
+returns-2 c = λ v k e stands whole room.
     let a = c .before .before .before .before .before .before .args in
     let s = c .before .loop in
     let ns = nodesIn (a .nodes .now) in
     let done : s .i ≡ a .count = omega (arith, s .inv .1, c .loop-test .left) in
-    all-collected k ns (words (s .labels)) (a .at) (a .count) (s .found) stands whole
+    all-collected v k ns (words (s .labels)) (a .at) (a .count) (s .found) e stands whole
     (s .inv .4 ∙ ap (λ j. length (labelsPassed ns (a .at) j)) done)
     (s .inv .5 room ∙ ap (labelsPassed ns (a .at)) done)
 

@@ -10,7 +10,7 @@ use Rattle.rules.specs.Circuits.{rename}
 use Rattle.evaluation.specs.Trees.{node}
 use Rattle.memory.specs.Words.{words}
 use Rattle.circuits.specs.Layout.{no-wire}
-use Rattle.circuits.specs.Nodes.{nodesIn}
+use Rattle.nodes.specs.Nodes.{nodesIn}
 use Rattle.circuits.proofs.tuples.load_node.Statement.{statement}
 use Rattle.circuits.proofs.tuples.load_node.Tie as tie
 

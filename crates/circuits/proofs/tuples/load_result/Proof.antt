@@ -8,9 +8,9 @@ use lib.ListN.{length, take, drop}
 use borrow.Author.Needs.{needs}
 use Rattle.memory.specs.Words.{words}
 use Rattle.memory.specs.Laws.{length-words, word-below}
-use Rattle.circuits.specs.Nodes.{nodesIn, length-nodesIn}
+use Rattle.nodes.specs.Nodes.{nodesIn, length-nodesIn}
 use Rattle.circuits.specs.Rows.{past-end, not-past}
-use Rattle.circuits.specs.Regions.{over, over-nil}
+use Rattle.nodes.specs.Regions.{over, over-nil}
 use Rattle.circuits.specs.Copies.{all-below-take, words-below}
 use Rattle.circuits.specs.Tuples.{loadedNode}
 use Rattle.circuits.specs.Writing.{result-inside, mapped-next, all-loaded}

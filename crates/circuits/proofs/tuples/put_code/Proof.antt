@@ -6,7 +6,7 @@ use lib.ListN.{set}
 use borrow.Author.Tests.{eq-eqb, ne-eqb}
 use borrow.Author.Needs.{needs}
 use Rattle.evaluation.specs.Trees.{node}
-use Rattle.circuits.specs.Nodes.{nodesIn}
+use Rattle.nodes.specs.Nodes.{nodesIn}
 use Rattle.circuits.proofs.tuples.put_code.Statement.{statement}
 use Rattle.circuits.proofs.tuples.put_code.Tie as tie
 

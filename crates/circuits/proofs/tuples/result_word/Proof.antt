@@ -6,7 +6,7 @@ use borrow.Author.Tests.{eq-eqb, ne-eqb}
 use borrow.Author.Needs.{needs}
 use Rattle.evaluation.specs.Trees.{kind, argument}
 use Rattle.circuits.specs.Layout.{no-wire}
-use Rattle.circuits.specs.Nodes.{nodesIn, nodeAt}
+use Rattle.nodes.specs.Nodes.{nodesIn, nodeAt}
 use Rattle.circuits.proofs.tuples.result_word.Statement.{statement}
 use Rattle.circuits.proofs.tuples.result_word.Tie as tie
 

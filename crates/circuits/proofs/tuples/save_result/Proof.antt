@@ -8,11 +8,11 @@ use lib.ListN.{length, take, drop}
 use borrow.Author.Needs.{needs}
 use Rattle.memory.specs.Words.{words}
 use Rattle.memory.specs.Laws.{length-words}
-use Rattle.circuits.specs.Nodes.{nodesIn, no-node, length-nodesIn}
+use Rattle.nodes.specs.Nodes.{nodesIn, no-node, length-nodesIn}
 use Rattle.circuits.specs.Rows.{past-end, not-past}
-use Rattle.circuits.specs.Regions.{over, over-nil}
+use Rattle.nodes.specs.Regions.{over, over-nil}
 use Rattle.circuits.specs.Tuples.{wordOf}
-use Rattle.circuits.specs.Writing.{tuple-inside, mapped-next, all-saved}
+use Rattle.circuits.specs.Writing.{tree-inside, mapped-next, all-saved}
 use Rattle.circuits.proofs.tuples.save_result.Statement.{statement}
 use Rattle.circuits.proofs.tuples.save_result.Tie as tie
 
@@ -31,20 +31,20 @@ runs-past-requires : tie.Need-runs-past-requires Inv-loop μ-loop
 runs-past-requires c κs = search needs
 
 returns : tie.Need-returns Inv-loop μ-loop
-returns c = λ k stands whole room.
+returns c = λ v k e stands whole room.
     let a = c .before .before .before .before .args in
     absurd (omega (
       arith,
       past-end (c .before .runs-past .result) (length (a .nodes .now) / 4) (a .at) (a .count) (c .before .runs-past .ensures) (c .if1 .taken),
       length-nodesIn (a .nodes .now),
-      tuple-inside k (nodesIn (a .nodes .now)) (a .at) stands,
+      tree-inside v (nodesIn (a .nodes .now)) (a .at) stands,
     ))
 
 runs-past-requires-2 : tie.Need-runs-past-requires-2 Inv-loop μ-loop
 runs-past-requires-2 c κs = search needs
 
 returns-2 : tie.Need-returns-2 Inv-loop μ-loop
-returns-2 c = λ k stands whole room.
+returns-2 c = λ v k e stands whole room.
     let a = c .before .before .before .before .before .before .args in
     absurd (omega (
       arith,
@@ -105,12 +105,12 @@ same-length : tie.Need-same-length Inv-loop μ-loop
 same-length c = c .before .loop .inv .3
 
 returns-3 : tie.Need-returns-3 Inv-loop μ-loop
-returns-3 c = λ k stands whole room.
+returns-3 c = λ v k e stands whole room.
     let a = c .before .before .before .before .before .before .before .before .args in
     let s = c .before .loop in
     let ns = nodesIn (a .nodes .now) in
     let done : s .i ≡ a .count = omega (arith, s .inv .2, c .loop-test .left) in
-    all-saved k ns (words (a .result .now)) (words (s .result)) (a .at) (a .count) (a .from) stands whole
+    all-saved v k ns (words (a .result .now)) (words (s .result)) (a .at) (a .count) (a .from) e stands whole
     (s .inv .4 ∙ ap (λ j. over (words (a .result .now)) (a .from) (map wordOf (take j (drop (a .at) ns)))) done)
 
 pub save-result-spec : {M : Type 1} → statement M

@@ -6,9 +6,9 @@ use mathlib.Core.Path.{_≡_, refl, sym, _∙_, ap}
 use lib.ListN.{length, getD, take, drop, length-drop}
 use borrow.Author.Needs.{needs}
 use Rattle.rules.specs.Types.{entries}
-use Rattle.circuits.specs.Nodes.{nodesIn, length-nodesIn}
+use Rattle.nodes.specs.Nodes.{nodesIn, length-nodesIn}
 use Rattle.circuits.specs.Rows.{past-end, not-past}
-use Rattle.circuits.specs.Regions.{over, over-nil}
+use Rattle.nodes.specs.Regions.{over, over-nil}
 use Rattle.circuits.specs.Tuples.{labelAfter, labelBehind, nodesOfCodes, span-at-most}
 use Rattle.circuits.specs.Writing.{after-bounds, behind-next, coded-next, all-written}
 use Rattle.circuits.specs.Outputs.{codesOf, entries-of, code-of, output-wires, input-span, codes-length, output-stands}

@@ -7,9 +7,9 @@ use lib.ListN.{length, getD, take, drop, length-drop}
 use borrow.Author.Needs.{needs}
 use Rattle.memory.specs.Words.{words}
 use Rattle.memory.specs.Laws.{length-words}
-use Rattle.circuits.specs.Nodes.{nodesIn, length-nodesIn}
+use Rattle.nodes.specs.Nodes.{nodesIn, length-nodesIn}
 use Rattle.circuits.specs.Rows.{past-end, not-past}
-use Rattle.circuits.specs.Regions.{over, over-nil}
+use Rattle.nodes.specs.Regions.{over, over-nil}
 use Rattle.circuits.specs.Tuples.{labelAfter, labelBehind, nodesOfCodes, span-at-most}
 use Rattle.circuits.specs.Writing.{span-whole, after-bounds, behind-next, coded-next, all-written}
 use Rattle.circuits.proofs.tuples.write_tuple.Statement.{statement}

@@ -1,0 +1,14 @@
+-- `boxing::opening::registers_after` meets its contract. Assumes nothing.
+use mathlib.Core.Path.{refl}
+use borrow.Author.Needs.{needs}
+use Rattle.boxing.proofs.opening.registers_after.Statement.{statement}
+use Rattle.boxing.proofs.opening.registers_after.Tie as tie
+
+add-t6 : tie.Need-add-t6
+add-t6 c = search needs
+
+returns : tie.Need-returns
+returns c = refl
+
+pub registers-after-spec : {M : Type 1} → statement M
+registers-after-spec = tie.close (tie.spec add-t6 returns)

@@ -1,0 +1,5 @@
+pub mod Opening
+pub mod OpeningLaws
+pub mod OpeningSteps
+pub mod Closing
+pub mod ClosingLaws

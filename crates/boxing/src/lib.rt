@@ -1,0 +1,3 @@
+// Box entry and box exit, on a configuration in lent memory.
+pub mod closing;
+pub mod opening;

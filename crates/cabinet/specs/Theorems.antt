@@ -1,0 +1,3 @@
+pub mod Finishing
+pub mod Families
+pub mod Running

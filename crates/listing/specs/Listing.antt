@@ -1,0 +1,74 @@
+-- The listing of a circuit with its outputs (01, "Listing").
+use Prim.Native.Nat.{ℕ, zero, suc, _+_, _*_, _/_, _%_, _<_}
+use mathlib.Core.List.{List, [], _∷_, _++_, map, flatMap, reverse}
+use lib.ListN.{length}
+use Rattle.rules.specs.Types.{Wire, Bit, Qubit}
+use Rattle.rules.specs.Terms.{Tuple, labels, Gate, _on_}
+use Rattle.rules.specs.Circuits.{Circuit, circuit}
+use Rattle.circuits.specs.Layout.{no-wire}
+
+-- 16 bits, "low byte first".
+abbrev pub bytesOf : ℕ → List ℕ
+bytesOf n = n % 256 ∷ n / 256 ∷ []
+
+-- "128 Bit input, 129 Qubit input".
+abbrev pub inputKind : Wire → ℕ
+inputKind Bit = 128
+inputKind Qubit = 129
+
+-- "else the gate".
+abbrev pub gateKind : Gate → ℕ
+gateKind (n on ws) = n
+
+-- "pairs of 16-bit slots": so many slots has an entry.
+abbrev pub entry-slots : ℕ
+entry-slots = 2
+
+-- "slots for wires taken (65,535 where none)": so many slots, with wires in their order.
+abbrev pub slots : ℕ → List ℕ → List ℕ
+slots zero ws = []
+slots (suc k) [] = no-wire ∷ slots k []
+slots (suc k) (w ∷ ws) = w ∷ slots k ws
+
+-- An input takes no wire.
+abbrev pub inputSlots : Wire → List ℕ
+inputSlots α = slots entry-slots []
+
+-- A gate takes its wires.
+abbrev pub gateSlots : Gate → List ℕ
+gateSlots (n on ws) = slots entry-slots ws
+
+-- The gates as they are listed, the oldest first. Circuits have the newest first.
+abbrev pub oldestFirst : List Gate → List Gate
+oldestFirst gs = reverse gs
+
+-- "Sizes first, 16-bit: L, gates G, outputs O".
+abbrev pub sizes : List Wire → List Gate → Tuple → List ℕ
+sizes I gs r = length I ∷ length gs ∷ length (labels r) ∷ []
+
+-- "Then L+G kind bytes": the inputs, then the gates.
+abbrev pub kinds : List Wire → List Gate → List ℕ
+kinds I gs = map inputKind I ++ map gateKind (oldestFirst gs)
+
+-- "L+G pairs of 16-bit slots".
+abbrev pub allSlots : List Wire → List Gate → List ℕ
+allSlots I gs = flatMap inputSlots I ++ flatMap gateSlots (oldestFirst gs)
+
+-- The whole listing; at its end "the O output wires, left to right, 16 bits each".
+unfoldable pub listing : Circuit → Tuple → List ℕ
+listing (circuit I gs) r =
+    flatMap bytesOf (sizes I gs r)
+    ++ (kinds I gs ++ (flatMap bytesOf (allSlots I gs) ++ flatMap bytesOf (labels r)))
+
+-- "Length: 6 + 5(L+G) + 2O".
+abbrev pub listingLength : ℕ → ℕ → ℕ → ℕ
+listingLength L G O = 6 + 5 * (L + G) + 2 * O
+
+-- "at most 11,078".
+abbrev pub most-bytes : ℕ
+most-bytes = 11078
+
+-- Each gate's number is a byte.
+abbrev pub KindsFit : List Gate → Type 0
+KindsFit [] = Unit {0}
+KindsFit ((n on ws) ∷ gs) = (n < 256) × KindsFit gs

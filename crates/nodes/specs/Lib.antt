@@ -1,0 +1,6 @@
+pub mod Nodes
+pub mod Regions
+pub mod Kinds
+pub mod Spans
+pub mod Copies
+pub mod Bytes

@@ -1,0 +1,13 @@
+pub mod Text
+pub mod Least
+pub mod Examples
+pub mod Decimals
+pub mod Names
+pub mod Writing
+pub mod Reading
+pub mod Words
+pub mod Lines
+pub mod Bytes
+pub mod ReadBack
+pub mod Theorems
+pub mod Fitting
