@@ -1,8 +1,10 @@
 //! Program files: their trees, their entries, a writer, a reader with its
-//! refusals 1 to 9, and a seeded generator of files that the reader accepts.
+//! refusals 1 to 9, a seeded generator of files that the reader accepts, and
+//! faults for such files.
 
 pub mod encode;
 pub mod entries;
+pub mod faults;
 pub mod gates;
 pub mod generate;
 pub mod kinds;

@@ -142,6 +142,22 @@ pub fn functions_of_functions(terms: usize) -> Typed {
     typed(1, term, qubit())
 }
 
+/// A reusable function on Qubits that calls another twice, and has it once.
+pub fn twice(once: Rc<Term>) -> Rc<Term> {
+    let call = |argument| application(force(variable(0)), argument);
+    let over = reusable(function(qubit(), qubit()));
+    let body = application(abstraction(over, call(call(variable(1)))), once);
+    lift(abstraction(qubit(), body))
+}
+
+/// A function that does nothing, called twice by one that is called twice, and
+/// so on: many steps.
+pub fn calls(doublings: usize) -> Typed {
+    let same = lift(abstraction(qubit(), variable(0)));
+    let function = levels(doublings, same, |once, _| twice(once));
+    typed(1, application(force(function), label(0)), qubit())
+}
+
 /// Lifts of gates in pairs, with types near the bound at each let.
 pub fn lifts_in_lets(terms: usize) -> Typed {
     const LIFTS: usize = 252;

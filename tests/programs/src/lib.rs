@@ -2,6 +2,7 @@
 //! its refusals; a seeded generator of well-typed programs; and programs that
 //! are broken in one spot.
 
+pub mod blocks;
 pub mod broken;
 pub mod check;
 pub mod edit;

@@ -1,8 +1,8 @@
 //! The files that are compared, all from fixed seeds.
 
 use crate::compare::{Comparison, Known};
-use crate::faults::broken;
 use program_files::entries::LONGEST;
+use program_files::faults::{broken, Broken};
 use program_files::generate::{Generator, Grouping, Lean, Shape};
 use program_files::{kinds, read, Entries, Entry, Random};
 
@@ -513,10 +513,18 @@ fn base(comparison: &mut Comparison, random: &mut Random) -> Entries {
 fn with_faults(comparison: &mut Comparison, random: &mut Random, numbers: &[u8]) {
     loop {
         let entries = base(comparison, random);
-        if let Some((bytes, known)) = broken(entries, numbers, random) {
-            comparison.known(&bytes, known);
+        if let Some(broken) = broken(entries, numbers, random) {
+            comparison.known(&broken.bytes, known(&broken));
             return;
         }
+    }
+}
+
+/// What a broken file must give.
+fn known(broken: &Broken) -> Known {
+    match broken.place {
+        Some(place) => Known::Refused(broken.number, place),
+        None => Known::Number(broken.number),
     }
 }
 
@@ -544,8 +552,8 @@ fn one_fault(comparison: &mut Comparison) {
                 ..Shape::new(64, 512, 2_048)
             };
             let (_, entries) = Generator::entries(&mut random, &shape);
-            if let Some((bytes, known)) = broken(entries, &[number], &mut random) {
-                comparison.known(&bytes, known);
+            if let Some(broken) = broken(entries, &[number], &mut random) {
+                comparison.known(&broken.bytes, known(&broken));
             }
         }
     }
@@ -577,8 +585,8 @@ fn several_faults(comparison: &mut Comparison) {
     for number in 4..=9 {
         for _ in 0..2_000 {
             let entries = base(comparison, &mut random);
-            if let Some((bytes, _)) = broken(entries, &[number, number], &mut random) {
-                comparison.file(&bytes);
+            if let Some(broken) = broken(entries, &[number, number], &mut random) {
+                comparison.file(&broken.bytes);
             }
         }
     }

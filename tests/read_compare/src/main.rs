@@ -3,7 +3,6 @@
 mod by_hand;
 mod compare;
 mod families;
-mod faults;
 mod library;
 mod planted;
 mod stack;

@@ -5,30 +5,32 @@
 //! from the highest number to the lowest: a fault of a higher number leaves
 //! the tests of lower numbers passed.
 
-use crate::compare::Known;
-use program_files::entries::{MOST_TERMS, MOST_TYPES};
-use program_files::{kinds, Entries, Entry, Random, GATES};
+use crate::entries::{Entries, Entry, MOST_TERMS, MOST_TYPES};
+use crate::gates::GATES;
+use crate::kinds;
+use crate::random::Random;
 
-/// The file with a fault of each number, ascending, and what it must give;
-/// none if one of the faults has no room in this file.
-pub fn broken(
-    mut entries: Entries,
-    numbers: &[u8],
-    random: &mut Random,
-) -> Option<(Vec<u8>, Known)> {
-    let mut known = Known::Nothing;
+/// A file with faults, and what it must give.
+#[derive(Clone, PartialEq, Eq, Debug)]
+pub struct Broken {
+    pub bytes: Vec<u8>,
+    pub number: u8,
+    /// None where it is not known.
+    pub place: Option<usize>,
+}
+
+/// The file with a fault of each number, ascending and at least one; none if
+/// one of the faults has no room in this file.
+pub fn broken(mut entries: Entries, numbers: &[u8], random: &mut Random) -> Option<Broken> {
+    let mut place = None;
     for &number in numbers.iter().rev().filter(|&&number| number >= 4) {
-        let place = match number {
+        place = match number {
             4 => Some(wrong_kind(&mut entries, random)),
             5 => Some(wrong_argument(&mut entries, random)?),
             6 => Some(type_runs_out(&mut entries, random)?),
             7 => Some(no_wire_type(&mut entries, random)?),
             8 => not_one_term(&mut entries, random)?,
             _ => Some(no_binder(&mut entries, random)?),
-        };
-        known = match place {
-            Some(place) => Known::Refused(number, place),
-            None => Known::Number(number),
         };
     }
     let mut bytes = entries.bytes();
@@ -38,9 +40,13 @@ pub fn broken(
             2 => wrong_size(&mut bytes, random),
             _ => bytes.truncate(random.below(6)),
         }
-        known = Known::Refused(number, 0);
+        place = Some(0);
     }
-    Some((bytes, known))
+    Some(Broken {
+        bytes,
+        number: numbers[0],
+        place,
+    })
 }
 
 fn wrong_length(bytes: &mut Vec<u8>, random: &mut Random) {

@@ -1,0 +1,34 @@
+//! The example programs as files, each with the lines that `wirelist` prints.
+//! The files in the folder `examples` of the current folder are compared with
+//! them; with the word `write` they are written.
+
+use example_programs::examples;
+use std::env;
+use std::fs;
+use std::path::Path;
+use std::process::exit;
+
+fn main() {
+    let write = env::args().nth(1).is_some_and(|word| word == "write");
+    let mut files = 0;
+    let mut differences = 0;
+    for example in examples() {
+        let endings = [
+            ("pqm", &example.file[..]),
+            ("txt", example.lines.as_bytes()),
+        ];
+        for (ending, bytes) in endings {
+            let path = Path::new("examples").join(example.name);
+            let path = path.with_extension(ending);
+            files += 1;
+            if write {
+                fs::write(&path, bytes).expect("an example written");
+            } else if fs::read(&path).ok().as_deref() != Some(bytes) {
+                println!("{} is not as it is built", path.display());
+                differences += 1;
+            }
+        }
+    }
+    println!("example_programs: {files} files, {differences} differences");
+    exit(if differences == 0 { 0 } else { 1 });
+}

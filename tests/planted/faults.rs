@@ -1,0 +1,293 @@
+//! The faults that are planted, each as edits of the evaluator's source. The
+//! first four are those that the requirement names as seen in other machines.
+
+/// The file of the evaluator, a piece of its text, and what takes its place.
+pub type Edit = (&'static str, &'static str, &'static str);
+
+pub const FAULTS: &[(&str, &[Edit])] = &[
+    (
+        "one counter of wires for all open boxes",
+        &[
+            (
+                "configurations",
+                "let circuit = Circuit::empty(&wires(at));",
+                "let mut circuit = Circuit::empty(&wires(at));
+                let first = self.innermost().circuit.next;
+                for (wire, _) in &mut circuit.inputs {
+                    *wire += first;
+                }
+                circuit.next += first;",
+            ),
+            (
+                "configurations",
+                r#"let below = self.frames.last_mut().expect("a frame below");"#,
+                r#"let below = self.frames.last_mut().expect("a frame below");
+                below.circuit.next = top.circuit.next;"#,
+            ),
+        ],
+    ),
+    (
+        "an abstraction that holds a wire is lifted",
+        &[(
+            "run",
+            "let of = check_read(&read).0?;",
+            r#"let of = match check_read(&read) {
+                (Err(Refusal { number: 18, .. }), survey) => {
+                    survey.nodes[0].of.clone().expect("a type")
+                }
+                (answer, _) => answer?,
+            };"#,
+        )],
+    ),
+    (
+        "evaluation under a lift that is bound to a variable",
+        &[
+            (
+                "contexts",
+                "} else if !second.is_value {",
+                "} else if !second.is_value
+                || matches!(
+                    (&term.form, &second.form),
+                    (Form::Application(..), Form::Lift(inside)) if !inside.is_value
+                )
+            {",
+            ),
+            (
+                "contexts",
+                "Form::Let(part, _) | Form::Force(part) | Form::Box(_, part) => {",
+                "Form::Let(part, _) | Form::Force(part) | Form::Box(_, part) | Form::Lift(part) => {",
+            ),
+        ],
+    ),
+    (
+        "a wire lost that passes through untouched",
+        &[(
+            "circuits",
+            "relabelled(&|wire| renamed[&wire])",
+            "relabelled(&|wire| match constant.inputs.contains(&wire) {
+                true => wire,
+                false => renamed[&wire],
+            })",
+        )],
+    ),
+    (
+        "a wire that passes through gets a new number",
+        &[(
+            "circuits",
+            "relabelled(&|wire| renamed[&wire])",
+            "relabelled(&|wire| match constant.inputs.contains(&wire) {
+                true => self.next,
+                false => renamed[&wire],
+            })",
+        )],
+    ),
+    (
+        "inputs matched right to left",
+        &[(
+            "circuits",
+            "zip(argument.labels())",
+            "zip(argument.labels().into_iter().rev())",
+        )],
+    ),
+    (
+        "a gate's outputs numbered right to left",
+        &[(
+            "circuits",
+            "for &wire in &placed.makes {",
+            "for &wire in placed.makes.iter().rev() {",
+        )],
+    ),
+    (
+        "right part first",
+        &[(
+            "contexts",
+            "if !first.is_value {
+                Some((0, first))
+            } else if !second.is_value {
+                Some((1, second))
+            } else {",
+            "if !second.is_value {
+                Some((1, second))
+            } else if !first.is_value {
+                Some((0, first))
+            } else {",
+        )],
+    ),
+    (
+        "let's halves swapped",
+        &[(
+            "configurations",
+            "let values = [second.clone(), first.clone()];",
+            "let values = [first.clone(), second.clone()];",
+        )],
+    ),
+    (
+        "22 before 21",
+        &[(
+            "run",
+            "if steps == limit {",
+            "if steps == limit && now.clone().next().fits() {",
+        )],
+    ),
+    (
+        "21 before the finish",
+        &[(
+            "run",
+            "if now.is_finished() {",
+            "if now.is_finished() && steps < limit {",
+        )],
+    ),
+    (
+        "box exit not counted as a step",
+        &[(
+            "run",
+            "now = now.next();",
+            "let frames = now.frames.len();
+            now = now.next();
+            if now.frames.len() < frames {
+                continue;
+            }",
+        )],
+    ),
+    (
+        "box entry not counted as a step",
+        &[(
+            "run",
+            "now = now.next();",
+            "let frames = now.frames.len();
+            now = now.next();
+            if now.frames.len() > frames {
+                continue;
+            }",
+        )],
+    ),
+    (
+        "at most 4,095 nodes",
+        &[(
+            "configurations",
+            "MOST_NODES: usize = 4_096",
+            "MOST_NODES: usize = 4_095",
+        )],
+    ),
+    (
+        "at most 4,097 nodes",
+        &[(
+            "configurations",
+            "MOST_NODES: usize = 4_096",
+            "MOST_NODES: usize = 4_097",
+        )],
+    ),
+    (
+        "at most 2,047 gates",
+        &[(
+            "configurations",
+            "MOST_GATES: usize = 2_048",
+            "MOST_GATES: usize = 2_047",
+        )],
+    ),
+    (
+        "at most 2,049 gates",
+        &[(
+            "configurations",
+            "MOST_GATES: usize = 2_048",
+            "MOST_GATES: usize = 2_049",
+        )],
+    ),
+    (
+        "at most 255 boxes",
+        &[(
+            "configurations",
+            "MOST_BOXES: usize = 256",
+            "MOST_BOXES: usize = 255",
+        )],
+    ),
+    (
+        "at most 257 boxes",
+        &[(
+            "configurations",
+            "MOST_BOXES: usize = 256",
+            "MOST_BOXES: usize = 257",
+        )],
+    ),
+    (
+        "nodes of the innermost frame alone",
+        &[(
+            "configurations",
+            "self.frames.iter().map(|frame| frame.term.nodes).sum()",
+            "self.innermost().term.nodes",
+        )],
+    ),
+    (
+        "a circuit constant counts its gates as nodes",
+        &[(
+            "terms",
+            "let nodes = 1 + parts().map(|part| part.nodes).sum::<usize>();",
+            "let nodes = match &form {
+                Form::Constant(constant) => 1 + constant.gates.len(),
+                _ => 1 + parts().map(|part| part.nodes).sum::<usize>(),
+            };",
+        )],
+    ),
+    (
+        "gates of closed circuits not counted",
+        &[(
+            "configurations",
+            "open.sum::<usize>() + closed.sum::<usize>()",
+            "open.sum::<usize>() + 0 * closed.sum::<usize>()",
+        )],
+    ),
+    (
+        "gates of open circuits not counted",
+        &[(
+            "configurations",
+            "open.sum::<usize>() + closed.sum::<usize>()",
+            "0 * open.sum::<usize>() + closed.sum::<usize>()",
+        )],
+    ),
+    (
+        "the size before the step is tested",
+        &[(
+            "run",
+            "now = now.next();
+            if !now.fits() {
+                return refused(22);
+            }",
+            "if !now.fits() {
+                return refused(22);
+            }
+            now = now.next();",
+        )],
+    ),
+    (
+        "the gates of all circuits answered",
+        &[(
+            "run",
+            "gates: frame.circuit.gates.len(),",
+            "gates: configuration.gates(),",
+        )],
+    ),
+    (
+        "outputs right to left",
+        &[(
+            "run",
+            "&frame.term.labels())",
+            "&frame.term.labels().into_iter().rev().collect::<Vec<_>>())",
+        )],
+    ),
+    (
+        "slots right to left",
+        &[(
+            "listing",
+            "placed.takes.get(slot)",
+            "placed.takes.get(SLOTS - 1 - slot)",
+        )],
+    ),
+    (
+        "0 in a slot that takes no wire",
+        &[("listing", "NO_WIRE: u16 = 65_535", "NO_WIRE: u16 = 0")],
+    ),
+    (
+        "a Bit input listed as a Qubit",
+        &[("listing", "BIT_INPUT: u8 = 128", "BIT_INPUT: u8 = 129")],
+    ),
+];

@@ -1,0 +1,346 @@
+//! Programs written by hand, with the lines of `wirelist` for each.
+
+use crate::compare::{Comparison, Known};
+use evaluator::text::{text, LIMIT};
+use evaluator::{prepare, Answer};
+use example_programs::examples;
+use program_files::kinds::*;
+use program_files::{Entries, Entry};
+
+type Written = (&'static [u8], &'static [u8], &'static [(u8, u16)]);
+
+const ABS: u8 = ABSTRACTION;
+const APP: u8 = APPLICATION;
+const VAR: u8 = VARIABLE;
+const FUN: u8 = FUNCTION;
+const REU: u8 = REUSABLE;
+
+fn file((labels, types, terms): Written) -> Vec<u8> {
+    let plain = |list: &[u8]| list.iter().map(|&kind| Entry::new(kind, 0)).collect();
+    let entries = Entries {
+        labels: plain(labels),
+        types: plain(types),
+        terms: terms
+            .iter()
+            .map(|&(kind, argument)| Entry::new(kind, argument))
+            .collect(),
+    };
+    entries.bytes()
+}
+
+const C1: Written = (&[QUBIT], &[], &[(LABEL, 0)]);
+
+const C2: Written = (&[QUBIT], &[], &[(APPLY, 0), (GATE, 0), (LABEL, 0)]);
+
+const C3: Written = (
+    &[QUBIT, QUBIT],
+    &[],
+    &[
+        (LET, 0),
+        (APPLY, 0),
+        (GATE, 5),
+        (PAIR, 0),
+        (LABEL, 0),
+        (LABEL, 1),
+        (PAIR, 0),
+        (VAR, 0),
+        (VAR, 1),
+    ],
+);
+
+const C4: Written = (
+    &[QUBIT],
+    &[QUBIT],
+    &[
+        (APPLY, 0),
+        (BOX, 0),
+        (LIFT, 0),
+        (ABS, 0),
+        (APPLY, 0),
+        (GATE, 0),
+        (VAR, 0),
+        (LABEL, 0),
+    ],
+);
+
+const C5: Written = (&[QUBIT], &[], &[(PAIR, 0), (LABEL, 0), (LABEL, 0)]);
+
+const C6: Written = (&[QUBIT], &[QUBIT], &[(ABS, 0), (VAR, 0)]);
+
+const C7: Written = (&[QUBIT], &[], &[(LIFT, 0), (LABEL, 0)]);
+
+const C8: Written = (
+    &[QUBIT],
+    &[],
+    &[(APPLY, 0), (GATE, 0), (APPLY, 0), (GATE, 6), (LABEL, 0)],
+);
+
+const C9: Written = (&[], &[QUBIT], &[(ABS, 0), (PAIR, 0), (VAR, 0), (VAR, 0)]);
+
+const C10: Written = (
+    &[QUBIT],
+    &[CIRCUIT, QUBIT, QUBIT],
+    &[
+        (APP, 0),
+        (ABS, 0),
+        (APPLY, 0),
+        (VAR, 0),
+        (APPLY, 0),
+        (VAR, 0),
+        (LABEL, 0),
+        (GATE, 0),
+    ],
+);
+
+const C11: Written = (&[], &[QUBIT], &[(ABS, 0), (VAR, 0)]);
+
+const C12: Written = (
+    &[QUBIT],
+    &[CIRCUIT, QUBIT, QUBIT],
+    &[(APP, 0), (ABS, 0), (LABEL, 0), (GATE, 0)],
+);
+
+/// Cases c1 to c12.
+const CASES: [(Written, &str); 12] = [
+    (C1, "in 0 Qubit\nout 0\nsteps 0\n"),
+    (C2, "in 0 Qubit\ngate H 0 : 1\nout 1\nsteps 1\n"),
+    (
+        C3,
+        "in 0 Qubit\nin 1 Qubit\ngate CNOT 0 1 : 2 3\nout 3 2\nsteps 2\n",
+    ),
+    (C4, "in 0 Qubit\ngate H 0 : 1\nout 1\nsteps 5\n"),
+    (C5, "refused 17 0\n"),
+    (C6, "refused 17 0\n"),
+    (C7, "refused 18 2\n"),
+    (C8, "refused 16 1\n"),
+    (C9, "refused 17 1\n"),
+    (
+        C10,
+        "in 0 Qubit\ngate H 0 : 1\ngate H 1 : 2\nout 2\nsteps 3\n",
+    ),
+    (C11, "refused 20 0\n"),
+    (C12, "in 0 Qubit\nout 0\nsteps 1\n"),
+];
+
+/// Other programs.
+const OTHERS: [(Written, &str); 8] = [
+    // Two wires into a box: one through a gate, one past it, and crossed.
+    (
+        (
+            &[QUBIT, QUBIT],
+            &[PAIR_TYPE, QUBIT, QUBIT],
+            &[
+                (APPLY, 0),
+                (BOX, 0),
+                (LIFT, 0),
+                (ABS, 0),
+                (LET, 0),
+                (VAR, 0),
+                (PAIR, 0),
+                (VAR, 0),
+                (APPLY, 0),
+                (GATE, 0),
+                (VAR, 1),
+                (PAIR, 0),
+                (LABEL, 0),
+                (LABEL, 1),
+            ],
+        ),
+        "in 0 Qubit\nin 1 Qubit\ngate H 0 : 2\nout 1 2\nsteps 6\n",
+    ),
+    // A gate before a box is opened and one after it is closed: the wires of
+    // the box do not count outside.
+    (
+        (
+            &[QUBIT],
+            &[QUBIT],
+            &[
+                (APP, 0),
+                (ABS, 0),
+                (APPLY, 0),
+                (BOX, 0),
+                (LIFT, 0),
+                (ABS, 0),
+                (APPLY, 0),
+                (GATE, 3),
+                (APPLY, 0),
+                (GATE, 4),
+                (VAR, 0),
+                (APPLY, 0),
+                (GATE, 1),
+                (VAR, 0),
+                (APPLY, 0),
+                (GATE, 0),
+                (LABEL, 0),
+            ],
+        ),
+        "in 0 Qubit\ngate H 0 : 1\ngate X 1 : 2\ngate T 2 : 3\ngate S 3 : 4\nout 4\nsteps 9\n",
+    ),
+    // A box inside a box, applied twice there.
+    (
+        (
+            &[BIT, QUBIT],
+            &[CIRCUIT, QUBIT, QUBIT],
+            &[
+                (PAIR, 0),
+                (LABEL, 0),
+                (APPLY, 0),
+                (BOX, 1),
+                (LIFT, 0),
+                (ABS, 1),
+                (APP, 0),
+                (ABS, 0),
+                (APPLY, 0),
+                (VAR, 0),
+                (APPLY, 0),
+                (VAR, 0),
+                (VAR, 1),
+                (BOX, 1),
+                (LIFT, 0),
+                (ABS, 1),
+                (APPLY, 0),
+                (GATE, 2),
+                (VAR, 0),
+                (LABEL, 1),
+            ],
+        ),
+        "in 0 Bit\nin 1 Qubit\ngate Z 1 : 2\ngate Z 2 : 3\nout 0 3\nsteps 11\n",
+    ),
+    // Measured, and an X under the bit.
+    (
+        (
+            &[QUBIT, QUBIT],
+            &[],
+            &[
+                (APPLY, 0),
+                (GATE, 7),
+                (PAIR, 0),
+                (APPLY, 0),
+                (GATE, 6),
+                (LABEL, 1),
+                (LABEL, 0),
+            ],
+        ),
+        "in 0 Qubit\nin 1 Qubit\ngate Meas 1 : 2\ngate BX 2 0 : 3 4\nout 3 4\nsteps 2\n",
+    ),
+    // A reusable function forced twice, and one that is dropped.
+    (
+        (
+            &[QUBIT],
+            &[REU, FUN, QUBIT, QUBIT],
+            &[
+                (APP, 0),
+                (ABS, 0),
+                (APP, 0),
+                (FORCE, 0),
+                (VAR, 0),
+                (APP, 0),
+                (FORCE, 0),
+                (VAR, 0),
+                (LABEL, 0),
+                (LIFT, 0),
+                (ABS, 2),
+                (APPLY, 0),
+                (GATE, 4),
+                (VAR, 0),
+            ],
+        ),
+        "in 0 Qubit\ngate T 0 : 1\ngate T 1 : 2\nout 2\nsteps 7\n",
+    ),
+    (
+        (
+            &[QUBIT],
+            &[REU, FUN, QUBIT, QUBIT],
+            &[
+                (APP, 0),
+                (ABS, 0),
+                (LABEL, 0),
+                (LIFT, 0),
+                (FORCE, 0),
+                (LIFT, 0),
+                (ABS, 2),
+                (APPLY, 0),
+                (GATE, 4),
+                (VAR, 0),
+            ],
+        ),
+        "in 0 Qubit\nout 0\nsteps 1\n",
+    ),
+    // Left part first: the gate of the left half has the lower number.
+    (
+        (
+            &[QUBIT, QUBIT],
+            &[],
+            &[
+                (PAIR, 0),
+                (APPLY, 0),
+                (GATE, 0),
+                (LABEL, 1),
+                (APPLY, 0),
+                (GATE, 1),
+                (LABEL, 0),
+            ],
+        ),
+        "in 0 Qubit\nin 1 Qubit\ngate H 1 : 2\ngate X 0 : 3\nout 2 3\nsteps 2\n",
+    ),
+    // An abstraction that holds a wire.
+    (
+        (
+            &[QUBIT, BIT],
+            &[FUN, BIT, PAIR_TYPE, QUBIT, BIT],
+            &[
+                (APP, 0),
+                (ABS, 0),
+                (APP, 0),
+                (VAR, 0),
+                (LABEL, 1),
+                (ABS, 1),
+                (PAIR, 0),
+                (LABEL, 0),
+                (VAR, 0),
+            ],
+        ),
+        "in 0 Qubit\nin 1 Bit\nout 0 1\nsteps 2\n",
+    ),
+];
+
+/// The listing of c2 and c4.
+const LISTING: [u8; 18] = [
+    1, 0, 1, 0, 1, 0, 129, 0, 255, 255, 255, 255, 0, 0, 255, 255, 1, 0,
+];
+
+pub fn compare(comparison: &mut Comparison) {
+    comparison.group("written by hand");
+    for (written, lines) in CASES.into_iter().chain(OTHERS) {
+        comparison.program(&file(written), &Known::Text(lines));
+    }
+    comparison.program(&[], &Known::Refused(1, 0));
+    comparison.program(&[1, 0, 0, 0, 0, 0], &Known::Refused(2, 0));
+    let bytes = [1, 0, 0, 0, 1, 0, 1, 17, 0, 0, 0, 0];
+    assert_eq!(file(C1), bytes, "the file of c1");
+    comparison.at_limit(&bytes, 0, "in 0 Qubit\nout 0\nsteps 0\n");
+    comparison.at_limit(&file(C4), 4, "refused 21 0\n");
+    comparison.at_limit(&file(C4), 5, CASES[3].1);
+    comparison.at_limit(&file(C11), 0, "refused 20 0\n");
+    for case in [C2, C4] {
+        let answer = evaluator::run(&file(case), 5);
+        let Answer::Finished { listing, .. } = &answer else {
+            panic!("{}", text(&answer));
+        };
+        assert_eq!(listing[..], LISTING, "the listing of c2 and c4");
+    }
+    assert_eq!(totals(C4), [8, 14, 11, 9, 3, 1], "the nodes of c4");
+    comparison.group("examples");
+    for example in examples() {
+        comparison.program(&example.file, &Known::Finished);
+        comparison.at_limit(&example.file, LIMIT, &example.lines);
+    }
+}
+
+/// The nodes of each configuration.
+fn totals(written: Written) -> Vec<usize> {
+    let prepared = prepare(&file(written)).expect("a program that runs");
+    let mut totals = Vec::new();
+    prepared.run_seen(u32::MAX, &mut |now| totals.push(now.nodes()));
+    totals
+}

@@ -1,0 +1,531 @@
+//! The programs that are compared, all from fixed seeds.
+
+use crate::compare::{Comparison, Known};
+use program_files::entries::{MOST_TERMS, MOST_TYPES};
+use program_files::faults;
+use program_files::generate::{Generator, Shape};
+use program_files::{encode, kinds, Entries, Positions, Program, Random, Term, Type, Wire, GATES};
+use programs::blocks::{self, blocks};
+use programs::broken::{broken, Expected, Spot, Way, WAYS};
+use programs::edit::map_leaves;
+use programs::extremes;
+use programs::rules::MOST_ENTRIES;
+use programs::terms::{
+    abstraction, application, apply, boxed, gate, label, let_in, lift, pair, variable,
+};
+use programs::typed::{padded, typed, Goal, Plan, Typed, RULES};
+use programs::types::{self, reusable, shuffle};
+use std::rc::Rc;
+
+pub fn compare(comparison: &mut Comparison) {
+    circuits_in_blocks(comparison);
+    any_rules(comparison);
+    one_rule(comparison);
+    nested_boxes(comparison);
+    copies(comparison);
+    bound_gates(comparison);
+    many_boxes(comparison);
+    wide_boxes(comparison);
+    last_types(comparison);
+    large(comparison);
+    extreme(comparison);
+    long(comparison);
+    no_wire_type(comparison);
+    one_fault(comparison);
+    several_faults(comparison);
+    not_read(comparison);
+}
+
+/// The program's file, its types listed or not, shared or not.
+fn entries(random: &mut Random, program: &Program) -> Option<Entries> {
+    let unlisted = || Program {
+        listed: Vec::new(),
+        ..program.clone()
+    };
+    let entries = match random.below(4) {
+        0 => encode(&unlisted(), Positions::Fresh),
+        1 => encode(&unlisted(), Positions::First),
+        2 => encode(&unlisted(), Positions::Any(random)),
+        _ => None,
+    };
+    let entries = entries.or_else(|| encode(program, Positions::Any(random)));
+    entries.or_else(|| encode(&unlisted(), Positions::First))
+}
+
+/// A well-typed program; none if it has no file.
+fn well_typed(comparison: &mut Comparison, random: &mut Random, typed: &Typed) -> Option<()> {
+    let entries = entries(random, &typed.program)?;
+    comparison.program(&entries.bytes(), &Known::Type(typed.of.clone()));
+    Some(())
+}
+
+/// A program of this plan, or of one that asks for less.
+fn some_typed(random: &mut Random, plan: &Plan) -> Typed {
+    let mut plan = plan.clone();
+    loop {
+        if let Some(typed) = typed(random, &plan) {
+            if entries(random, &typed.program).is_some() {
+                return typed;
+            }
+        }
+        plan.terms -= plan.terms / 8;
+        plan.types = 512;
+        if plan.goal != Goal::Wires {
+            plan.goal = Goal::Made;
+        }
+    }
+}
+
+/// So many programs of plans.
+fn planned(
+    comparison: &mut Comparison,
+    random: &mut Random,
+    count: usize,
+    plan: impl Fn(&mut Random) -> Plan,
+) {
+    for _ in 0..count {
+        let plan = plan(random);
+        let typed = some_typed(random, &plan);
+        well_typed(comparison, random, &typed).expect("a file");
+    }
+}
+
+fn any_rules(comparison: &mut Comparison) {
+    comparison.group("of a wire type, any rules");
+    let mut random = Random::new(1);
+    planned(comparison, &mut random, 8_000, |random| {
+        Plan::of_wires(random, 4, 24)
+    });
+    planned(comparison, &mut random, 4_000, |random| {
+        Plan::of_wires(random, 8, 120)
+    });
+}
+
+fn one_rule(comparison: &mut Comparison) {
+    comparison.group("of a wire type, one rule more often");
+    let mut random = Random::new(2);
+    for rule in RULES {
+        planned(comparison, &mut random, 500, |random| {
+            Plan::of_wires(random, 6, 60).favouring(&[rule])
+        });
+    }
+}
+
+fn nested_boxes(comparison: &mut Comparison) {
+    comparison.group("of a wire type, boxes inside boxes");
+    let mut random = Random::new(3);
+    planned(comparison, &mut random, 4_000, |random| {
+        Plan::of_wires(random, 5, 150).with_nested_boxes()
+    });
+}
+
+fn copies(comparison: &mut Comparison) {
+    comparison.group("of a wire type, circuits and functions used several times");
+    let mut random = Random::new(4);
+    planned(comparison, &mut random, 6_000, |random| {
+        Plan::of_wires(random, 6, 100).with_copies()
+    });
+}
+
+/// Programs of many kinds that are small. They tell most planted faults apart.
+pub fn small(comparison: &mut Comparison) {
+    comparison.group("circuits built block by block, small");
+    let mut random = Random::new(13);
+    for round in 0..300 {
+        in_blocks(comparison, &mut random, 16, round % 2 == 0);
+    }
+    comparison.group("of a wire type, any rules, small");
+    planned(comparison, &mut random, 100, |random| {
+        Plan::of_wires(random, 4, 40)
+    });
+    comparison.group("a linear use under a lift, small");
+    for base in bases(&mut random, 30) {
+        if let Some((program, _)) = broken(&mut random, &base.program, Way::UseUnderLift) {
+            let entries = entries(&mut random, &program).expect("a file");
+            comparison.program(&entries.bytes(), &Known::Number(18));
+        }
+    }
+}
+
+fn circuits_in_blocks(comparison: &mut Comparison) {
+    let mut random = Random::new(5);
+    for deep in [false, true] {
+        comparison.group(match deep {
+            false => "circuits built block by block",
+            true => "circuits built block by block, boxes inside boxes",
+        });
+        for round in 0..16_000 {
+            let actions = if round % 20 == 0 { 120 } else { 24 };
+            in_blocks(comparison, &mut random, actions, deep);
+        }
+    }
+}
+
+fn in_blocks(comparison: &mut Comparison, random: &mut Random, actions: usize, deep: bool) {
+    let plan = blocks::Plan {
+        labels: random.between(1, 6),
+        actions: random.between(1, actions),
+        boxes: random.between(1, 8),
+        deep,
+    };
+    let typed = blocks(random, &plan);
+    well_typed(comparison, random, &typed);
+}
+
+/// A gate bound to a variable that stands wherever the gate stood.
+pub fn bound_gate(typed: &Typed, number: usize) -> Option<Typed> {
+    let of = GATES[number].circuit_type();
+    if 1 + of.size() + typed.of.size() > MOST_ENTRIES {
+        return None;
+    }
+    let body = map_leaves(&typed.program.term, 0, &mut |leaf, binders| match **leaf {
+        Term::Gate(gate) if usize::from(gate) == number => variable(binders),
+        _ => leaf.clone(),
+    });
+    let term = application(abstraction(of, body), gate(number));
+    (term.size() <= MOST_TERMS).then(|| Typed {
+        program: Program {
+            term,
+            ..typed.program.clone()
+        },
+        of: typed.of.clone(),
+    })
+}
+
+fn bound_gates(comparison: &mut Comparison) {
+    comparison.group("gates bound to variables");
+    let mut random = Random::new(6);
+    for _ in 0..1_500 {
+        let plan = blocks::Plan {
+            labels: random.between(1, 6),
+            actions: random.between(1, 40),
+            boxes: 8,
+            deep: random.one_in(2),
+        };
+        let mut typed = blocks(&mut random, &plan);
+        for number in 0..GATES.len() {
+            if random.one_in(2) {
+                typed = bound_gate(&typed, number).unwrap_or(typed);
+            }
+        }
+        well_typed(comparison, &mut random, &typed);
+    }
+    for terms in [60, 512, 1_024, 2_040] {
+        for (_, typed) in extremes::all(terms) {
+            if let Some(typed) = bound_gate(&typed, 0) {
+                well_typed(comparison, &mut random, &typed);
+            }
+        }
+    }
+}
+
+/// Boxes in a row: all are closed before the last one is applied, and then the
+/// others in turn. They differ in their gates and in the order of their wires.
+fn many_boxes(comparison: &mut Comparison) {
+    comparison.group("many boxes in a row");
+    let mut random = Random::new(14);
+    for round in 0..600 {
+        let (wires, most) = [(1, 256), (2, 190), (3, 120)][round % 3];
+        let count = match random.below(3) {
+            0 => most,
+            _ => random.between(1, most),
+        };
+        let labels = in_a_row((0..wires).map(label).collect(), pair);
+        let term = (0..count).fold(labels, |argument, _| {
+            apply(any_box(&mut random, wires), argument)
+        });
+        let typed = Typed {
+            program: Program {
+                labels: vec![Wire::Qubit; wires],
+                listed: Vec::new(),
+                term,
+            },
+            of: qubits(wires),
+        };
+        well_typed(comparison, &mut random, &typed);
+    }
+}
+
+/// Pairs nested to the right.
+fn in_a_row<T: Clone>(parts: Vec<T>, pair: fn(T, T) -> T) -> T {
+    let last = parts.last().expect("at least one").clone();
+    let others = parts[..parts.len() - 1].iter().rev();
+    others.fold(last, |rest, part| pair(part.clone(), rest))
+}
+
+fn qubits(count: usize) -> Rc<Type> {
+    in_a_row(vec![Wire::Qubit.as_type(); count], types::pair)
+}
+
+/// A box of few nodes from one, two or three Qubits to as many: its wires in
+/// any order, some through gates.
+fn any_box(random: &mut Random, count: usize) -> Rc<Term> {
+    let mut wires: Vec<Rc<Term>> = match count {
+        1 => vec![variable(0)],
+        2 => vec![variable(1), variable(0)],
+        _ => vec![variable(3), variable(1), variable(0)],
+    };
+    shuffle(random, &mut wires);
+    for wire in &mut wires {
+        for _ in 0..random.pick(&[0, 0, 1, 2]) {
+            *wire = apply(gate(random.below(5)), wire.clone());
+        }
+    }
+    let result = in_a_row(wires, pair);
+    let body = (1..count).fold(result, |body, _| let_in(variable(0), body));
+    let of = qubits(count);
+    boxed(of.clone(), lift(abstraction(of, body)))
+}
+
+fn wide_boxes(comparison: &mut Comparison) {
+    comparison.group("boxes with up to 127 wires");
+    let mut random = Random::new(15);
+    for round in 0..400 {
+        let wires = match random.below(3) {
+            0 => random.between(120, 127),
+            _ => random.between(1, 127),
+        };
+        let plan = blocks::Plan {
+            labels: 1,
+            actions: round % 20,
+            boxes: 4,
+            deep: false,
+        };
+        let typed = blocks::wide(&mut random, wires, &plan);
+        well_typed(comparison, &mut random, &typed);
+    }
+}
+
+/// Types that stand at the end of a section of 512 entries, behind one that is
+/// not used.
+fn last_types(comparison: &mut Comparison) {
+    comparison.group("types at the last positions");
+    let mut random = Random::new(16);
+    for _ in 0..300 {
+        let plan = blocks::Plan {
+            labels: random.between(1, 6),
+            actions: random.between(4, 40),
+            boxes: 8,
+            deep: false,
+        };
+        let typed = blocks(&mut random, &plan);
+        let mut program = typed.program;
+        let used = encode(&program, Positions::Fresh).map(|entries| entries.types.len());
+        let Some(unused @ 1..) = used.map(|used| MOST_TYPES - used) else {
+            continue;
+        };
+        let bit = Wire::Bit.as_type();
+        let deep = (1..unused).fold(bit, |of, _| reusable(of));
+        program.listed.push(deep);
+        let entries = encode(&program, Positions::Fresh).expect("sizes in range");
+        comparison.program(&entries.bytes(), &Known::Type(typed.of));
+    }
+}
+
+fn large(comparison: &mut Comparison) {
+    comparison.group("of a wire type, large");
+    let mut random = Random::new(7);
+    planned(comparison, &mut random, 300, |random| {
+        Plan::of_wires(random, 64, 600)
+    });
+    planned(comparison, &mut random, 40, |random| {
+        Plan::of_wires(random, 64, 2_000)
+    });
+    for _ in 0..300 {
+        let plan = blocks::Plan {
+            labels: random.between(1, 64),
+            actions: random.between(40, 160),
+            boxes: random.between(1, 8),
+            deep: random.one_in(2),
+        };
+        let typed = blocks(&mut random, &plan);
+        well_typed(comparison, &mut random, &typed);
+    }
+    comparison.group("of a wire type, exactly 2,047 or 2,048 nodes");
+    let mut found = 0;
+    while found < 40 {
+        let plan = Plan::of_wires(&mut random, 64, 1_800);
+        let typed = some_typed(&mut random, &plan);
+        let terms = random.between(2_047, 2_048);
+        let typed = padded(&mut random, &typed, terms);
+        let compared = typed.and_then(|typed| well_typed(comparison, &mut random, &typed));
+        found += usize::from(compared.is_some());
+    }
+}
+
+/// One way to nest at many sizes.
+fn extreme(comparison: &mut Comparison) {
+    comparison.group("each way to nest");
+    let mut random = Random::new(8);
+    for terms in [
+        1, 2, 3, 5, 8, 13, 60, 120, 255, 256, 257, 511, 512, 1_024, 2_047, 2_048,
+    ] {
+        for (_, typed) in extremes::all(terms) {
+            well_typed(comparison, &mut random, &typed).expect("a file");
+        }
+    }
+    for (_, typed) in extremes::at_the_type_bound() {
+        well_typed(comparison, &mut random, &typed).expect("a file");
+    }
+    for count in 1..=60 {
+        let typed = extremes::boxes(1 + 5 * count);
+        well_typed(comparison, &mut random, &typed).expect("a file");
+    }
+}
+
+/// Functions that call the one inside them twice.
+fn long(comparison: &mut Comparison) {
+    comparison.group("with many steps");
+    for doublings in 0..16 {
+        let typed = extremes::calls(doublings);
+        let entries = encode(&typed.program, Positions::First).expect("sizes in range");
+        comparison.program(&entries.bytes(), &Known::Finished);
+    }
+}
+
+fn no_wire_type(comparison: &mut Comparison) {
+    comparison.group("well typed, mostly of no wire type");
+    let mut random = Random::new(9);
+    planned(comparison, &mut random, 8_000, |random| {
+        Plan::any(random, 5, 30)
+    });
+    planned(comparison, &mut random, 100, |random| {
+        Plan::any(random, 64, 1_500)
+    });
+}
+
+/// What is known of a well-typed program that was broken.
+fn known(expected: Expected, entries: &Entries) -> Known {
+    match expected {
+        Expected::Anything => Known::Nothing,
+        Expected::Number(number) => Known::Number(number),
+        Expected::Refused(number, Spot::Label(label)) => Known::Refused(number, label),
+        Expected::Refused(number, Spot::Node(node)) => {
+            Known::Refused(number, entries.sizes().first_term() + node)
+        }
+    }
+}
+
+/// Programs of a wire type, which one fault breaks or leaves as they are.
+fn bases(random: &mut Random, count: usize) -> Vec<Typed> {
+    (0..count)
+        .map(|round| match round % 3 {
+            0 => {
+                let plan = Plan::any(random, 5, 24);
+                some_typed(random, &plan)
+            }
+            1 => {
+                let plan = Plan::of_wires(random, 5, 40);
+                some_typed(random, &plan)
+            }
+            _ => {
+                let plan = blocks::Plan {
+                    labels: random.between(1, 5),
+                    actions: random.between(1, 12),
+                    boxes: 4,
+                    deep: false,
+                };
+                blocks(random, &plan)
+            }
+        })
+        .collect()
+}
+
+fn one_fault(comparison: &mut Comparison) {
+    let mut random = Random::new(10);
+    let bases = bases(&mut random, 1_500);
+    for (way, name) in WAYS {
+        comparison.group(name);
+        let wanted = if way == Way::TooLarge { 60 } else { 700 };
+        let mut found = 0;
+        let mut at = 0;
+        while found < wanted {
+            assert!(at < 60 * wanted, "too few programs: {name}");
+            let base = &bases[at % bases.len()];
+            at += 1;
+            let Some((program, expected)) = broken(&mut random, &base.program, way) else {
+                continue;
+            };
+            let Some(entries) = entries(&mut random, &program) else {
+                continue;
+            };
+            let known = known(expected, &entries);
+            comparison.program(&entries.bytes(), &known);
+            found += 1;
+        }
+    }
+}
+
+/// Two to five faults: the number and the first place count.
+fn several_faults(comparison: &mut Comparison) {
+    comparison.group("several faults");
+    let mut random = Random::new(11);
+    let ways = WAYS.iter().map(|&(way, _)| way);
+    let ways: Vec<Way> = ways.filter(|&way| way != Way::TooLarge).collect();
+    for base in bases(&mut random, 5_000) {
+        let mut program = base.program;
+        for _ in 0..random.between(2, 5) {
+            let way = random.pick(&ways);
+            if let Some((more, _)) = broken(&mut random, &program, way) {
+                program = more;
+            }
+        }
+        if let Some(entries) = entries(&mut random, &program) {
+            comparison.program(&entries.bytes(), &Known::Nothing);
+        }
+    }
+}
+
+/// Files with a fault of each number of read, and with several.
+fn not_read(comparison: &mut Comparison) {
+    comparison.group("not read, one fault");
+    let mut random = Random::new(12);
+    for number in 1..=9 {
+        for _ in 0..900 {
+            faulty(comparison, &mut random, &[number]);
+        }
+    }
+    comparison.group("not read, several faults");
+    for _ in 0..3_000 {
+        let numbers: Vec<u8> = (2..=9).filter(|_| random.one_in(3)).collect();
+        if !numbers.is_empty() {
+            faulty(comparison, &mut random, &numbers);
+        }
+    }
+    comparison.group("bytes changed");
+    let bases = bases(&mut random, 400);
+    for base in &bases {
+        let bytes = entries(&mut random, &base.program).expect("a file").bytes();
+        for _ in 0..10 {
+            let mut changed = bytes.clone();
+            let at = random.below(bytes.len());
+            match random.below(4) {
+                0 => changed.truncate(at),
+                1 => changed[at] = changed[at].wrapping_add(1),
+                2 => changed[at] ^= 1 << random.below(8),
+                _ => changed[at] = random.between(0, 27) as u8,
+            }
+            comparison.program(&changed, &Known::Nothing);
+        }
+    }
+}
+
+fn faulty(comparison: &mut Comparison, random: &mut Random, numbers: &[u8]) {
+    loop {
+        let mut shape = Shape::any(random, 5, 20, 30);
+        shape.types = shape.types.max(3);
+        if random.one_in(2) {
+            shape.type_kinds = kinds::TYPES_WITH_PARTS.to_vec();
+            shape.term_kinds = kinds::TERMS_WITH_PARTS.to_vec();
+        }
+        let (_, entries) = Generator::entries(random, &shape);
+        if let Some(broken) = faults::broken(entries, numbers, random) {
+            let known = match broken.place {
+                Some(place) => Known::Refused(broken.number, place),
+                None => Known::Number(broken.number),
+            };
+            comparison.program(&broken.bytes, &known);
+            return;
+        }
+    }
+}

@@ -1,0 +1,136 @@
+//! The run under test: the exported one, or the machine in plain Rust where
+//! the feature `port` has it stand in.
+
+#[cfg(not(feature = "port"))]
+pub use library::{answer, NAME};
+#[cfg(feature = "port")]
+pub use stand_in::{answer, NAME};
+
+#[cfg(not(feature = "port"))]
+mod library {
+    use crate::interface::WORKING;
+
+    pub const NAME: &str = "library";
+
+    extern "C" {
+        fn run_packed(
+            file_ptr: *const u8,
+            file_len: usize,
+            limit: u32,
+            out_ptr: *mut u8,
+            out_len: usize,
+            nodes_ptr: *mut u8,
+            nodes_len: usize,
+            stack_ptr: *mut u8,
+            stack_len: usize,
+            waiting_ptr: *mut u8,
+            waiting_len: usize,
+            labels_ptr: *mut u8,
+            labels_len: usize,
+            types_ptr: *mut u8,
+            types_len: usize,
+            frames_ptr: *mut u8,
+            frames_len: usize,
+            gates_ptr: *mut u8,
+            gates_len: usize,
+            closed_ptr: *mut u8,
+            closed_len: usize,
+            first_ptr: *mut u8,
+            first_len: usize,
+            second_ptr: *mut u8,
+            second_len: usize,
+            third_ptr: *mut u8,
+            third_len: usize,
+            fourth_ptr: *mut u8,
+            fourth_len: usize,
+        ) -> u64;
+    }
+
+    /// The exported run.
+    pub fn answer(
+        file: &[u8],
+        limit: u32,
+        out: &mut [u8],
+        working: [&mut [u8]; WORKING.len()],
+    ) -> u64 {
+        let [nodes, stack, waiting, labels, types, frames, gates, closed, first, second, third, fourth] =
+            working;
+        // Each pointer and length are those of one slice, and no two overlap.
+        unsafe {
+            run_packed(
+                file.as_ptr(),
+                file.len(),
+                limit,
+                out.as_mut_ptr(),
+                out.len(),
+                nodes.as_mut_ptr(),
+                nodes.len(),
+                stack.as_mut_ptr(),
+                stack.len(),
+                waiting.as_mut_ptr(),
+                waiting.len(),
+                labels.as_mut_ptr(),
+                labels.len(),
+                types.as_mut_ptr(),
+                types.len(),
+                frames.as_mut_ptr(),
+                frames.len(),
+                gates.as_mut_ptr(),
+                gates.len(),
+                closed.as_mut_ptr(),
+                closed.len(),
+                first.as_mut_ptr(),
+                first.len(),
+                second.as_mut_ptr(),
+                second.len(),
+                third.as_mut_ptr(),
+                third.len(),
+                fourth.as_mut_ptr(),
+                fourth.len(),
+            )
+        }
+    }
+}
+
+#[cfg(feature = "port")]
+mod stand_in {
+    use crate::interface::{is_short, pack, pack_finished, pack_refused, LEAST, SHORT, WORKING};
+    use port::{Answer, Memory};
+    use std::cell::RefCell;
+
+    pub const NAME: &str = "port";
+
+    thread_local! {
+        static MEMORY: RefCell<Memory> = RefCell::default();
+    }
+
+    /// The machine in plain Rust, in memory of its own; what is lent is
+    /// cleared as the exported run does.
+    pub fn answer(
+        file: &[u8],
+        limit: u32,
+        out: &mut [u8],
+        working: [&mut [u8]; WORKING.len()],
+    ) -> u64 {
+        let mut lengths = LEAST;
+        lengths[0] = out.len();
+        for (length, buffer) in lengths[1..].iter_mut().zip(&working) {
+            *length = buffer.len();
+        }
+        if is_short(&lengths) {
+            return pack(&SHORT);
+        }
+        for buffer in working {
+            buffer.fill(0);
+        }
+        let answer = MEMORY.with_borrow_mut(|memory| port::run(file, limit, out, memory));
+        match answer {
+            Answer::Finished {
+                steps,
+                gates,
+                length,
+            } => pack_finished(steps, gates, length),
+            Answer::Refused(refusal) => pack_refused(&refusal),
+        }
+    }
+}
