@@ -1,0 +1,137 @@
+/*
+ * An example host: checks and runs the program file that the command line names.
+ * Standard output has the lines of its listing, or `refused NUMBER PLACE`; standard error has its type, in preorder.
+ * Exit status: 0 finished, 1 refused, 2 the file cannot be read or the output not written.
+ */
+#include "gawipsol.h"
+
+#include <stdio.h>
+
+#define LIMIT 1000000
+
+/* A buffer as the operations take it. */
+#define LENT(buffer) (buffer), sizeof(buffer)
+
+static uint8_t file[GAWIPSOL_LONGEST_FILE + 1]; /* one byte more shows that a file is too long */
+
+static uint8_t type[GAWIPSOL_CHECK_OUT];
+static uint8_t work[GAWIPSOL_CHECK_WORK];
+
+static uint8_t listing[GAWIPSOL_RUN_OUT];
+static uint8_t nodes[GAWIPSOL_RUN_NODES];
+static uint8_t stack[GAWIPSOL_RUN_STACK];
+static uint8_t waiting[GAWIPSOL_RUN_WAITING];
+static uint8_t labels[GAWIPSOL_RUN_LABELS];
+static uint8_t types[GAWIPSOL_RUN_TYPES];
+static uint8_t frames[GAWIPSOL_RUN_FRAMES];
+static uint8_t gates[GAWIPSOL_RUN_GATES];
+static uint8_t closed[GAWIPSOL_RUN_CLOSED];
+static uint8_t first[GAWIPSOL_RUN_RESULT];
+static uint8_t second[GAWIPSOL_RUN_RESULT];
+static uint8_t third[GAWIPSOL_RUN_RESULT];
+static uint8_t fourth[GAWIPSOL_RUN_RESULT];
+
+static const char *const type_names[] = {"Bit", "Qubit", "pair", "function", "reusable", "circuit"};
+
+/* The gates by their numbers, with how many wires each makes. */
+static const struct {
+    const char *name;
+    unsigned made;
+} gate_table[] = {
+    {"H", 1}, {"X", 1}, {"Z", 1}, {"S", 1}, {"T", 1}, {"CNOT", 2}, {"Meas", 1}, {"BX", 2}, {"BZ", 2},
+};
+
+/* The 16-bit word at a place of the listing, low byte first. */
+static unsigned word(size_t at)
+{
+    return listing[at] | (unsigned)listing[at + 1] << 8;
+}
+
+static void print_type(size_t length)
+{
+    size_t at;
+
+    fprintf(stderr, "type");
+    for (at = 0; at < length; at++)
+        fprintf(stderr, " %s", type_names[type[at]]);
+    fprintf(stderr, "\n");
+}
+
+static void print_listing(uint32_t steps)
+{
+    const unsigned inputs = word(0), entries = inputs + word(2), outputs = word(4);
+    const size_t kinds = 6, slots = kinds + entries, outs = slots + 4 * (size_t)entries;
+    unsigned wire, entry, slot, at;
+
+    for (wire = 0; wire < inputs; wire++)
+        printf("in %u %s\n", wire, listing[kinds + wire] == GAWIPSOL_BIT_INPUT ? "Bit" : "Qubit");
+    for (entry = inputs; entry < entries; entry++) {
+        const unsigned gate = listing[kinds + entry], next = wire + gate_table[gate].made;
+
+        printf("gate %s", gate_table[gate].name);
+        for (slot = 0; slot < 2; slot++) {
+            const unsigned taken = word(slots + 4 * (size_t)entry + 2 * slot);
+
+            if (taken != GAWIPSOL_NO_WIRE)
+                printf(" %u", taken);
+        }
+        printf(" :");
+        for (; wire < next; wire++)
+            printf(" %u", wire);
+        printf("\n");
+    }
+    printf("out");
+    for (at = 0; at < outputs; at++)
+        printf(" %u", word(outs + 2 * (size_t)at));
+    printf("\nsteps %lu\n", (unsigned long)steps);
+}
+
+/* Checks the file and prints its type, then runs it and prints its listing; whether it finished. */
+static int check_and_run(size_t length)
+{
+    uint64_t answer = check_packed(file, length, LENT(type), LENT(work));
+
+    if (gawipsol_check_number(answer) != GAWIPSOL_ACCEPTED) {
+        printf("refused %u %u\n", gawipsol_check_number(answer), gawipsol_check_place(answer));
+        return 0;
+    }
+    print_type(gawipsol_check_length(answer));
+
+    answer = run_packed(file, length, LIMIT, LENT(listing), LENT(nodes), LENT(stack), LENT(waiting), LENT(labels),
+                        LENT(types), LENT(frames), LENT(gates), LENT(closed), LENT(first), LENT(second), LENT(third),
+                        LENT(fourth));
+    if (gawipsol_run_number(answer) != GAWIPSOL_ACCEPTED) {
+        printf("refused %u %u\n", gawipsol_run_number(answer), gawipsol_run_place(answer));
+        return 0;
+    }
+    print_listing(gawipsol_run_steps(answer));
+    return 1;
+}
+
+int main(int count, char **words)
+{
+    FILE *from;
+    size_t length;
+    int unread, finished;
+
+    if (count != 2) {
+        fprintf(stderr, "usage: host FILE\n");
+        return 2;
+    }
+    from = fopen(words[1], "rb");
+    if (from == NULL) {
+        perror(words[1]);
+        return 2;
+    }
+    length = fread(file, 1, sizeof file, from);
+    unread = ferror(from);
+    fclose(from);
+    if (unread) {
+        fprintf(stderr, "%s: cannot be read\n", words[1]);
+        return 2;
+    }
+    finished = check_and_run(length);
+    if (fflush(stdout) != 0)
+        return 2;
+    return finished ? 0 : 1;
+}
