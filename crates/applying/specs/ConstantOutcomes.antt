@@ -76,7 +76,7 @@ module _ (allowance : ℕ) (m m′ : Memory) (r : Registers) (answer : Stepped) 
       → leafKind (kind l) ≡ a-constant
       → tupleOfTree v ≡ some k
       → circuitAt K (argument l) ≡ b
-      → Outcome types positions allowance m m′ (state (evaluating (tupleTree (returned C k b)) hs) (appended C k b) Cs K) answer
+      → Outcome types positions allowance r m m′ (state (evaluating (tupleTree (returned C k b)) hs) (appended C k b) Cs K) answer
   by-circuit leaves types positions A n l v hs (circuit I gs) Cs K k (boxed T copied y) small at-stop p q s e =
       let fits = at-stop .fits in
       leaves types positions n l v hs I gs Cs K T copied y k small (at-stop .held)
@@ -160,7 +160,7 @@ constant-refused ns rs gs cs fs ws results x r allowance read full other =
     leaves types positions n l v hs I hs′ Cs K T copied y k small h below boxes e s typed =
         let d = constant-known types positions m x r n l v hs I hs′ Cs K T copied y h below boxes e read in (
           λ fit. full (room-needed types positions m x r n l v hs I hs′ Cs K T copied y h k (d .0) (d .1) allowance fit),
-          refl,
+          λ _ held. held,
         )
 
 -- At the stop of an apply the stack has a row, and there is a frame.

@@ -135,7 +135,7 @@ Leaves allowance m m′ r answer =
     → circuitAt K (argument l) ≡ boxed T copied y
     → tupleOfTree v ≡ some k
     → ConstantTyped v k T copied y
-    → Outcome types positions allowance m m′
+    → Outcome types positions allowance r m m′
     (state
     (evaluating (tupleTree (returned (circuit I gs) k (boxed T copied y))) hs)
     (appended (circuit I gs) k (boxed T copied y))

@@ -79,7 +79,7 @@ module _ (m m′ : Memory) (r : Registers) (allowance : ℕ) (answer : Stepped)
     (f : (types : ℕ → Ty) (positions : ℕ) (n g : Node) (v : Tree) (hs : List Hole) (I : List Wire) (gs : List Gate)
     (Cs : List Circuit) (K : List Boxed) (T U : Ty) (k : Tuple)
     → GateApplied types positions allowance m r n g v hs I gs Cs K T U k
-    → Outcome types positions allowance m m′ (afterGate g hs (circuit I gs) Cs K T U k) answer) where
+    → Outcome types positions allowance r m m′ (afterGate g hs (circuit I gs) Cs K T U k) answer) where
   -- Then no circuit constant is applied,
   never-constant : (n g : Node) (v : Tree) (hs : List Hole)
       → Holds (m .nodes) (m .stack) (r .place) (returning v (second n (leaf g) ∷ hs))
@@ -98,7 +98,7 @@ module _ (m m′ : Memory) (r : Registers) (allowance : ℕ) (answer : Stepped)
       → AtStop types positions A m r s at-apply
       → SizesFit allowance s
       → Contracts types s s′
-      → Outcome types positions allowance m m′ s′ answer
+      → Outcome types positions allowance r m m′ s′ answer
   by-form types positions A s s′ few stop fits (contracts-application p q) =
       let p′ = apply-kind (stop .stopped) in
       let z : _≡_ {A = ℕ} 0 1 = cc in
@@ -368,7 +368,7 @@ module _ {types : ℕ → Ty} {positions allowance : ℕ} {m : Memory} {r : Regi
         }
 
     -- The sizes fit, and the memory holds the next state.
-    gate-outcome : Outcome types positions allowance m afterwards (afterGate g hs (circuit I gs) Cs K T U k)
+    gate-outcome : Outcome types positions allowance r m afterwards (afterGate g hs (circuit I gs) Cs K T U k)
         (Taken (registersAfter r at from depth))
     gate-outcome =
         let built = a .held .built in (
@@ -408,7 +408,7 @@ pub nodes-refused : (m : Memory) (r : Registers) (allowance at number wide : ℕ
     → Steps at-apply allowance m m r TooLarge
 nodes-refused m r allowance at number wide e e′ e″ w h =
     steps-of-gate m m r allowance TooLarge e
-    (λ types positions n g v hs I gs Cs K T U k a. (nodes-exceed a at number wide e′ e″ w h, refl))
+    (λ types positions n g v hs I gs Cs K T U k a. (nodes-exceed a at number wide e′ e″ w h, λ _ held. held))
 
 pub gates-refused : (m : Memory) (r : Registers) (allowance : ℕ)
     → kind (nodeAt (m .nodes) (redexAt m r + 1)) ≡ 26
@@ -416,7 +416,7 @@ pub gates-refused : (m : Memory) (r : Registers) (allowance : ℕ)
     → Steps at-apply allowance m m r TooLarge
 gates-refused m r allowance e h =
     steps-of-gate m m r allowance TooLarge e
-    (λ types positions n g v hs I gs Cs K T U k a. (gates-exceed a h, refl))
+    (λ types positions n g v hs I gs Cs K T U k a. (gates-exceed a h, λ _ held. held))
 
 -- The contract where the step is taken.
 pub gate-taken : (m : Memory) (r : Registers) (allowance : ℕ) (ns′ : List Node) (gs′ fs′ : List Row) (ls : List ℕ)

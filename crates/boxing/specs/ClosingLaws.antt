@@ -268,7 +268,7 @@ module _ (ns ns′ : List Node) (rs : List StackRow) (gs gs′ cs cs′ fs : Lis
       (state (returning v (opened n b ∷ hs)) (circuit I gates) (C ∷ Cs) K) at-exit
       → SizesFit allowance (state (returning v (opened n b ∷ hs)) (circuit I gates) (C ∷ Cs) K)
       → tupleOfTree v ≡ some k
-      → Outcome types positions allowance (memory ns rs gs cs fs ws results) (memory ns′ rs gs′ cs′ fs ws results′)
+      → Outcome types positions allowance r (memory ns rs gs cs fs ws results) (memory ns′ rs gs′ cs′ fs ws results′)
       (state (evaluating (leaf (node 32 (length K))) hs) C Cs (boxed (types (argument n)) gates k ∷ K))
       (Taken (afterExit r e))
   exit-taken types positions allowance A n b v hs I gates C Cs K k stop sizes q =
@@ -301,7 +301,7 @@ module _ (ns ns′ : List Node) (rs : List StackRow) (gs gs′ cs cs′ fs : Lis
       → Steps at-exit allowance (memory ns rs gs cs fs ws results) (memory ns′ rs gs′ cs′ fs ws results′) r (Taken r′)
   exit-steps r′ allowance after-is types positions A s s′ most stop sizes contracts =
       subst
-      (λ t. Outcome types positions allowance (memory ns rs gs cs fs ws results) (memory ns′ rs gs′ cs′ fs ws results′) s′
+      (λ t. Outcome types positions allowance r (memory ns rs gs cs fs ws results) (memory ns′ rs gs′ cs′ fs ws results′) s′
       (Taken t))
       (sym after-is)
       (of s s′ contracts stop sizes (stop .stopped))
@@ -311,7 +311,7 @@ module _ (ns ns′ : List Node) (rs : List StackRow) (gs gs′ cs cs′ fs : Lis
           → AtStop types positions A (memory ns rs gs cs fs ws results) r s at-exit
           → SizesFit allowance s
           → Stopped (walkOf s) at-exit
-          → Outcome types positions allowance (memory ns rs gs cs fs ws results) (memory ns′ rs gs′ cs′ fs ws results′) s′
+          → Outcome types positions allowance r (memory ns rs gs cs fs ws results) (memory ns′ rs gs′ cs′ fs ws results′) s′
           (Taken (afterExit r e))
       of s s′ (contracts-application p q) stop sizes w = elim w [ ]
       of s s′ (contracts-let p q) stop sizes w = elim w [ ]
@@ -327,7 +327,7 @@ pub exit-refused : (m : Memory) (r : Registers) (allowance : ℕ)
     → (r .counts .gates ≤ most-gates → r .counts .closed ≤ most-gates → most-boxes ≤ r .counts .boxes)
     → Steps at-exit allowance m m r TooLarge
 exit-refused m r allowance full types positions A s s′ most stop sizes contracts =
-    (of s s′ contracts stop (stop .stopped), refl)
+    (of s s′ contracts stop (stop .stopped), λ _ held. held)
   where
     of : (s s′ : State)
         → Contracts types s s′

@@ -50,7 +50,7 @@ pub box-steps : (allowance : ℕ) (m m′ : Memory) (r : Registers) (answer : St
     → ((types : ℕ → Ty) (positions : ℕ) (n k : Node) (t : Tree) (hs : List Hole) (C : Circuit) (Cs : List Circuit)
     (K : List Boxed)
     → StoppedAtBox types positions allowance m r n k t hs C Cs K
-    → Outcome types positions allowance m m′ (afterEntry types n k t hs C Cs K) answer)
+    → Outcome types positions allowance r m m′ (afterEntry types n k t hs C Cs K) answer)
     → Steps at-box allowance m m′ r answer
 box-steps allowance m m′ r answer f types positions A s s′ few at sizes c = of c at sizes
   where
@@ -58,7 +58,7 @@ box-steps allowance m m′ r answer f types positions A s s′ few at sizes c = 
         → Contracts types s s′
         → AtStop types positions A m r s at-box
         → SizesFit allowance s
-        → Outcome types positions allowance m m′ s′ answer
+        → Outcome types positions allowance r m m′ s′ answer
     of (contracts-application p q) at sizes = elim (at .stopped) [ ]
     of (contracts-let p q) at sizes = elim (at .stopped) [ ]
     of (contracts-force p q) at sizes = absurd (no-force p (at .stopped))
@@ -103,7 +103,7 @@ exceeded allowance ns rs gs cs fs ws results r exceeds =
       exceeding types positions ns rs gs cs fs ws results r n k t hs C Cs K (b .held) (b .position) (b .wire-type) allowance
           (circuit (wires (types (argument n))) [] ∷ C ∷ Cs)
           exceeds,
-      refl,
+      λ _ held. held,
     ))
 
 -- The row of the new frame.

@@ -1,6 +1,5 @@
 -- What a step on lent memory has to do: the contract that all step functions have.
 use Prim.Native.Nat.{ℕ, _+_, _≤_}
-use mathlib.Core.Path.{_≡_}
 use mathlib.Core.List.{List, _∷_, _++_}
 use lib.ListN.{length}
 use Rattle.rules.specs.Types.{Ty}
@@ -40,10 +39,12 @@ pub record AtStop (types : ℕ → Ty) (positions : ℕ) (A : Ty) (m : Memory) (
   pub typed : ProgramHas A (decode types s)
   pub stopped : Stopped (walkOf s) stop
 
--- The step to s′ is taken, it fits, and the memory holds s′; or it does not fit, and the memory is as before.
-abbrev pub Outcome : (ℕ → Ty) → ℕ → ℕ → Memory → Memory → State → Stepped → Type 0
-Outcome types positions allowance m m′ s′ (Taken r′) = SizesFit allowance s′ × HoldsState types positions m′ r′ s′
-Outcome types positions allowance m m′ s′ TooLarge = (SizesFit allowance s′ → ⊥) × (m′ ≡ m)
+-- The step to s′ is taken, it fits, and the memory holds s′; or it does not fit, and with the same registers the memory
+-- holds the state that it held before.
+abbrev pub Outcome : (ℕ → Ty) → ℕ → ℕ → Registers → Memory → Memory → State → Stepped → Type 0
+Outcome types positions allowance r m m′ s′ (Taken r′) = SizesFit allowance s′ × HoldsState types positions m′ r′ s′
+Outcome types positions allowance r m m′ s′ TooLarge =
+    (SizesFit allowance s′ → ⊥) × ((s : State) → HoldsState types positions m r s → HoldsState types positions m′ r s)
 
 -- The contract of the step at a stop: from the memory m to the memory m′, for every typed state that m holds.
 abbrev pub Steps : Stop → ℕ → Memory → Memory → Registers → Stepped → Type 0
@@ -53,4 +54,4 @@ Steps stop allowance m m′ r answer =
     → AtStop types positions A m r s stop
     → SizesFit allowance s
     → Contracts types s s′
-    → Outcome types positions allowance m m′ s′ answer
+    → Outcome types positions allowance r m m′ s′ answer

@@ -21,7 +21,7 @@ pub struct Registers {
     pub counts: Counts,
 }
 
-// A step is taken, or the next configuration would exceed a size and nothing is changed.
+// A step is taken; or the next configuration would exceed a size, and the configuration is as before.
 pub enum Stepped {
     Taken(Registers),
     TooLarge,

@@ -301,7 +301,13 @@ module _ (types : ℕ → Ty) (positions : ℕ) (A : Ty) (allowance k n : ℕ) (
         let nx = stepped (g .0) (g .1) in
         record {
           state-then = s;
-          ready = subst (λ x. Ready types positions A allowance x r s) (sym (o .1)) ready;
+          ready =
+              record {
+                held = o .1 s (ready .held);
+                fits = ready .fits;
+                typed = ready .typed;
+                sizes = ready .sizes;
+              };
           as-the-rules =
               sym
               (exceeding-at allowance k n (decode types s) (decode types (g .0)) more nx

@@ -73,7 +73,7 @@ module _ (types : ℕ → Ty) (P : State → State → Type 0) where
 -- The contract of the step from s to s′.
 abbrev pub StepsTo : Stop → ℕ → Memory → Memory → Registers → Stepped → (ℕ → Ty) → ℕ → Ty → State → State → Type 0
 StepsTo stop allowance m m′ r answer types positions A s s′ =
-    AtStop types positions A m r s stop → SizesFit allowance s → Outcome types positions allowance m m′ s′ answer
+    AtStop types positions A m r s stop → SizesFit allowance s → Outcome types positions allowance r m m′ s′ answer
 
 -- An answer meets the contract at a stop where it does for every step of the form that steps have there.
 module _ (allowance : ℕ) (m m′ : Memory) (r : Registers) (answer : Stepped) where

@@ -17,8 +17,9 @@ use Rattle.walking.specs.Places.{Holds}
 use Rattle.walking.specs.Redexes.{only-redex, first-redex, second-redex, gap-wide, node-count, reduct-written}
 use Rattle.substitution.specs.Substituted.{reduct}
 use Rattle.substitution.specs.Reducts.{Ready, sizeWithin, size-known, size-refused, Wrote}
-use Rattle.substitution.specs.Contractions.{applicationBody, applicationValue, application-counted, application-held}
-use Rattle.substitution.specs.Contractions.{letBody, letValues, first-half-ends, body-ends, let-counted, let-held}
+use Rattle.substitution.specs.Contractions.{wrote-kept, reduct-moved}
+use Rattle.substitution.specs.Contractions.{applicationBody, applicationValue, application-ready, application-reduct}
+use Rattle.substitution.specs.Contractions.{letBody, letValues, first-half-ends, body-ends, let-ready, let-reduct}
 use Rattle.substitution.specs.declared.Region.{Region}
 use Rattle.substitution.specs.declared.Values.{Values}
 use Rattle.substitution.specs.declared.Size.{Size}
@@ -45,16 +46,21 @@ pub steps-answered : (stop : Stop) (ns ns′ : List Node) (rs : List StackRow) (
     → StepsNodes stop ns ns′ rs r answer
 steps-answered stop ns ns′ rs r answer answer′ e h = subst (StepsNodes stop ns ns′ rs r) (sym e) h
 
+-- What `copy_nodes` ensures, from the nodes ns to the nodes ns′.
+abbrev pub Copies : List Node → List Node → ℕ → ℕ → ℕ → Type 0
+Copies ns ns′ from to count =
+    Clear from to count
+    → from + count ≤ length ns
+    → to + count ≤ length ns
+    → ns′ ≡ over ns to (take count (drop from ns))
+
 -- At a force: behind its node, at place `at`, stands the lift's, and behind that the body, which is copied to the end of the
 -- gap.
 module _ (ns ns′ : List Node) (rs : List StackRow) (r : Registers) (at count to : ℕ)
     (at-is : at ≡ rowNode (rowAt rs (r .place .depth - 1)))
     (count-is : count ≡ r .place .left - (at + 2))
     (to-is : to ≡ r .place .right - count)
-    (copied : Clear (at + 2) to count
-    → at + 2 + count ≤ length ns
-    → to + count ≤ length ns
-    → ns′ ≡ over ns to (take count (drop (at + 2) ns))) where
+    (copied : Copies ns ns′ (at + 2) to count) where
   -- The body is held as the tree to evaluate.
   force-held : (n m : Node) (t : Tree) (hs : List Hole)
       → Holds ns rs (r .place) (returning (one m t) (only n ∷ hs))
@@ -97,101 +103,114 @@ module _ (ns ns′ : List Node) (rs : List StackRow) (r : Registers) (at count t
 abbrev pub mostBetween : List Node → ℕ → ℕ → ℕ
 mostBetween ns at next = most-nodes - (at + (length ns - next))
 
--- What `reduct_size` ensures of its answer.
-abbrev pub CountsReduct : List Node → ℕ → Region → Values → ℕ → Size → Type 0
-CountsReduct ns words source values most answer =
-    (limit : ℕ)
-    → Ready ns words limit source values
-    → answer ≡ sizeWithin most (length (reduct ns source values))
-
--- What `write_reduct` ensures.
-abbrev pub WritesReduct : List Node → List Node → ℕ → Region → Values → ℕ → ℕ → Type 0
-WritesReduct ns ns′ words source values to end =
-    Ready ns words to source values
-    → to + length (reduct ns source values) ≤ length ns
-    → Wrote ns ns′ source values to end
+-- What `write_reduct` ensures, from the nodes ns to the nodes ns₁.
+abbrev pub WritesReduct : List Node → List Node → ℕ → Region → Values → ℕ → ℕ → Size → Type 0
+WritesReduct ns ns₁ words source values to most answer =
+    Ready ns words to most source values → Wrote ns ns₁ source values to most answer
 
 -- At an application: its node stands at place `at`, the body of the abstraction behind both nodes, and the value from place
 -- `start` on.
-module _ (ns : List Node) (rs : List StackRow) (r : Registers) (at start : ℕ) (source : Region) (values : Values) (most : ℕ)
+module _ (ns ns₁ : List Node) (rs : List StackRow) (r : Registers) (at start : ℕ) (source : Region) (values : Values)
+    (most : ℕ)
     (at-is : at ≡ rowNode (rowAt rs (r .place .depth - 1)))
     (start-is : start ≡ rowStart (rowAt rs (r .place .depth - 1)))
     (source-is : source ≡ applicationBody at start)
     (values-is : values ≡ applicationValue start (r .place .left))
     (most-is : most ≡ mostBetween ns at (r .place .right))
     (words : ℕ)
-    (enough : most-nodes < words) where
-  -- The size that is counted is the reduct's.
-  application-size : (n m : Node) (t v : Tree) (hs : List Hole) (positions closed : ℕ) (answer : Size)
-      → Holds ns rs (r .place) (returning v (second n (one m t) ∷ hs))
-      → WellKinded positions closed t
-      → CountsReduct ns words source values most answer
-      → answer ≡ sizeWithin most (length (preorder (substituteTree (v ∷ []) t)))
-  application-size n m t v hs positions closed answer held kinded counted =
-      application-counted ns rs (r .place) n m t v hs held at start at-is start-is positions closed words kinded enough
-      most answer (rw (source-is, values-is) at counted)
+    (enough : most-nodes < words)
+    (answer : Size)
+    (writes : WritesReduct ns ns₁ words source values (r .place .left) most answer) where
+  application-most : most ≤ most-nodes
+  application-most = omega (arith, most-is)
 
-  -- Where it is too large, the next state would have too many nodes.
-  application-large : (n m : Node) (t v : Tree) (hs : List Hole)
-      → Holds ns rs (r .place) (returning v (second n (one m t) ∷ hs))
-      → most < length (preorder (substituteTree (v ∷ []) t))
-      → most-nodes < length (before hs) + length (preorder (substituteTree (v ∷ []) t) ++ after hs)
-  application-large n m t v hs held many =
-      let redex = second-redex ns rs (r .place) hs n (one m t) v at start held at-is start-is in
-      omega (
-        arith,
-        most-is,
-        redex .hole .at-is,
-        ap length (redex .behind),
-        length-drop (r .place .right) ns,
-        length-append (preorder (substituteTree (v ∷ []) t)) (after hs),
-      )
+  module _ (n m : Node) (t v : Tree) (hs : List Hole) (positions closed : ℕ)
+      (held : Holds ns rs (r .place) (returning v (second n (one m t) ∷ hs)))
+      (kinded : WellKinded positions closed t) where
+    -- What was written is of the rules' reduct.
+    application-wrote : Wrote ns ns₁ (applicationBody at start) (applicationValue start (r .place .left)) (r .place .left) most
+        answer
+    application-wrote =
+        (rw (source-is, values-is) at writes)
+        (application-ready ns rs (r .place) n m t v hs held at start at-is start-is positions closed words kinded enough most
+        application-most)
+
+    application-nodes : reduct ns (applicationBody at start) (applicationValue start (r .place .left))
+        ≡ preorder (substituteTree (v ∷ []) t)
+    application-nodes =
+        application-reduct ns rs (r .place) n m t v hs held at start at-is start-is positions closed words kinded enough
+
+    -- Where the reduct is too large, the next state would have too many nodes.
+    application-large : answer ≡ TooMany
+        → most-nodes < length (before hs) + length (preorder (substituteTree (v ∷ []) t) ++ after hs)
+    application-large e =
+        let redex = second-redex ns rs (r .place) hs n (one m t) v at start held at-is start-is in
+        let many : most < length (preorder (substituteTree (v ∷ []) t))
+        = size-refused most (length (preorder (substituteTree (v ∷ []) t)))
+        (sym e ∙ application-wrote .answer-is ∙ ap (λ x. sizeWithin most (length x)) application-nodes) in
+        omega (
+          arith,
+          most-is,
+          redex .hole .at-is,
+          ap length (redex .behind),
+          length-drop (r .place .right) ns,
+          length-append (preorder (substituteTree (v ∷ []) t)) (after hs),
+        )
+
+    -- Where it is not, it is copied to the end of the gap, and is evaluated.
+    application-held : (ns′ : List Node) (count to : ℕ)
+        → answer ≡ Nodes count
+        → to ≡ r .place .right - count
+        → Copies ns₁ ns′ (r .place .left) to count
+        → Holds ns′ rs (placeAfter (r .place) at to) (evaluating (substituteTree (v ∷ []) t) hs)
+    application-held ns′ count to e to-is copied =
+        let redex = second-redex ns rs (r .place) hs n (one m t) v at start held at-is start-is in
+        let under = redex .hole .under-left in
+        let wrote = subst
+        (Wrote ns ns₁ (applicationBody at start) (applicationValue start (r .place .left)) (r .place .left) most) e
+        application-wrote in
+        let small : count ≤ most = size-known most _ count (wrote .answer-is) .1 in
+        reduct-moved ns ns₁ ns′ rs (r .place) (second n (one m t)) hs v (substituteTree (v ∷ []) t) (applicationBody at start)
+        (applicationValue start (r .place .left)) at (r .place .right) count to most held at-is under wrote application-nodes
+        application-most
+        (omega arith)
+        (held .buffer .inside)
+        (redex .behind)
+        (omega (arith, most-is, held .few, node-count ns rs (r .place) (returning v (second n (one m t) ∷ hs)) held))
+        to-is
+        copied
 
   -- The step is refused where the reduct is too large.
-  pub application-refused : CountsReduct ns words source values most TooMany → StepsNodes at-application ns ns rs r TooLarge
-  application-refused counted gs cs fs ws results allowance =
-      application-form allowance (memory ns rs gs cs fs ws results) (memory ns rs gs cs fs ws results) r TooLarge
+  pub application-refused : answer ≡ TooMany → StepsNodes at-application ns ns₁ rs r TooLarge
+  application-refused e gs cs fs ws results allowance =
+      application-form allowance (memory ns rs gs cs fs ws results) (memory ns₁ rs gs cs fs ws results) r TooLarge
       λ types positions A n m t v hs C Cs K stop fits.
-      let t′ = substituteTree (v ∷ []) t in
-      let held = stop .held .walk-held in
-      let answer = application-size n m t v hs positions (length K) TooMany held (stop .fits .0 .2 .0 .2 .1) counted in
-      step-refused ns rs gs cs fs ws results types positions allowance (evaluating t′ hs) C Cs K
-      (application-large n m t v hs held (size-refused most (length (preorder t′)) answer))
-
-  -- Where it fits, all nodes together do.
-  application-few : (n m : Node) (t v : Tree) (hs : List Hole) (count : ℕ)
-      → Holds ns rs (r .place) (returning v (second n (one m t) ∷ hs))
-      → count ≤ most
-      → at + (count + (length ns - r .place .right)) ≤ most-nodes
-  application-few n m t v hs count held h =
-      let redex = second-redex ns rs (r .place) hs n (one m t) v at start held at-is start-is in
-      let under = redex .hole .under-left in
-      omega (arith, most-is, held .few, node-count ns rs (r .place) (returning v (second n (one m t) ∷ hs)) held)
-
-  -- It is taken where the reduct fits, with what is then written.
-  pub application-taken : (ns′ : List Node) (count to end words′ : ℕ)
-      → CountsReduct ns words source values most (Nodes count)
-      → to ≡ r .place .right - count
-      → words′ ≡ words
-      → WritesReduct ns ns′ words′ source values to end
-      → StepsNodes at-application ns ns′ rs r (takenTo r at to)
-  application-taken ns′ count to end words′ counted to-is same writes gs cs fs ws results allowance =
-      application-form allowance (memory ns rs gs cs fs ws results) (memory ns′ rs gs cs fs ws results) r (takenTo r at to)
-      λ types positions A n m t v hs C Cs K stop fits.
-      let t′ = substituteTree (v ∷ []) t in
       let held = stop .held .walk-held in
       let kinded : WellKinded positions (length K) t = stop .fits .0 .2 .0 .2 .1 in
-      let answer = application-size n m t v hs positions (length K) (Nodes count) held kinded counted in
-      let known = size-known most (length (preorder t′)) count answer in
+      step-refused ns ns₁ rs gs cs fs ws results types positions allowance r (evaluating (substituteTree (v ∷ []) t) hs) C Cs K
+      (application-large n m t v hs positions (length K) held kinded e)
+      λ w h.
+      wrote-kept ns ns₁ rs (r .place) w (applicationBody at start) (applicationValue start (r .place .left)) most answer h
+      application-most
+      (application-wrote n m t v hs positions (length K) held kinded)
+
+  -- It is taken where the reduct is not.
+  pub application-taken : (ns′ : List Node) (count to : ℕ)
+      → answer ≡ Nodes count
+      → to ≡ r .place .right - count
+      → Copies ns₁ ns′ (r .place .left) to count
+      → StepsNodes at-application ns ns′ rs r (takenTo r at to)
+  application-taken ns′ count to e to-is copied gs cs fs ws results allowance =
+      application-form allowance (memory ns rs gs cs fs ws results) (memory ns′ rs gs cs fs ws results) r (takenTo r at to)
+      λ types positions A n m t v hs C Cs K stop fits.
       step-taken ns ns′ rs gs cs fs ws results types positions allowance r (returning v (second n (one m t) ∷ hs))
-      (evaluating t′ hs) C Cs K at to (stop .held) fits
-      (application-held ns rs (r .place) n m t v hs held at start at-is start-is positions (length K) words kinded enough
-      count to end ns′ (known .0) (application-few n m t v hs count held (known .1)) to-is
-      (rw (same, source-is, values-is) at writes))
+      (evaluating (substituteTree (v ∷ []) t) hs) C Cs K at to (stop .held) fits
+      (application-held n m t v hs positions (length K) (stop .held .walk-held) (stop .fits .0 .2 .0 .2 .1) ns′ count to e to-is
+      copied)
 
 -- At a let: its node stands at place `at`, the halves of the pair behind both nodes, the second from place `middle` on, and
 -- the body, of k nodes, is next to be walked and ends at place `next`.
-module _ (ns : List Node) (rs : List StackRow) (r : Registers) (at middle next k : ℕ) (source : Region) (values : Values)
+module _ (ns ns₁ : List Node) (rs : List StackRow) (r : Registers) (at middle next k : ℕ) (source : Region) (values : Values)
     (most : ℕ)
     (at-is : at ≡ rowNode (rowAt rs (r .place .depth - 1)))
     (middle-is : middle ≡ at + 2 + span (drop (at + 2) ns) 1)
@@ -201,7 +220,12 @@ module _ (ns : List Node) (rs : List StackRow) (r : Registers) (at middle next k
     (values-is : values ≡ letValues at middle (r .place .left))
     (most-is : most ≡ mostBetween ns at next)
     (words : ℕ)
-    (enough : most-nodes < words) where
+    (enough : most-nodes < words)
+    (answer : Size)
+    (writes : WritesReduct ns ns₁ words source values (r .place .left) most answer) where
+  let-most : most ≤ most-nodes
+  let-most = omega (arith, most-is)
+
   module _ (n m : Node) (t t′ u : Tree) (hs : List Hole) (positions closed : ℕ)
       (held : Holds ns rs (r .place) (returning (two m t t′) (first n u ∷ hs)))
       (kinded-first : WellKinded positions closed t)
@@ -216,19 +240,27 @@ module _ (ns : List Node) (rs : List StackRow) (r : Registers) (at middle next k
     body-whole : k ≡ length (preorder u)
     body-whole = omega (arith, k-is, next-there)
 
-    -- The size that is counted is the reduct's.
-    let-size : (answer : Size)
-        → CountsReduct ns words source values most answer
-        → answer ≡ sizeWithin most (length (preorder (substituteTree (t′ ∷ t ∷ []) u)))
-    let-size answer counted =
-        let-counted ns rs (r .place) n m t t′ u hs held at at-is middle k positions closed words middle-there body-whole
-        kinded-body enough most answer (rw (source-is, values-is) at counted)
+    -- What was written is of the rules' reduct.
+    let-wrote : Wrote ns ns₁ (letBody (r .place .right) k) (letValues at middle (r .place .left)) (r .place .left) most answer
+    let-wrote =
+        (rw (source-is, values-is) at writes)
+        (let-ready ns rs (r .place) n m t t′ u hs held at at-is middle k positions closed words middle-there body-whole
+        kinded-body enough most let-most)
 
-    -- Where it is too large, the next state would have too many nodes.
-    let-large : most < length (preorder (substituteTree (t′ ∷ t ∷ []) u))
+    let-nodes : reduct ns (letBody (r .place .right) k) (letValues at middle (r .place .left))
+        ≡ preorder (substituteTree (t′ ∷ t ∷ []) u)
+    let-nodes =
+        let-reduct ns rs (r .place) n m t t′ u hs held at at-is middle k positions closed words middle-there body-whole
+        kinded-body enough
+
+    -- Where the reduct is too large, the next state would have too many nodes.
+    let-large : answer ≡ TooMany
         → most-nodes < length (before hs) + length (preorder (substituteTree (t′ ∷ t ∷ []) u) ++ after hs)
-    let-large many =
+    let-large e =
         let redex = first-redex ns rs (r .place) hs n (two m t t′) u at held at-is in
+        let many : most < length (preorder (substituteTree (t′ ∷ t ∷ []) u))
+        = size-refused most (length (preorder (substituteTree (t′ ∷ t ∷ []) u)))
+        (sym e ∙ let-wrote .answer-is ∙ ap (λ x. sizeWithin most (length x)) let-nodes) in
         omega (
           arith,
           most-is,
@@ -239,62 +271,62 @@ module _ (ns : List Node) (rs : List StackRow) (r : Registers) (at middle next k
           length-append (preorder (substituteTree (t′ ∷ t ∷ []) u)) (after hs),
         )
 
-    -- Where it fits, all nodes together do.
-    let-few : (count : ℕ) → count ≤ most → at + (count + (length ns - (r .place .right + k))) ≤ most-nodes
-    let-few count h =
+    -- Where it is not, it is copied to where the body ended, and is evaluated.
+    let-held : (ns′ : List Node) (count to : ℕ)
+        → answer ≡ Nodes count
+        → to ≡ next - count
+        → Copies ns₁ ns′ (r .place .left) to count
+        → Holds ns′ rs (placeAfter (r .place) at to) (evaluating (substituteTree (t′ ∷ t ∷ []) u) hs)
+    let-held ns′ count to e to-is copied =
         let redex = first-redex ns rs (r .place) hs n (two m t t′) u at held at-is in
         let under = redex .hole .under-left in
         let inside = redex .body-inside in
-        omega (
+        let wrote = subst
+        (Wrote ns ns₁ (letBody (r .place .right) k) (letValues at middle (r .place .left)) (r .place .left) most) e
+        let-wrote in
+        let small : count ≤ most = size-known most _ count (wrote .answer-is) .1 in
+        reduct-moved ns ns₁ ns′ rs (r .place) (first n u) hs (two m t t′) (substituteTree (t′ ∷ t ∷ []) u)
+        (letBody (r .place .right) k) (letValues at middle (r .place .left)) at next count to most held at-is under wrote
+        let-nodes
+        let-most
+        (omega (arith, next-there))
+        (omega (arith, next-there))
+        (ap (λ j. drop j ns) next-there ∙ redex .behind)
+        (omega (
           arith,
           most-is,
           next-there,
-          body-whole,
           held .few,
           node-count ns rs (r .place) (returning (two m t t′) (first n u ∷ hs)) held,
-        )
+        ))
+        to-is
+        copied
 
   -- The step is refused where the reduct is too large.
-  pub let-refused : CountsReduct ns words source values most TooMany → StepsNodes at-let ns ns rs r TooLarge
-  let-refused counted gs cs fs ws results allowance =
-      let-form allowance (memory ns rs gs cs fs ws results) (memory ns rs gs cs fs ws results) r TooLarge
+  pub let-refused : answer ≡ TooMany → StepsNodes at-let ns ns₁ rs r TooLarge
+  let-refused e gs cs fs ws results allowance =
+      let-form allowance (memory ns rs gs cs fs ws results) (memory ns₁ rs gs cs fs ws results) r TooLarge
       λ types positions A n m t t′ u hs C Cs K stop fits.
-      let u′ = substituteTree (t′ ∷ t ∷ []) u in
       let held = stop .held .walk-held in
       let w = stop .fits .0 in
-      let answer = let-size n m t t′ u hs positions (length K) held (w .0 .1) (w .2 .0 .1) TooMany counted in
-      step-refused ns rs gs cs fs ws results types positions allowance (evaluating u′ hs) C Cs K
-      (let-large n m t t′ u hs positions (length K) held (w .0 .1) (w .2 .0 .1)
-      (size-refused most (length (preorder u′)) answer))
+      step-refused ns ns₁ rs gs cs fs ws results types positions allowance r (evaluating (substituteTree (t′ ∷ t ∷ []) u) hs) C
+      Cs K
+      (let-large n m t t′ u hs positions (length K) held (w .0 .1) (w .2 .0 .1) e)
+      λ w′ h.
+      wrote-kept ns ns₁ rs (r .place) w′ (letBody (r .place .right) k) (letValues at middle (r .place .left)) most answer h
+      let-most
+      (let-wrote n m t t′ u hs positions (length K) held (w .0 .1) (w .2 .0 .1))
 
-  -- It is taken where the reduct fits, with what is then copied and written.
-  pub let-taken : (ns₁ ns′ : List Node) (moved : Region) (count to end words′ : ℕ)
-      → CountsReduct ns words source values most (Nodes count)
+  -- It is taken where the reduct is not.
+  pub let-taken : (ns′ : List Node) (count to : ℕ)
+      → answer ≡ Nodes count
       → to ≡ next - count
-      → moved ≡ letBody (r .place .left) k
-      → words′ ≡ words
-      → (Clear (r .place .right) (r .place .left) k
-      → r .place .right + k ≤ length ns
-      → r .place .left + k ≤ length ns
-      → ns₁ ≡ over ns (r .place .left) (take k (drop (r .place .right) ns)))
-      → WritesReduct ns₁ ns′ words′ moved values to end
+      → Copies ns₁ ns′ (r .place .left) to count
       → StepsNodes at-let ns ns′ rs r (takenTo r at to)
-  let-taken ns₁ ns′ moved count to end words′ counted to-is moved-is same copied writes gs cs fs ws results allowance =
+  let-taken ns′ count to e to-is copied gs cs fs ws results allowance =
       let-form allowance (memory ns rs gs cs fs ws results) (memory ns′ rs gs cs fs ws results) r (takenTo r at to)
       λ types positions A n m t t′ u hs C Cs K stop fits.
-      let u′ = substituteTree (t′ ∷ t ∷ []) u in
-      let held = stop .held .walk-held in
       let w = stop .fits .0 in
-      let answer = let-size n m t t′ u hs positions (length K) held (w .0 .1) (w .2 .0 .1) (Nodes count) counted in
-      let known = size-known most (length (preorder u′)) count answer in
-      let whole = body-whole n m t t′ u hs positions (length K) held (w .0 .1) (w .2 .0 .1) in
-      let there = next-there n m t t′ u hs positions (length K) held (w .0 .1) (w .2 .0 .1) in
       step-taken ns ns′ rs gs cs fs ws results types positions allowance r (returning (two m t t′) (first n u ∷ hs))
-      (evaluating u′ hs) C Cs K at to (stop .held) fits
-      (let-held ns rs (r .place) n m t t′ u hs held at at-is middle k positions (length K) words
-      (middle-there n m t t′ u hs positions (length K) held (w .0 .1) (w .2 .0 .1)) whole (w .2 .0 .1) enough
-      count to end ns₁ ns′ (known .0)
-      (let-few n m t t′ u hs positions (length K) held (w .0 .1) (w .2 .0 .1) count (known .1))
-      (omega arith)
-      copied
-      (rw (same, moved-is, values-is) at writes))
+      (evaluating (substituteTree (t′ ∷ t ∷ []) u) hs) C Cs K at to (stop .held) fits
+      (let-held n m t t′ u hs positions (length K) (stop .held .walk-held) (w .0 .1) (w .2 .0 .1) ns′ count to e to-is copied)

@@ -1,7 +1,6 @@
 -- What a step that builds no circuit leaves: only the nodes change, and with them the place of the walk.
 use Prim.Native.Nat.{ℕ, _+_, _-_, _<_}
 use native.Mathlib.Omega.{arith}
-use mathlib.Core.Path.{refl}
 use mathlib.Core.Bool.{false}
 use mathlib.Core.List.{List, _∷_}
 use lib.ListN.{length, length-append}
@@ -11,12 +10,12 @@ use Rattle.rules.specs.Circuits.{Circuit}
 use Rattle.rules.specs.Sizes.{most-nodes}
 use Rattle.evaluation.specs.Trees.{Node}
 use Rattle.evaluation.specs.Walks.{Walk, left, right}
-use Rattle.evaluation.specs.States.{state}
+use Rattle.evaluation.specs.States.{State, state}
 use Rattle.walking.specs.Rows.{Row as StackRow}
 use Rattle.walking.specs.Places.{Holds}
 use Rattle.walking.specs.declared.Place.{Place}
 use Rattle.circuits.specs.Layout.{Row}
-use Rattle.configuration.specs.Memory.{memory, HoldsBuilt, HoldsParts}
+use Rattle.configuration.specs.Memory.{memory, HoldsBuilt, HoldsParts, HoldsState}
 use Rattle.configuration.specs.Outcomes.{PartsFit, Outcome}
 use Rattle.configuration.specs.declared.Counts.{Counts}
 use Rattle.configuration.specs.declared.Registers.{Registers}
@@ -59,7 +58,7 @@ module _ (ns ns′ : List Node) (rs : List StackRow) (gs cs fs : List Row) (ws :
       → HoldsParts types positions (memory ns rs gs cs fs ws results) r w (C ∷ Cs) K
       → PartsFit allowance w (C ∷ Cs) K
       → Holds ns′ rs (placeAfter (r .place) at to) w′
-      → Outcome types positions allowance (memory ns rs gs cs fs ws results) (memory ns′ rs gs cs fs ws results)
+      → Outcome types positions allowance r (memory ns rs gs cs fs ws results) (memory ns′ rs gs cs fs ws results)
       (state w′ C Cs K)
       (takenTo r at to)
   step-taken r w w′ C Cs K at to h f held = (
@@ -75,12 +74,24 @@ module _ (ns ns′ : List Node) (rs : List StackRow) (gs cs fs : List Row) (ws :
     },
   )
 
--- It is refused where w′ has too many nodes, and nothing has changed.
-pub step-refused : (ns : List Node) (rs : List StackRow) (gs cs fs : List Row) (ws : List ℕ) (results : ℕ → List ℕ)
-    (types : ℕ → Ty) (positions allowance : ℕ) (w′ : Walk) (C : Circuit) (Cs : List Circuit) (K : List Boxed)
-    → most-nodes < length (left w′) + length (right w′)
-    → Outcome types positions allowance (memory ns rs gs cs fs ws results) (memory ns rs gs cs fs ws results)
-    (state w′ C Cs K)
-    TooLarge
-step-refused ns rs gs cs fs ws results types positions allowance w′ C Cs K many =
-    (λ f. omega (arith, f .nodes-fit, length-append (left w′) (right w′)), refl)
+  -- A step to the walk w′ is refused, where w′ has too many nodes and the nodes hold each walk that they held.
+  pub step-refused : (r : Registers) (w′ : Walk) (C : Circuit) (Cs : List Circuit) (K : List Boxed)
+      → most-nodes < length (left w′) + length (right w′)
+      → ((w : Walk) → Holds ns rs (r .place) w → Holds ns′ rs (r .place) w)
+      → Outcome types positions allowance r (memory ns rs gs cs fs ws results) (memory ns′ rs gs cs fs ws results)
+      (state w′ C Cs K)
+      TooLarge
+  step-refused r w′ C Cs K many kept = (
+    λ f. omega (arith, f .nodes-fit, length-append (left w′) (right w′)),
+    λ s held. of s held,
+  )
+    where
+      of : (s : State)
+          → HoldsState types positions (memory ns rs gs cs fs ws results) r s
+          → HoldsState types positions (memory ns′ rs gs cs fs ws results) r s
+      of (state w D Ds L) h =
+          record {
+            walk-held = kept w (h .walk-held);
+            built = built-kept (r .counts) (D ∷ Ds) L (h .built);
+            types-held = h .types-held;
+          }

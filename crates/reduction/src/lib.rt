@@ -10,7 +10,6 @@ use nodes::subtree_end;
 use substitution::Region;
 use substitution::Size;
 use substitution::Values;
-use substitution::reduct_size;
 use substitution::write_reduct;
 use walking::Place;
 use walking::rows::row_node;
@@ -95,8 +94,8 @@ pub fn force(nodes: &mut [u8], stack: &[u8], registers: Registers) -> Stepped
     taken(registers, at, to)
 }
 
-// The step at an application of an abstraction: the value takes the place of the variable in the body. The size is counted
-// before anything is written.
+// The step at an application of an abstraction: the value takes the place of the variable in the body. The reduct is written
+// at the start of the gap, as far as it is not too large, and then copied to where it is evaluated.
 pub fn application(
     nodes: &mut [u8],
     stack: &[u8],
@@ -120,12 +119,13 @@ pub fn application(
     };
     let values = applied_to(start, place.left);
     let most = most_between(nodes, at, place.right);
-    let size = reduct_size(nodes, waiting, source, values, most);
+    let left = place.left;
+    let size = write_reduct(nodes, waiting, source, values, left, most);
     let Size::Nodes(count) = size else {
         return Stepped::TooLarge;
     };
     let to = less(place.right, count);
-    write_reduct(nodes, waiting, source, values, to);
+    copy_nodes(nodes, left, to, count);
     taken(registers, at, to)
 }
 
@@ -151,9 +151,8 @@ fn halves(at: usize, middle: usize, left: usize) -> Values
     }
 }
 
-// The step at a let of a pair: the halves take the places of the two variables in the body, which is next to be walked.
-// The size is counted before anything is written. Then the body is copied to the start of the gap, since the reduct is
-// written where the body stood.
+// The step at a let of a pair: the halves take the places of the two variables in the body, which is next to be walked. The
+// reduct is written at the start of the gap, as far as it is not too large, and then copied to where the body ended.
 pub fn let_in(nodes: &mut [u8], stack: &[u8], waiting: &mut [u8], registers: Registers) -> Stepped
     ensures { λ r. ⌜ (most-nodes < length (words (now (waiting .entry)))
         → (gs cs fs : List Row) (ws : List ℕ) (results : ℕ → List ℕ) (allowance : ℕ)
@@ -174,16 +173,11 @@ pub fn let_in(nodes: &mut [u8], stack: &[u8], waiting: &mut [u8], registers: Reg
         length: length,
     };
     let most = most_between(nodes, at, next);
-    let size = reduct_size(nodes, waiting, body, values, most);
+    let size = write_reduct(nodes, waiting, body, values, left, most);
     let Size::Nodes(count) = size else {
         return Stepped::TooLarge;
     };
-    copy_nodes(nodes, right, left, length);
-    let copy = Region {
-        start: left,
-        length: length,
-    };
     let to = less(next, count);
-    write_reduct(nodes, waiting, copy, values, to);
+    copy_nodes(nodes, left, to, count);
     taken(registers, at, to)
 }

@@ -69,6 +69,14 @@ row-at [] n = refl
 row-at (g ∷ l) zero = refl
 row-at (g ∷ l) (suc n) = row-at l n
 
+-- The numbers of a list of gates, and the one at a number.
+pub number-in : (number : Option GateType → ℕ) (l : List GateType) (n : ℕ)
+    → n < length l
+    → getD (map (λ g. number (some g)) l) n 0 ≡ number (nth l n)
+number-in number [] n h = absurd (omega arith)
+number-in number (g ∷ l) zero h = refl
+number-in number (g ∷ l) (suc n) h = number-in number l n (omega arith)
+
 -- Every row has the same length.
 length-filled : (k : ℕ) (codes : List ℕ) → length (filled k codes) ≡ k
 length-filled zero codes = refl

@@ -79,20 +79,18 @@ filled zero codes = []
 filled (suc k) [] = 255 ∷ filled k []
 filled (suc k) (c ∷ codes) = c ∷ filled k codes
 
--- A gate's row in the code's table: the numbers of wires in, wires out and entries, then the three lists of codes.
+-- A gate's row in the code's table: the number of entries of its type, then the three lists of codes.
 abbrev pub row : Option GateType → List ℕ
 row none = []
 row (some g) =
-    length (inputWires (some g))
-    ∷ length (outputWires (some g))
-    ∷ length (circCodes (some g))
+    length (circCodes (some g))
     ∷ filled most-slots (map wireCode (inputWires (some g)))
     ++ filled most-slots (map wireCode (outputWires (some g)))
     ++ filled most-type (circCodes (some g))
 
 -- How many columns a row has, and what stands in one of them.
 abbrev pub columns : ℕ
-columns = 3 + most-slots + most-slots + most-type
+columns = 1 + most-slots + most-slots + most-type
 
 unfoldable pub cellOf : ℕ → ℕ → ℕ
 cellOf n column = codeAt (row (gateType n)) column

@@ -13,16 +13,18 @@ pub const MOST_TYPE: usize = 7;
 // The code where there is no wire, no entry or no gate.
 pub const NONE: u8 = 255;
 
-// The columns of a gate's row. First numbers: of its wires in, its wires out and the entries of its type.
-const WIRES_IN: usize = 0;
+// How many wires each gate takes, and how many it makes. The compiled code builds a constant table at each lookup, so the
+// numbers that are asked for at every copied gate stand in small tables of their own.
+const WIRES_IN: [u8; GATES] = [1, 1, 1, 1, 1, 2, 1, 2, 2];
 
-const WIRES_OUT: usize = 1;
+const WIRES_OUT: [u8; GATES] = [1, 1, 1, 1, 1, 2, 1, 2, 2];
 
-const ENTRIES: usize = 2;
+// The columns of a gate's row. First the number of the entries of its type.
+const ENTRIES: usize = 0;
 
 // Then codes, by 01's type section (0 Bit, 1 Qubit, 2 pair, 5 circuit): where the types of its wires in begin, those of
 // its wires out, and its type in preorder.
-const INPUTS: usize = 3;
+const INPUTS: usize = 1;
 
 const OUTPUTS: usize = INPUTS + MOST_SLOTS;
 
@@ -32,23 +34,23 @@ const COLUMNS: usize = TYPE + MOST_TYPE;
 
 const GATE_TABLE: [[u8; COLUMNS]; GATES] = [
     // 0 H
-    [1, 1, 3, 1, NONE, 1, NONE, 5, 1, 1, NONE, NONE, NONE, NONE],
+    [3, 1, NONE, 1, NONE, 5, 1, 1, NONE, NONE, NONE, NONE],
     // 1 X
-    [1, 1, 3, 1, NONE, 1, NONE, 5, 1, 1, NONE, NONE, NONE, NONE],
+    [3, 1, NONE, 1, NONE, 5, 1, 1, NONE, NONE, NONE, NONE],
     // 2 Z
-    [1, 1, 3, 1, NONE, 1, NONE, 5, 1, 1, NONE, NONE, NONE, NONE],
+    [3, 1, NONE, 1, NONE, 5, 1, 1, NONE, NONE, NONE, NONE],
     // 3 S
-    [1, 1, 3, 1, NONE, 1, NONE, 5, 1, 1, NONE, NONE, NONE, NONE],
+    [3, 1, NONE, 1, NONE, 5, 1, 1, NONE, NONE, NONE, NONE],
     // 4 T
-    [1, 1, 3, 1, NONE, 1, NONE, 5, 1, 1, NONE, NONE, NONE, NONE],
+    [3, 1, NONE, 1, NONE, 5, 1, 1, NONE, NONE, NONE, NONE],
     // 5 CNOT
-    [2, 2, 7, 1, 1, 1, 1, 5, 2, 1, 1, 2, 1, 1],
+    [7, 1, 1, 1, 1, 5, 2, 1, 1, 2, 1, 1],
     // 6 Meas
-    [1, 1, 3, 1, NONE, 0, NONE, 5, 1, 0, NONE, NONE, NONE, NONE],
+    [3, 1, NONE, 0, NONE, 5, 1, 0, NONE, NONE, NONE, NONE],
     // 7 BX
-    [2, 2, 7, 0, 1, 0, 1, 5, 2, 0, 1, 2, 0, 1],
+    [7, 0, 1, 0, 1, 5, 2, 0, 1, 2, 0, 1],
     // 8 BZ
-    [2, 2, 7, 0, 1, 0, 1, 5, 2, 0, 1, 2, 0, 1],
+    [7, 0, 1, 0, 1, 5, 2, 0, 1, 2, 0, 1],
 ];
 
 // What stands in a column of a gate's row.
@@ -79,22 +81,14 @@ pub fn is_gate(n: usize) -> bool
 pub fn wires_in(n: usize) -> usize
     ensures { λ r. ⌜ r ≡ wiresIn n ⌝ }
 {
-    if n < GATES {
-        wide(cell(n, WIRES_IN))
-    } else {
-        0
-    }
+    if n < GATES { wide(WIRES_IN[n]) } else { 0 }
 }
 
 // How many wires the gate makes; 0 where there is no such gate.
 pub fn wires_out(n: usize) -> usize
     ensures { λ r. ⌜ r ≡ wiresOut n ⌝ }
 {
-    if n < GATES {
-        wide(cell(n, WIRES_OUT))
-    } else {
-        0
-    }
+    if n < GATES { wide(WIRES_OUT[n]) } else { 0 }
 }
 
 // The type of the wire that the gate takes in a slot; NONE where there is no such wire.

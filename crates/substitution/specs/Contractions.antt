@@ -1,17 +1,17 @@
--- The steps at an application and at a let, in the gap buffer: what the code that counts and writes the reduct gives is
--- that the next walk is held.
+-- The steps at an application and at a let, in the gap buffer: the reduct is written at the start of the gap, and copied to
+-- its end if it is not too large. In both cases the walk that is then to be held is held.
 use Prim.Native.Nat.{ℕ, _+_, _-_, _≤_, _<_}
 use native.Mathlib.Omega.{arith}
 use mathlib.Core.Path.{_≡_, refl, sym, _∙_, ap, subst}
 use mathlib.Core.Bool.{true, false}
-use mathlib.Core.Logic.{inl}
+use mathlib.Core.Logic.{inl, inr}
 use mathlib.Core.List.{List, [], _∷_, _++_}
 use lib.ListN.{length, take, drop, length-append}
 use Rattle.rules.specs.Sizes.{most-nodes}
 use Rattle.evaluation.specs.Trees.{Node, Tree, one, two, preorder, substituteTree, WellKinded}
-use Rattle.evaluation.specs.Holes.{Hole, first, second}
-use Rattle.evaluation.specs.Walks.{evaluating, returning}
-use Rattle.nodes.specs.Regions.{over, length-over, Stands, stands-right, stands-left, stands-written}
+use Rattle.evaluation.specs.Holes.{Hole, first, second, after}
+use Rattle.evaluation.specs.Walks.{Walk, evaluating, returning}
+use Rattle.nodes.specs.Regions.{over, length-over, drop-over, Stands, stands-right, stands-left, stands-written}
 use Rattle.nodes.specs.Spans.{span}
 use Rattle.walking.specs.Rows.{Row, rowAt, rowNode, rowStart}
 use Rattle.walking.specs.Places.{Holds}
@@ -22,9 +22,68 @@ use Rattle.walking.specs.declared.Place.{Place}
 use Rattle.substitution.specs.declared.Region.{Region}
 use Rattle.substitution.specs.declared.Values.{Values}
 use Rattle.substitution.specs.declared.Size.{Size}
+use Rattle.substitution.specs.declared.Size.the-variants.{Nodes}
 use Rattle.substitution.specs.Substituted.{substituted, nodesOfRegion, reduct}
 use Rattle.substitution.specs.Forests.{substituted-whole}
-use Rattle.substitution.specs.Reducts.{Ready, sizeWithin, Wrote}
+use Rattle.substitution.specs.Reducts.{Ready, Wrote, size-known}
+
+-- What `write_reduct` writes at the start of the gap, of a reduct that is too large or not, changes no walk.
+pub wrote-kept : (ns ns₁ : List Node) (rs : List Row) (p : Place) (w : Walk) (source : Region) (values : Values) (most : ℕ)
+    (answer : Size)
+    → Holds ns rs p w
+    → most ≤ most-nodes
+    → Wrote ns ns₁ source values (p .left) most answer
+    → Holds ns₁ rs p w
+wrote-kept ns ns₁ rs p w source values most answer held few wrote =
+    let room = gap-wide ns rs p w held in
+    let short : length (wrote .written) ≤ most = wrote .within in
+    subst (λ x. Holds x rs p w) (sym (wrote .nodes-are))
+    (gap-written ns rs p w (p .left) (wrote .written) held (omega arith) (omega arith))
+
+-- A reduct that is not too large, written at the start of the gap and copied before place `next` by `copy_nodes`: the memory
+-- holds the walk that goes on with the reduct.
+pub reduct-moved : (ns ns₁ ns′ : List Node) (rs : List Row) (p : Place) (h : Hole) (hs : List Hole) (v t : Tree)
+    (source : Region) (values : Values) (at next size to most : ℕ)
+    → Holds ns rs p (returning v (h ∷ hs))
+    → at ≡ rowNode (rowAt rs (p .depth - 1))
+    → at < p .left
+    → Wrote ns ns₁ source values (p .left) most (Nodes size)
+    → reduct ns source values ≡ preorder t
+    → most ≤ most-nodes
+    → p .right ≤ next
+    → next ≤ length ns
+    → drop next ns ≡ after hs
+    → at + (size + (length ns - next)) ≤ most-nodes
+    → to ≡ next - size
+    → (Clear (p .left) to size
+    → p .left + size ≤ length ns₁
+    → to + size ≤ length ns₁
+    → ns′ ≡ over ns₁ to (take size (drop (p .left) ns₁)))
+    → Holds ns′ rs (record { left = at; right = to; depth = p .depth - 1; returning = false }) (evaluating t hs)
+reduct-moved ns ns₁ ns′ rs p h hs v t source values at next size to most held at-is before wrote same few behind inside rest
+    fits to-is copied =
+    let walk = returning v (h ∷ hs) in
+    let room = gap-wide ns rs p walk held in
+    let known = size-known most (length (reduct ns source values)) size (wrote .answer-is) in
+    let all : wrote .written ≡ preorder t = wrote .whole size refl ∙ same in
+    let long : size ≡ length (preorder t) = known .0 ∙ ap length same in
+    let short : size ≤ most = known .1 in
+    let held₁ = wrote-kept ns ns₁ rs p walk source values most (Nodes size) held few wrote in
+    let nodes₁ : ns₁ ≡ over ns (p .left) (preorder t) = wrote .nodes-are ∙ ap (over ns (p .left)) all in
+    let same-long : length ns₁ ≡ length ns = ap length nodes₁ ∙ length-over ns (p .left) (preorder t) (omega arith) in
+    let ends : to + length (preorder t) ≡ next = omega arith in
+    let there : take size (drop (p .left) ns₁) ≡ preorder t
+    = ap (λ k. take k (drop (p .left) ns₁)) long
+    ∙ subst (λ x. Stands x (p .left) (preorder t)) (sym nodes₁) (stands-written ns (p .left) (preorder t) (omega arith)) in
+    let last : drop (to + length (preorder t)) ns₁ ≡ after hs
+    = ap (λ j. drop j ns₁) ends
+    ∙ ap (drop next) nodes₁
+    ∙ drop-over ns (p .left) (preorder t) next (omega arith) (omega arith)
+    ∙ rest in
+    subst
+    (λ x. Holds x rs (record { left = at; right = to; depth = p .depth - 1; returning = false }) (evaluating t hs))
+    (sym (copied (inr (omega arith)) (omega arith) (omega arith) ∙ ap (over ns₁ to) there))
+    (reduct-written ns₁ rs p h hs v t at to held₁ at-is last (omega arith) (omega arith) (omega arith))
 
 -- A region in which a list stands.
 region-is : (ns : List Node) (start i count : ℕ) (xs : List Node)
@@ -80,62 +139,26 @@ module _ (ns : List Node) (rs : List Row) (p : Place) (n m : Node) (t v : Tree) 
       ∙ ap (substituted (preorder v ∷ []) (0 ∷ [])) application-body
       ∙ substituted-whole positions closed (v ∷ []) t kinded
 
-  application-ready : (limit : ℕ)
-      → p .left ≤ limit
-      → limit ≤ length ns
-      → Ready ns words limit (applicationBody at start) (applicationValue start (p .left))
-  application-ready limit h h′ =
+  -- The code may write the reduct at the start of the gap.
+  pub application-ready : (most : ℕ)
+      → most ≤ most-nodes
+      → Ready ns words (p .left) most (applicationBody at start) (applicationValue start (p .left))
+  application-ready most h =
       let begin = application .start-is in
       let ends = application .ends in
-      let count = node-count ns rs p (returning v (second n (one m t) ∷ hs)) held in
+      let walk = returning v (second n (one m t) ∷ hs) in
+      let count = node-count ns rs p walk held in
+      let room = gap-wide ns rs p walk held in
+      let inside : p .right ≤ length ns = held .buffer .inside in
       let few : p .left ≤ most-nodes = omega (arith, held .few) in
       record {
-        source-ends = omega arith;
-        first-ends = omega arith;
-        second-ends = omega arith;
-        inside = h′;
+        source-outside = (omega arith, inl (omega arith));
+        first-outside = (omega arith, inl (omega arith));
+        second-outside = (omega arith, inl (omega arith));
+        inside = omega arith;
         few = omega arith;
         words-enough = omega arith;
       }
-
-  -- What `reduct_size` answers.
-  pub application-counted : (most : ℕ) (r : Size)
-      → ((limit : ℕ)
-      → Ready ns words limit (applicationBody at start) (applicationValue start (p .left))
-      → r ≡ sizeWithin most (length (reduct ns (applicationBody at start) (applicationValue start (p .left)))))
-      → r ≡ sizeWithin most (length (preorder (substituteTree (v ∷ []) t)))
-  application-counted most r counted =
-      counted (length ns)
-      (application-ready (length ns) (omega (arith, held .buffer .apart, held .buffer .inside)) (omega arith))
-      ∙ ap (λ x. sizeWithin most (length x)) application-reduct
-
-  -- With what `write_reduct` leaves, of a reduct that fits, the memory holds the walk that goes on with the reduct.
-  pub application-held : (size to end : ℕ) (ns′ : List Node)
-      → size ≡ length (preorder (substituteTree (v ∷ []) t))
-      → at + (size + (length ns - p .right)) ≤ most-nodes
-      → to ≡ p .right - size
-      → (Ready ns words to (applicationBody at start) (applicationValue start (p .left))
-      → to + length (reduct ns (applicationBody at start) (applicationValue start (p .left))) ≤ length ns
-      → Wrote ns ns′ (applicationBody at start) (applicationValue start (p .left)) to end)
-      → Holds ns′ rs (record { left = at; right = to; depth = p .depth - 1; returning = false })
-      (evaluating (substituteTree (v ∷ []) t) hs)
-  application-held size to end ns′ size-is fits to-is wrote =
-      let inside : p .right ≤ length ns = held .buffer .inside in
-      let room = gap-wide ns rs p (returning v (second n (one m t) ∷ hs)) held in
-      let before : at < p .left = application .hole .under-left in
-      let ends : to + length (preorder (substituteTree (v ∷ []) t)) ≡ p .right = omega arith in
-      let whole : length (reduct ns (applicationBody at start) (applicationValue start (p .left))) ≡ size
-      = ap length application-reduct ∙ sym size-is in
-      let w = wrote (application-ready to (omega arith) (omega arith)) (omega arith) in
-      subst
-      (λ x. Holds x rs (record { left = at; right = to; depth = p .depth - 1; returning = false })
-      (evaluating (substituteTree (v ∷ []) t) hs))
-      (sym (w .nodes-are ∙ ap (over ns to) application-reduct))
-      (reduct-written ns rs p (second n (one m t)) hs v (substituteTree (v ∷ []) t) at to held at-is
-      (ap (λ j. drop j ns) ends ∙ application .behind)
-      (omega arith)
-      (omega arith)
-      (omega arith))
 
 -- Of a let: its body, of k nodes, from a place on.
 abbrev pub letBody : ℕ → ℕ → Region
@@ -187,129 +210,41 @@ module _ (ns : List Node) (rs : List Row) (p : Place) (n m : Node) (t t′ u : T
     ends-at-left : p .left ≡ middle + length (preorder t′)
     ends-at-left = omega (arith, the-let .ends, length-append (preorder t) (preorder t′))
 
-    -- The reduct, wherever the body stands.
-    let-reduct : (start : ℕ)
-        → Stands ns start (preorder u)
-        → reduct ns (letBody start k) (letValues at middle (p .left)) ≡ preorder (substituteTree (t′ ∷ t ∷ []) u)
+    -- The nodes of the reduct are those of the rules' reduct.
+    pub let-reduct : reduct ns (letBody (p .right) k) (letValues at middle (p .left))
+        ≡ preorder (substituteTree (t′ ∷ t ∷ []) u)
     unfolding reduct
-    let-reduct start s =
-        let body : take k (drop start ns) ≡ preorder u = region-is ns start start k (preorder u) s refl k-is in
+    let-reduct =
+        let body : take k (drop (p .right) ns) ≡ preorder u
+        = region-is ns (p .right) (p .right) k (preorder u) (the-let .body-at) refl k-is in
         let one-half : take (middle - (at + 2)) (drop (at + 2) ns) ≡ preorder t
         = region-is ns (at + 2) (at + 2) (middle - (at + 2)) (preorder t)
         (stands-left ns (at + 2) (preorder t) (preorder t′) halves) refl (omega arith) in
         let other-half : take (p .left - middle) (drop middle ns) ≡ preorder t′
         = region-is ns middle (at + 2 + length (preorder t)) (p .left - middle) (preorder t′)
         (stands-right ns (at + 2) (preorder t) (preorder t′) halves) middle-is (omega (arith, ends-at-left)) in
-        ap (λ x. substituted (x ∷ take (middle - (at + 2)) (drop (at + 2) ns) ∷ []) (0 ∷ []) (take k (drop start ns)))
+        ap (λ x. substituted (x ∷ take (middle - (at + 2)) (drop (at + 2) ns) ∷ []) (0 ∷ []) (take k (drop (p .right) ns)))
         other-half
-        ∙ ap (λ x. substituted (preorder t′ ∷ x ∷ []) (0 ∷ []) (take k (drop start ns))) one-half
+        ∙ ap (λ x. substituted (preorder t′ ∷ x ∷ []) (0 ∷ []) (take k (drop (p .right) ns))) one-half
         ∙ ap (substituted (preorder t′ ∷ preorder t ∷ []) (0 ∷ [])) body
         ∙ substituted-whole positions closed (t′ ∷ t ∷ []) u kinded
 
-    let-ready : (start limit : ℕ)
-        → start + k ≤ limit
-        → p .left ≤ limit
-        → limit ≤ length ns
-        → Ready ns words limit (letBody start k) (letValues at middle (p .left))
-    let-ready start limit h h′ h″ =
+    -- The code may write the reduct at the start of the gap.
+    pub let-ready : (most : ℕ)
+        → most ≤ most-nodes
+        → Ready ns words (p .left) most (letBody (p .right) k) (letValues at middle (p .left))
+    let-ready most h =
         let ends = ends-at-left in
         let body = the-let .body-inside in
-        let count = node-count ns rs p (returning (two m t t′) (first n u ∷ hs)) held in
+        let walk = returning (two m t t′) (first n u ∷ hs) in
+        let count = node-count ns rs p walk held in
+        let room = gap-wide ns rs p walk held in
         let few : p .left + k ≤ most-nodes = omega (arith, held .few) in
         record {
-          source-ends = h;
-          first-ends = omega arith;
-          second-ends = omega arith;
-          inside = h″;
+          source-outside = (omega arith, inr (omega arith));
+          first-outside = (omega arith, inl (omega arith));
+          second-outside = (omega arith, inl (omega arith));
+          inside = omega arith;
           few = omega arith;
           words-enough = omega arith;
         }
-
-    -- What `reduct_size` answers, with the body where it stands.
-    pub let-counted : (most : ℕ) (r : Size)
-        → ((limit : ℕ)
-        → Ready ns words limit (letBody (p .right) k) (letValues at middle (p .left))
-        → r ≡ sizeWithin most (length (reduct ns (letBody (p .right) k) (letValues at middle (p .left)))))
-        → r ≡ sizeWithin most (length (preorder (substituteTree (t′ ∷ t ∷ []) u)))
-    let-counted most r counted =
-        counted (length ns)
-        (let-ready (p .right) (length ns) (omega (arith, the-let .body-inside))
-        (omega (arith, held .buffer .apart, held .buffer .inside)) (omega arith))
-        ∙ ap (λ x. sizeWithin most (length x)) (let-reduct (p .right) (the-let .body-at))
-
-    -- With the body at the start of the gap too, and what `write_reduct` then leaves, of a reduct that fits, the memory
-    -- holds the walk that goes on with the reduct.
-    written-held : (size to end : ℕ) (ns′ : List Node)
-        → Stands ns (p .left) (preorder u)
-        → size ≡ length (preorder (substituteTree (t′ ∷ t ∷ []) u))
-        → at + (size + (length ns - (p .right + k))) ≤ most-nodes
-        → to ≡ p .right + k - size
-        → (Ready ns words to (letBody (p .left) k) (letValues at middle (p .left))
-        → to + length (reduct ns (letBody (p .left) k) (letValues at middle (p .left))) ≤ length ns
-        → Wrote ns ns′ (letBody (p .left) k) (letValues at middle (p .left)) to end)
-        → Holds ns′ rs (record { left = at; right = to; depth = p .depth - 1; returning = false })
-        (evaluating (substituteTree (t′ ∷ t ∷ []) u) hs)
-    written-held size to end ns′ s size-is fits to-is wrote =
-        let inside = the-let .body-inside in
-        let room = gap-wide ns rs p (returning (two m t t′) (first n u ∷ hs)) held in
-        let before : at < p .left = the-let .hole .under-left in
-        let ends : to + length (preorder (substituteTree (t′ ∷ t ∷ []) u)) ≡ p .right + length (preorder u) = omega arith in
-        let whole : length (reduct ns (letBody (p .left) k) (letValues at middle (p .left))) ≡ size
-        = ap length (let-reduct (p .left) s) ∙ sym size-is in
-        let w = wrote (let-ready (p .left) to (omega arith) (omega arith) (omega arith)) (omega arith) in
-        subst
-        (λ x. Holds x rs (record { left = at; right = to; depth = p .depth - 1; returning = false })
-        (evaluating (substituteTree (t′ ∷ t ∷ []) u) hs))
-        (sym (w .nodes-are ∙ ap (over ns to) (let-reduct (p .left) s)))
-        (reduct-written ns rs p (first n u) hs (two m t t′) (substituteTree (t′ ∷ t ∷ []) u) at to held at-is
-        (ap (λ j. drop j ns) ends ∙ the-let .behind)
-        (omega arith)
-        (omega arith)
-        (omega arith))
-
--- With the body copied to the start of the gap by `copy_nodes`, and what `write_reduct` then leaves, of a reduct that fits,
--- the memory holds the walk that goes on with the reduct.
-pub let-held : (ns : List Node) (rs : List Row) (p : Place) (n m : Node) (t t′ u : Tree) (hs : List Hole)
-    → Holds ns rs p (returning (two m t t′) (first n u ∷ hs))
-    → (at : ℕ)
-    → at ≡ rowNode (rowAt rs (p .depth - 1))
-    → (middle k positions closed words : ℕ)
-    → middle ≡ at + 2 + length (preorder t)
-    → k ≡ length (preorder u)
-    → WellKinded positions closed u
-    → most-nodes < words
-    → (size to end : ℕ) (ns₁ ns′ : List Node)
-    → size ≡ length (preorder (substituteTree (t′ ∷ t ∷ []) u))
-    → at + (size + (length ns - (p .right + k))) ≤ most-nodes
-    → to ≡ p .right + k - size
-    → (Clear (p .right) (p .left) k
-    → p .right + k ≤ length ns
-    → p .left + k ≤ length ns
-    → ns₁ ≡ over ns (p .left) (take k (drop (p .right) ns)))
-    → (Ready ns₁ words to (letBody (p .left) k) (letValues at middle (p .left))
-    → to + length (reduct ns₁ (letBody (p .left) k) (letValues at middle (p .left))) ≤ length ns₁
-    → Wrote ns₁ ns′ (letBody (p .left) k) (letValues at middle (p .left)) to end)
-    → Holds ns′ rs (record { left = at; right = to; depth = p .depth - 1; returning = false })
-    (evaluating (substituteTree (t′ ∷ t ∷ []) u) hs)
-let-held ns rs p n m t t′ u hs held at at-is middle k positions closed words middle-is k-is kinded enough size to end ns₁ ns′
-    size-is fits to-is copied wrote =
-    let walk = returning (two m t t′) (first n u ∷ hs) in
-    let redex = first-redex ns rs p hs n (two m t t′) u at held at-is in
-    let apart : p .left ≤ p .right = held .buffer .apart in
-    let inside : p .right + length (preorder u) ≤ length ns = redex .body-inside in
-    let room = gap-wide ns rs p walk held in
-    let count = node-count ns rs p walk held in
-    let few : length (preorder u) ≤ most-nodes = omega (arith, held .few) in
-    let clear : Clear (p .right) (p .left) k = inl apart in
-    let same : ns₁ ≡ over ns (p .left) (preorder u)
-    = copied clear (omega arith) (omega arith)
-    ∙ ap (over ns (p .left)) (region-is ns (p .right) (p .right) k (preorder u) (redex .body-at) refl k-is) in
-    let held₁ : Holds ns₁ rs p walk
-    = subst (λ x. Holds x rs p walk) (sym same) (gap-written ns rs p walk (p .left) (preorder u) held (omega arith) (omega arith)) in
-    let long : length ns₁ ≡ length ns = ap length same ∙ length-over ns (p .left) (preorder u) (omega arith) in
-    written-held ns₁ rs p n m t t′ u hs held₁ at at-is middle k positions closed words middle-is k-is kinded enough size to end ns′
-    (subst (λ x. Stands x (p .left) (preorder u)) (sym same) (stands-written ns (p .left) (preorder u) (omega arith)))
-    size-is
-    (omega arith)
-    to-is
-    wrote

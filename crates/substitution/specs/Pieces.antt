@@ -3,6 +3,7 @@ use Prim.Native.Nat.{ℕ, zero, suc, _+_, _-_, _≤_, _<_}
 use native.Mathlib.Omega.{arith}
 use mathlib.Core.Path.{_≡_, refl, sym, _∙_, ap}
 use mathlib.Core.Bool.{Bool, true, false, cond}
+use mathlib.Core.Logic.{_⊎_, inl, inr}
 use mathlib.Core.List.{List, [], _∷_}
 use lib.Dec.{eqb, ltb}
 use lib.ListN.{length, take, drop, length-take, length-drop}
@@ -10,6 +11,8 @@ use lib.Seq.{drop-cons}
 use borrow.Author.Tests.{ltb-true, ltb-false, eq-eqb, ne-eqb, lt-ltb, le-ltb}
 use Rattle.evaluation.specs.Trees.{Node, node, kind, argument}
 use Rattle.nodes.specs.Nodes.{nodeAt, no-node}
+use Rattle.nodes.specs.Regions.{over, getD-under, getD-over, region-below, drop-over}
+use Rattle.nodes.specs.Copies.{Clear}
 use Rattle.substitution.specs.declared.Region.{Region}
 use Rattle.substitution.specs.declared.Values.{Values}
 use Rattle.substitution.specs.Substituted.{valueAt, variableNodes, pieceFor, nodesOfRegion, nodesOfValues}
@@ -94,33 +97,71 @@ module _ (ns : List Node) (place : ℕ) (inside : place < length ns) where
   unfolding pieceFor pieceRegion
   piece-nodes values b = piece-by values b (eqb (kind (nodeAt ns place)) 16)
 
--- A region that ends at a place or before it.
-abbrev pub EndsBy : ℕ → Region → Type 0
-EndsBy limit r = r .start + r .length ≤ limit
-
-module _ (limit : ℕ) (values : Values) (place : ℕ) where
-  value-ends : EndsBy limit (values .first) → EndsBy limit (values .second) → place < limit → (a : ℕ)
-      → EndsBy limit (valueRegion values a place)
-  value-ends h h′ p zero = h
-  value-ends h h′ p (suc zero) = second-ends (values .two)
+-- What holds of the values, and of the node alone, holds of what the node becomes.
+module _ (P : Region → Type 0) (values : Values) (place : ℕ) where
+  value-has : P (values .first) → P (values .second) → P (nodeRegion place) → (a : ℕ) → P (valueRegion values a place)
+  value-has h h′ p zero = h
+  value-has h h′ p (suc zero) = second-has (values .two)
     where
-      second-ends : (two : Bool) → EndsBy limit (cond two (values .second) (nodeRegion place))
-      second-ends true = h′
-      second-ends false = omega arith
-  value-ends h h′ p (suc (suc a)) = omega arith
+      second-has : (two : Bool) → P (cond two (values .second) (nodeRegion place))
+      second-has true = h′
+      second-has false = p
+  value-has h h′ p (suc (suc a)) = p
 
-  -- What a node becomes stands where the node and the values do.
-  pub piece-ends : EndsBy limit (values .first) → EndsBy limit (values .second) → place < limit → (b : ℕ) (n : Node)
-      → EndsBy limit (pieceRegion values b n place)
+  pub piece-has : P (values .first) → P (values .second) → P (nodeRegion place) → (b : ℕ) (n : Node)
+      → P (pieceRegion values b n place)
   unfolding pieceRegion variableRegion
-  piece-ends h h′ p b n = by-kind (eqb (kind n) 16) (ltb (argument n) b)
+  piece-has h h′ p b n = by-kind (eqb (kind n) 16) (ltb (argument n) b)
     where
       by-kind : (x y : Bool)
-          → EndsBy limit
-          (cond x (cond y (nodeRegion place) (valueRegion values (argument n - b) place)) (nodeRegion place))
-      by-kind true true = omega arith
-      by-kind true false = value-ends h h′ p (argument n - b)
-      by-kind false y = omega arith
+          → P (cond x (cond y (nodeRegion place) (valueRegion values (argument n - b) place)) (nodeRegion place))
+      by-kind true true = p
+      by-kind true false = value-has h h′ p (argument n - b)
+      by-kind false y = p
+
+-- A region of a buffer with so many nodes that does not meet the k places from `to` on: it ends before them, or starts
+-- behind them.
+abbrev pub Apart : ℕ → ℕ → Region → Type 0
+Apart to k r = (r .start + r .length ≤ to) ⊎ (to + k ≤ r .start)
+
+abbrev pub Outside : ℕ → ℕ → ℕ → Region → Type 0
+Outside n to k r = (r .start + r .length ≤ n) × Apart to k r
+
+-- So is each node of it.
+pub part-outside : (n to k : ℕ) (r : Region) (i : ℕ)
+    → i < r .length
+    → Outside n to k r
+    → Outside n to k (nodeRegion (r .start + i))
+part-outside n to k r i h (inside, inl before) = (omega arith, inl (omega arith))
+part-outside n to k r i h (inside, inr behind) = (omega arith, inr (omega arith))
+
+-- What is written in these places changes nothing in it.
+pub node-outside : (ns : List Node) (to k : ℕ) (xs : List Node) (place : ℕ)
+    → to + k ≤ length ns
+    → length xs ≤ k
+    → Apart to k (nodeRegion place)
+    → nodeAt (over ns to xs) place ≡ nodeAt ns place
+node-outside ns to k xs place h h′ (inl before) = getD-under ns to xs place no-node (omega arith) (omega arith)
+node-outside ns to k xs place h h′ (inr behind) = getD-over ns to xs place no-node (omega arith) (omega arith)
+
+pub region-outside : (ns : List Node) (to k : ℕ) (xs : List Node) (r : Region)
+    → to + k ≤ length ns
+    → length xs ≤ k
+    → Outside (length ns) to k r
+    → nodesOfRegion (over ns to xs) r ≡ nodesOfRegion ns r
+region-outside ns to k xs r h h′ (inside, inl before) =
+    region-below ns to xs (r .start) (r .length) (omega arith) before
+region-outside ns to k xs r h h′ (inside, inr behind) =
+    ap (take (r .length)) (drop-over ns to xs (r .start) (omega arith) (omega arith))
+
+-- And it can be copied to them, behind the first of them.
+pub clear-outside : (n to k i : ℕ) (r : Region)
+    → i ≤ k
+    → i + r .length ≤ k
+    → Outside n to k r
+    → Clear (r .start) (to + i) (r .length)
+clear-outside n to k i r h h′ (inside, inl before) = inr (omega arith)
+clear-outside n to k i r h h′ (inside, inr behind) = inl (omega arith)
 
 -- A region inside the nodes has as many of them as it says.
 pub length-region : (ns : List Node) (r : Region)

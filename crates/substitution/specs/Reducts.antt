@@ -3,7 +3,6 @@ use Prim.Native.Nat.{ℕ, suc, _+_, _-_, _*_, _≤_, _<_}
 use native.Mathlib.Omega.{arith}
 use mathlib.Core.Path.{_≡_, refl, sym, _∙_, ap, subst}
 use mathlib.Core.Bool.{Bool, true, false, cond}
-use mathlib.Core.Logic.{inr}
 use mathlib.Core.List.{List, [], _∷_, _++_, append-assoc, append-nil}
 use lib.Dec.{leb}
 use borrow.Author.Tests.{le-leb, lt-leb, leb-true, leb-false}
@@ -12,7 +11,7 @@ use lib.Seq.{drop-cons, getD-take, getD-drop}
 use Rattle.rules.specs.Sizes.{most-nodes}
 use Rattle.evaluation.specs.Trees.{Node, node, kind, argument}
 use Rattle.nodes.specs.Nodes.{nodeAt, no-node, node-whole}
-use Rattle.nodes.specs.Regions.{over, over-nil, length-over, getD-under, region-below, over-behind}
+use Rattle.nodes.specs.Regions.{over, over-nil, length-over, over-behind}
 use Rattle.nodes.specs.Copies.{Clear}
 use Rattle.substitution.specs.declared.Region.{Region}
 use Rattle.substitution.specs.declared.Values.{Values}
@@ -20,15 +19,17 @@ use Rattle.substitution.specs.declared.Size.{Size}
 use Rattle.substitution.specs.declared.Size.the-variants.{Nodes, TooMany}
 use Rattle.substitution.specs.Substituted.{pieceFor, waitingAfter, substituted, nodesOfRegion, nodesOfValues, reduct}
 use Rattle.substitution.specs.Waiting.{stackOf, stack-push, stack-top, AtMost, at-most-next}
-use Rattle.substitution.specs.Pieces.{pieceRegion, piece-nodes, EndsBy, piece-ends, length-region}
+use Rattle.substitution.specs.Pieces.{pieceRegion, piece-nodes, Outside, piece-has, length-region, part-outside}
+use Rattle.substitution.specs.Pieces.{node-outside, region-outside, clear-outside}
 
--- The source and the values end at a place of the buffer or before it, the source is no larger than a configuration may
--- be, and there are more words than it has nodes: one for each part that may be waited for.
-pub record Ready (ns : List Node) (words limit : ℕ) (source : Region) (values : Values) : Type 0 where
-  pub source-ends : EndsBy limit source
-  pub first-ends : EndsBy limit (values .first)
-  pub second-ends : EndsBy limit (values .second)
-  pub inside : limit ≤ length ns
+-- The source and the values stand in the buffer, outside of the places from `to` on that may be written, of which there are
+-- as many as the reduct may have nodes; the source is no larger than a configuration may be, and there are more words than
+-- it has nodes: one for each part that may be waited for.
+pub record Ready (ns : List Node) (words to most : ℕ) (source : Region) (values : Values) : Type 0 where
+  pub source-outside : Outside (length ns) to most source
+  pub first-outside : Outside (length ns) to most (values .first)
+  pub second-outside : Outside (length ns) to most (values .second)
+  pub inside : to + most ≤ length ns
   pub few : source .length ≤ most-nodes
   pub words-enough : source .length < words
 
@@ -57,10 +58,14 @@ pub size-refused : (most n : ℕ) → TooMany ≡ sizeWithin most n → most < n
 unfolding sizeWithin
 size-refused most n h = refused-by most n (leb n most) refl h
 
--- What the writer leaves, and its answer: the reduct stands from the place on, and all else as before.
-pub record Wrote (ns ns′ : List Node) (source : Region) (values : Values) (to end : ℕ) : Type 0 where
-  pub nodes-are : ns′ ≡ over ns to (reduct ns source values)
-  pub end-is : end ≡ to + length (reduct ns source values)
+-- What the writer leaves, and its answer: at most so many nodes from the place on are written, all else is as before, and
+-- if the reduct is not too large, it is what was written.
+pub record Wrote (ns ns′ : List Node) (source : Region) (values : Values) (to most : ℕ) (answer : Size) : Type 0 where
+  pub written : List Node
+  pub nodes-are : ns′ ≡ over ns to written
+  pub within : length written ≤ most
+  pub answer-is : answer ≡ sizeWithin most (length (reduct ns source values))
+  pub whole : (size : ℕ) → answer ≡ Nodes size → written ≡ reduct ns source values
 
 -- What one turn finds at the node at a place, with the words before and after: what the node becomes, and the parts that
 -- are waited for.
@@ -91,15 +96,15 @@ unfolding substituted
 substituted-done vs [] = refl
 substituted-done vs (n ∷ ns) = refl
 
-module _ (ns : List Node) (words limit : ℕ) (source : Region) (values : Values)
-    (ready : Ready ns words limit source values) where
+module _ (ns : List Node) (words to most : ℕ) (source : Region) (values : Values)
+    (ready : Ready ns words to most source values) where
   -- Node i of the source, and those behind it.
   source-next : (i : ℕ)
       → i < source .length
       → drop i (nodesOfRegion ns source) ≡ nodeAt ns (source .start + i) ∷ drop (i + 1) (nodesOfRegion ns source)
   source-next i h =
       let long : length (nodesOfRegion ns source) ≡ source .length
-      = length-region ns source (omega (arith, ready .source-ends, ready .inside)) in
+      = length-region ns source (ready .source-outside .0) in
       let e : i + 1 ≡ suc i = omega arith in
       let n : getD (nodesOfRegion ns source) i no-node ≡ nodeAt ns (source .start + i)
       = getD-take (source .length) (drop (source .start) ns) i no-node h ∙ getD-drop (source .start) ns i no-node in
@@ -134,7 +139,7 @@ module _ (ns : List Node) (words limit : ℕ) (source : Region) (values : Values
       let enough : source .length < words = ready .words-enough in
       let p : nodesOfRegion ns piece ≡ pieceFor vs b (nodeAt ns place)
       = ap (nodesOfRegion ns) (t .piece-is)
-      ∙ piece-nodes ns place (omega (arith, ready .source-ends, ready .inside)) values b in
+      ∙ piece-nodes ns place (omega (arith, ready .source-outside .0)) values b in
       ap (λ w. substituted vs w (drop i (nodesOfRegion ns source))) (stack-top ws depth d)
       ∙ ap (substituted vs (b ∷ stackOf ws (depth - 1))) (source-next i h)
       ∙ substituted-next vs b (stackOf ws (depth - 1)) (nodeAt ns place) (drop (i + 1) (nodesOfRegion ns source))
@@ -187,103 +192,22 @@ nothing-waiting ns ws source values i depth e =
     ∙ substituted-done (nodesOfValues ns values) (drop i (nodesOfRegion ns source))
 
 -- Nor where no node of the source is left.
-pub nothing-left : (ns : List Node) (words limit : ℕ) (source : Region) (values : Values)
-    → Ready ns words limit source values
+pub nothing-left : (ns : List Node) (words to most : ℕ) (source : Region) (values : Values)
+    → Ready ns words to most source values
     → (ws : List ℕ) (i depth : ℕ)
     → source .length ≤ i
     → stillToWrite ns ws source values i depth ≡ []
-nothing-left ns words limit source values ready ws i depth h =
-    let long : length (nodesOfRegion ns source) ≡ source .length
-    = length-region ns source (omega (arith, ready .source-ends, ready .inside)) in
+nothing-left ns words to most source values ready ws i depth h =
+    let long : length (nodesOfRegion ns source) ≡ source .length = length-region ns source (ready .source-outside .0) in
     ap (substituted (nodesOfValues ns values) (stackOf ws depth))
     (drop-of-length-le (nodesOfRegion ns source) {i = i} (omega arith))
     ∙ substituted-none (nodesOfValues ns values) (stackOf ws depth)
 
--- The size of the reduct, after i nodes of the source: what was counted and what is still to be written.
-pub record Counting (ns : List Node) (ws : List ℕ) (source : Region) (values : Values) (i depth size : ℕ) : Type 0 where
-  pub counted : size + length (stillToWrite ns ws source values i depth) ≡ length (reduct ns source values)
-  pub around : AtMost (2 * i) (stackOf ws depth)
-
--- At first nothing was counted.
-pub counting-start : (ns : List Node) (ws ws′ : List ℕ) (source : Region) (values : Values)
-    → ws′ ≡ set ws 0 0
-    → 0 < length ws′
-    → Counting ns ws′ source values 0 1 0
-counting-start ns ws ws′ source values e h =
-    record {
-      counted = omega (arith, ap length (start-writes ns ws ws′ source values e h));
-      around = start-binders ws ws′ e h;
-    }
-
--- What was counted when nothing is still to be written is the answer.
-pub counting-end : (ns : List Node) (ws : List ℕ) (source : Region) (values : Values) (i depth size most : ℕ)
-    → Counting ns ws source values i depth size
-    → stillToWrite ns ws source values i depth ≡ []
-    → size ≤ most
-    → Nodes size ≡ sizeWithin most (length (reduct ns source values))
-unfolding sizeWithin
-counting-end ns ws source values i depth size most c e h =
-    let all : size ≡ length (reduct ns source values) = omega (arith, c .counted, ap length e) in
-    ap (λ x. cond x (Nodes size) TooMany) (sym (le-leb size most h)) ∙ ap (sizeWithin most) all
-
--- And this one, if the nodes are too many.
-pub too-many : (most n : ℕ) → most < n → TooMany ≡ sizeWithin most n
-unfolding sizeWithin
-too-many most n h = ap (λ x. cond x (Nodes n) TooMany) (sym (lt-leb n most h))
-
-module _ (ns : List Node) (words limit : ℕ) (source : Region) (values : Values)
-    (ready : Ready ns words limit source values) where
-  -- What a node becomes, of a source and values that end by a place, ends by it too.
-  pub turn-ends : (ns′ : List Node) (ws ws′ : List ℕ) (i depth : ℕ) (piece : Region) (depth′ : ℕ)
-      → i < source .length
-      → NextPiece ns′ ws ws′ values (source .start + i) depth piece depth′
-      → EndsBy limit piece
-  turn-ends ns′ ws ws′ i depth piece depth′ h t =
-      subst (EndsBy limit) (sym (t .piece-is))
-      (piece-ends limit values (source .start + i) (ready .first-ends) (ready .second-ends)
-      (omega (arith, ready .source-ends)) (getD ws (depth - 1) 0) (nodeAt ns′ (source .start + i)))
-
-  -- A turn counts what the node becomes.
-  pub counting-next : (ws ws′ : List ℕ) (i depth size : ℕ) (piece : Region) (depth′ : ℕ)
-      → i < source .length
-      → 0 < depth
-      → depth ≤ i + 1
-      → length ws ≡ words
-      → Counting ns ws source values i depth size
-      → NextPiece ns ws ws′ values (source .start + i) depth piece depth′
-      → Counting ns ws′ source values (i + 1) depth′ (size + piece .length)
-  counting-next ws ws′ i depth size piece depth′ h d dd long c t =
-      let whole = turn-writes ns words limit source values ready ws ws′ i depth piece depth′ h d dd long (c .around) t in
-      let ends : piece .start + piece .length ≤ limit = turn-ends ns ws ws′ i depth piece depth′ h t in
-      record {
-        counted =
-            omega (
-              arith,
-              c .counted,
-              ap length whole,
-              length-append (nodesOfRegion ns piece) (stillToWrite ns ws′ source values (i + 1) depth′),
-              length-region ns piece (omega (arith, ready .inside)),
-            );
-        around = turn-binders ns words limit source values ready ws ws′ i depth piece depth′ h d dd long (c .around) t;
-      }
-
-  -- The reduct is at least as large as what was counted with what the node becomes.
-  pub counting-least : (ws ws′ : List ℕ) (i depth size : ℕ) (piece : Region) (depth′ : ℕ)
-      → i < source .length
-      → 0 < depth
-      → depth ≤ i + 1
-      → length ws ≡ words
-      → Counting ns ws source values i depth size
-      → NextPiece ns ws ws′ values (source .start + i) depth piece depth′
-      → size + piece .length ≤ length (reduct ns source values)
-  counting-least ws ws′ i depth size piece depth′ h d dd long c t =
-      omega (arith, counting-next ws ws′ i depth size piece depth′ h d dd long c t .counted)
-
 -- The nodes ns′ at a turn of the writer, of the nodes ns at its start: `done` is written, the rest still to be written.
-pub record Writing (ns ns′ : List Node) (ws : List ℕ) (source : Region) (values : Values) (to i depth end : ℕ) : Type 0 where
+pub record Writing (ns ns′ : List Node) (ws : List ℕ) (source : Region) (values : Values) (to i depth size : ℕ) : Type 0 where
   pub done : List Node
   pub nodes-are : ns′ ≡ over ns to done
-  pub end-is : end ≡ to + length done
+  pub size-is : size ≡ length done
   pub whole : done ++ stillToWrite ns ws source values i depth ≡ reduct ns source values
   pub around : AtMost (2 * i) (stackOf ws depth)
 
@@ -291,44 +215,61 @@ pub record Writing (ns ns′ : List Node) (ws : List ℕ) (source : Region) (val
 pub writing-start : (ns : List Node) (ws ws′ : List ℕ) (source : Region) (values : Values) (to : ℕ)
     → ws′ ≡ set ws 0 0
     → 0 < length ws′
-    → Writing ns ns ws′ source values to 0 1 to
+    → Writing ns ns ws′ source values to 0 1 0
 writing-start ns ws ws′ source values to e h =
     record {
       done = [];
       nodes-are = sym (over-nil ns to);
-      end-is = omega arith;
+      size-is = refl;
       whole = start-writes ns ws ws′ source values e h;
       around = start-binders ws ws′ e h;
     }
 
--- What was written when nothing is still to be written.
-pub writing-end : (ns ns′ : List Node) (ws : List ℕ) (source : Region) (values : Values) (to i depth end : ℕ)
-    → Writing ns ns′ ws source values to i depth end
+fits-within : (most n : ℕ) → n ≤ most → Nodes n ≡ sizeWithin most n
+unfolding sizeWithin
+fits-within most n h = ap (λ x. cond x (Nodes n) TooMany) (sym (le-leb n most h))
+
+exceeds : (most n : ℕ) → most < n → TooMany ≡ sizeWithin most n
+unfolding sizeWithin
+exceeds most n h = ap (λ x. cond x (Nodes n) TooMany) (sym (lt-leb n most h))
+
+-- What was written when nothing is still to be written is the reduct.
+pub writing-end : (ns ns′ : List Node) (ws : List ℕ) (source : Region) (values : Values) (to most i depth size : ℕ)
+    → Writing ns ns′ ws source values to i depth size
     → stillToWrite ns ws source values i depth ≡ []
-    → Wrote ns ns′ source values to end
-writing-end ns ns′ ws source values to i depth end w e =
+    → size ≤ most
+    → Wrote ns ns′ source values to most (Nodes size)
+writing-end ns ns′ ws source values to most i depth size w e h =
     let all : w .done ≡ reduct ns source values
     = sym (append-nil (w .done)) ∙ ap (λ x. w .done ++ x) (sym e) ∙ w .whole in
     record {
-      nodes-are = w .nodes-are ∙ ap (over ns to) all;
-      end-is = w .end-is ∙ ap (λ x. to + length x) all;
+      written = w .done;
+      nodes-are = w .nodes-are;
+      within = omega (arith, w .size-is);
+      answer-is = fits-within most size h ∙ ap (sizeWithin most) (w .size-is ∙ ap length all);
+      whole = λ _ _. all;
     }
 
-module _ (ns : List Node) (words : ℕ) (source : Region) (values : Values) (to : ℕ)
-    (ready : Ready ns words to source values)
-    (room : to + length (reduct ns source values) ≤ length ns) where
-  module _ (ns′ : List Node) (ws ws′ : List ℕ) (i depth end : ℕ) (piece : Region) (depth′ : ℕ)
+module _ (ns : List Node) (words : ℕ) (source : Region) (values : Values) (to most : ℕ)
+    (ready : Ready ns words to most source values) where
+  module _ (ns′ : List Node) (ws ws′ : List ℕ) (i depth size : ℕ) (piece : Region) (depth′ : ℕ)
       (h : i < source .length)
       (d : 0 < depth)
       (dd : depth ≤ i + 1)
       (long : length ws ≡ words)
-      (w : Writing ns ns′ ws source values to i depth end)
+      (few : size ≤ most)
+      (w : Writing ns ns′ ws source values to i depth size)
       (t : NextPiece ns′ ws ws′ values (source .start + i) depth piece depth′) where
+    -- What was written stands in the places that may be written.
+    fits : to + length (w .done) ≤ length ns
+    fits = omega (arith, w .size-is, ready .inside)
+
     -- The node stands as it did at the start.
     same-node : nodeAt ns′ (source .start + i) ≡ nodeAt ns (source .start + i)
     same-node =
         ap (λ x. nodeAt x (source .start + i)) (w .nodes-are)
-        ∙ getD-under ns to (w .done) (source .start + i) no-node (ready .inside) (omega (arith, ready .source-ends))
+        ∙ node-outside ns to most (w .done) (source .start + i) (ready .inside) (omega (arith, w .size-is))
+        (part-outside (length ns) to most source i h (ready .source-outside) .1)
 
     same-turn : NextPiece ns ws ws′ values (source .start + i) depth piece depth′
     same-turn =
@@ -339,22 +280,27 @@ module _ (ns : List Node) (words : ℕ) (source : Region) (values : Values) (to 
           waits = λ p q. t .waits p q ∙ ap (λ n. waitingAfter (kind n) b (stackOf ws (depth - 1))) same-node;
         }
 
-    ends : EndsBy to piece
-    ends = turn-ends ns words to source values ready ns′ ws ws′ i depth piece depth′ h t
+    -- What the node becomes stands outside of those places too.
+    piece-outside : Outside (length ns) to most piece
+    piece-outside =
+        subst (Outside (length ns) to most) (sym (t .piece-is))
+        (piece-has (Outside (length ns) to most) values (source .start + i) (ready .first-outside) (ready .second-outside)
+        (part-outside (length ns) to most source i h (ready .source-outside)) (getD ws (depth - 1) 0)
+        (nodeAt ns′ (source .start + i)))
 
-    -- So do the nodes that it becomes.
+    -- So it stands as it did.
     same-piece : nodesOfRegion ns′ piece ≡ nodesOfRegion ns piece
     same-piece =
         ap (λ x. nodesOfRegion x piece) (w .nodes-are)
-        ∙ region-below ns to (w .done) (piece .start) (piece .length) (ready .inside) ends
+        ∙ region-outside ns to most (w .done) piece (ready .inside) (omega (arith, w .size-is)) piece-outside
 
     rest-writes : stillToWrite ns ws source values i depth
         ≡ nodesOfRegion ns piece ++ stillToWrite ns ws′ source values (i + 1) depth′
     rest-writes =
-        turn-writes ns words to source values ready ws ws′ i depth piece depth′ h d dd long (w .around) same-turn
+        turn-writes ns words to most source values ready ws ws′ i depth piece depth′ h d dd long (w .around) same-turn
 
     piece-long : length (nodesOfRegion ns piece) ≡ piece .length
-    piece-long = length-region ns piece (omega (arith, ends, ready .inside))
+    piece-long = length-region ns piece (piece-outside .0)
 
     whole-next : (w .done ++ nodesOfRegion ns piece) ++ stillToWrite ns ws′ source values (i + 1) depth′
         ≡ reduct ns source values
@@ -363,47 +309,52 @@ module _ (ns : List Node) (words : ℕ) (source : Region) (values : Values) (to 
         ∙ ap (λ x. w .done ++ x) (sym rest-writes)
         ∙ w .whole
 
-    -- What the node becomes stands before the place where it is to be written.
-    piece-before : piece .start + piece .length ≤ end
-    piece-before = omega (arith, ends, w .end-is)
-
-    -- And there is room for it.
-    pub piece-room : end + piece .length ≤ length ns
-    piece-room =
-        omega (
-          arith,
-          w .end-is,
-          piece-long,
-          ap length whole-next,
-          length-append (w .done ++ nodesOfRegion ns piece) (stillToWrite ns ws′ source values (i + 1) depth′),
-          length-append (w .done) (nodesOfRegion ns piece),
-        )
+    -- Where there is no room for what the node becomes, the reduct is too large.
+    pub writing-refused : most < size + piece .length → Wrote ns ns′ source values to most TooMany
+    writing-refused many =
+        record {
+          written = w .done;
+          nodes-are = w .nodes-are;
+          within = omega (arith, w .size-is);
+          answer-is =
+              exceeds most (length (reduct ns source values))
+              (omega (
+                arith,
+                w .size-is,
+                piece-long,
+                ap length whole-next,
+                length-append (w .done ++ nodesOfRegion ns piece) (stillToWrite ns ws′ source values (i + 1) depth′),
+                length-append (w .done) (nodesOfRegion ns piece),
+              ));
+          whole = λ n e. let z : _≡_ {A = ℕ} 0 1 = cc in absurd (omega arith);
+        }
 
     -- A turn writes what the node becomes, where its nodes are copied.
     pub writing-next : (ns″ : List Node)
-        → (Clear (piece .start) end (piece .length)
+        → size + piece .length ≤ most
+        → (Clear (piece .start) (to + size) (piece .length)
         → piece .start + piece .length ≤ length ns′
-        → end + piece .length ≤ length ns′
-        → ns″ ≡ over ns′ end (nodesOfRegion ns′ piece))
-        → Writing ns ns″ ws′ source values to (i + 1) depth′ (end + piece .length)
-    writing-next ns″ copied =
-        let fits : to + length (w .done) ≤ length ns = omega (arith, piece-room, w .end-is) in
+        → to + size + piece .length ≤ length ns′
+        → ns″ ≡ over ns′ (to + size) (nodesOfRegion ns′ piece))
+        → Writing ns ns″ ws′ source values to (i + 1) depth′ (size + piece .length)
+    writing-next ns″ room copied =
         let same-long : length ns′ ≡ length ns = ap length (w .nodes-are) ∙ length-over ns to (w .done) fits in
-        let clear : Clear (piece .start) end (piece .length) = inr piece-before in
-        let e : ns″ ≡ over ns′ end (nodesOfRegion ns′ piece)
-        = copied clear (omega (arith, piece-before, piece-room)) (omega (arith, piece-room)) in
+        let whole : to + most ≤ length ns = ready .inside in
+        let there : piece .start + piece .length ≤ length ns = piece-outside .0 in
+        let e : ns″ ≡ over ns′ (to + size) (nodesOfRegion ns′ piece)
+        = copied (clear-outside (length ns) to most size piece few room piece-outside) (omega arith) (omega arith) in
         record {
           done = w .done ++ nodesOfRegion ns piece;
           nodes-are =
               e
-              ∙ ap (λ x. over ns′ end x) same-piece
-              ∙ ap (λ x. over x end (nodesOfRegion ns piece)) (w .nodes-are)
-              ∙ ap (λ j. over (over ns to (w .done)) j (nodesOfRegion ns piece)) (w .end-is)
+              ∙ ap (λ x. over ns′ (to + size) x) same-piece
+              ∙ ap (λ x. over x (to + size) (nodesOfRegion ns piece)) (w .nodes-are)
+              ∙ ap (λ j. over (over ns to (w .done)) (to + j) (nodesOfRegion ns piece)) (w .size-is)
               ∙ over-behind ns to (w .done) (nodesOfRegion ns piece) fits;
-          end-is = omega (arith, w .end-is, piece-long, length-append (w .done) (nodesOfRegion ns piece));
+          size-is = omega (arith, w .size-is, piece-long, length-append (w .done) (nodesOfRegion ns piece));
           whole = whole-next;
           around =
-              turn-binders ns words to source values ready ws ws′ i depth piece depth′ h d dd long (w .around) same-turn;
+              turn-binders ns words to most source values ready ws ws′ i depth piece depth′ h d dd long (w .around) same-turn;
         }
 
 -- What a turn finds, from its parts: the binders on top, the node's kind and argument, what it becomes and what is waited
@@ -435,8 +386,8 @@ found-piece ns ws ws′ values place depth piece depth′ b k a d eb ek ea ep h 
     }
 
 -- A buffer of the same length has as many words.
-pub same-ready : (ns : List Node) (words words′ limit : ℕ) (source : Region) (values : Values)
+pub same-ready : (ns : List Node) (words words′ to most : ℕ) (source : Region) (values : Values)
     → words′ ≡ words
-    → Ready ns words limit source values
-    → Ready ns words′ limit source values
-same-ready ns words words′ limit source values e r = subst (λ w. Ready ns w limit source values) (sym e) r
+    → Ready ns words to most source values
+    → Ready ns words′ to most source values
+same-ready ns words words′ to most source values e r = subst (λ w. Ready ns w to most source values) (sym e) r

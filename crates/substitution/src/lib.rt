@@ -1,17 +1,17 @@
-// From the body of an abstraction or a let to the reduct, in lent memory: in a first pass the size of the reduct is counted,
-// in a second one the reduct is written.
+// From the body of an abstraction or a let to the reduct, in lent memory: it is written, and counted with that, as long as it
+// is not too large.
 // Two buffers are lent: the nodes, and words for the parts of the body that are still waited for, each with the number of
 // binders around it. A body of n nodes needs n + 1 words.
-ghost use Prim.Native.Nat.{ℕ, _+_, _^_, _≤_, _<_};
+ghost use Prim.Native.Nat.{_+_, _^_, _≤_, _<_};
 ghost use mathlib.Core.Path.{_≡_};
 ghost use lib.ListN.{length};
 ghost use Rattle.memory.specs.Words.{words};
 ghost use Rattle.evaluation.specs.Trees.{node};
 ghost use Rattle.nodes.specs.Nodes.{nodesIn};
-ghost use Rattle.substitution.specs.Substituted.{waitingAfter, reduct};
+ghost use Rattle.substitution.specs.Substituted.{waitingAfter};
 ghost use Rattle.substitution.specs.Waiting.{stackOf, bindersOf};
 ghost use Rattle.substitution.specs.Pieces.{pieceRegion};
-ghost use Rattle.substitution.specs.Reducts.{Ready, NextPiece, sizeWithin, Wrote};
+ghost use Rattle.substitution.specs.Reducts.{Ready, NextPiece, Wrote};
 
 // Some nodes of the buffer: from a place on, so many.
 pub struct Region {
@@ -124,16 +124,18 @@ fn next_piece(nodes: &[u8], waiting: &mut [u8], place: usize, depth: usize, valu
     Next { piece, depth }
 }
 
-// The size of the reduct of a body, if it is at most so large. The nodes stay.
-pub fn reduct_size(
-    nodes: &[u8],
+// The reduct of a body is written from a place on, if it has at most so many nodes; the answer is its size. The body and the
+// values stand outside of the places that the reduct may take, and nothing else in the buffer changes.
+pub fn write_reduct(
+    nodes: &mut [u8],
     waiting: &mut [u8],
     source: Region,
     values: Values,
+    to: usize,
     most: usize,
 ) -> Size
-    ensures { λ r. ⌜ ((limit : ℕ) → Ready (nodesIn (now (nodes .entry))) (length (words (now (waiting .entry)))) limit source values
-        → r ≡ sizeWithin most (length (reduct (nodesIn (now (nodes .entry))) source values))) ⌝ }
+    ensures { λ r. ⌜ (Ready (nodesIn (now (nodes .entry))) (length (words (now (waiting .entry)))) to most source values
+        → Wrote (nodesIn (now (nodes .entry))) (nodesIn (now (nodes .exit))) source values to most r) ⌝ }
 {
     let n = nodes.len() / 4;
     let start = source.start;
@@ -142,6 +144,12 @@ pub fn reduct_size(
         return Size::TooMany;
     }
     if n - start < count {
+        return Size::TooMany;
+    }
+    if n < to {
+        return Size::TooMany;
+    }
+    if n - to < most {
         return Size::TooMany;
     }
     memory::put(waiting, 0, 0);
@@ -154,61 +162,15 @@ pub fn reduct_size(
         }
         let next = next_piece(nodes, waiting, start + i, depth, values);
         let piece = next.piece;
+        let from = piece.start;
         let more = piece.length;
         if most - size < more {
             return Size::TooMany;
         }
+        nodes::copy_nodes(nodes, from, to + size, more);
         size += more;
         depth = next.depth;
         i += 1;
     }
     Size::Nodes(size)
-}
-
-// The reduct of a body is written from a place on that the body and the values end by; the answer is the place behind it.
-// Nothing else in the buffer changes.
-pub fn write_reduct(
-    nodes: &mut [u8],
-    waiting: &mut [u8],
-    source: Region,
-    values: Values,
-    to: usize,
-) -> usize
-    ensures { λ r. ⌜ (Ready (nodesIn (now (nodes .entry))) (length (words (now (waiting .entry)))) to source values
-        → to + length (reduct (nodesIn (now (nodes .entry))) source values) ≤ length (nodesIn (now (nodes .entry)))
-        → Wrote (nodesIn (now (nodes .entry))) (nodesIn (now (nodes .exit))) source values to r) ⌝ }
-{
-    let n = nodes.len() / 4;
-    let start = source.start;
-    let count = source.length;
-    if n < to {
-        return to;
-    }
-    if to < start {
-        return to;
-    }
-    if to - start < count {
-        return to;
-    }
-    memory::put(waiting, 0, 0);
-    let mut depth: usize = 1;
-    let mut end = to;
-    let mut i: usize = 0;
-    while i < count {
-        if depth == 0 {
-            return end;
-        }
-        let next = next_piece(nodes, waiting, start + i, depth, values);
-        let piece = next.piece;
-        let from = piece.start;
-        let more = piece.length;
-        if n - end < more {
-            return end;
-        }
-        nodes::copy_nodes(nodes, from, end, more);
-        end += more;
-        depth = next.depth;
-        i += 1;
-    }
-    end
 }

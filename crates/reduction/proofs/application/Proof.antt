@@ -1,17 +1,16 @@
 -- `reduction::application` meets its contract. Assumes nothing.
 use Prim.Native.Nat.{_+_}
-use mathlib.Core.Path.{_≡_, _∙_, ap, subst}
+use mathlib.Core.Path.{_≡_, _∙_, ap}
 use lib.ListN.{length}
 use borrow.Author.Needs.{needs}
 use Rattle.memory.specs.Words.{words}
-use Rattle.memory.specs.Laws.{same-words}
 use Rattle.evaluation.specs.Walks.{at-application}
 use Rattle.nodes.specs.Nodes.{nodesIn}
 use Rattle.walking.specs.Rows.{rowsIn, rowAt, rowNode, rowStart}
 use Rattle.substitution.specs.Contractions.{applicationBody}
 use Rattle.substitution.specs.declared.Region.{Region}
 use Rattle.reduction.specs.Taking.{takenTo}
-use Rattle.reduction.specs.Reductions.{CountsReduct, steps-answered, application-refused, application-taken}
+use Rattle.reduction.specs.Reductions.{steps-answered, application-refused, application-taken}
 use Rattle.reduction.proofs.application.Statement.{statement}
 use Rattle.reduction.proofs.application.Tie as tie
 
@@ -36,8 +35,8 @@ applied-to-requires c κs = search needs
 most-between-requires : tie.Need-most-between-requires
 most-between-requires c κs = search needs
 
-reduct-size-requires : tie.Need-reduct-size-requires
-reduct-size-requires c κs = search needs
+write-reduct-requires : tie.Need-write-reduct-requires
+write-reduct-requires c κs = search needs
 
 enum-known-size : tie.Need-enum-known-size
 enum-known-size c = search needs
@@ -53,37 +52,28 @@ same-length-2 c = search needs
 
 returns : tie.Need-returns
 returns c =
-    let sized = c .before .before .before .before in
-    let limited = sized .before .before .before in
-    let value = limited .before .before in
-    let body = value .before in
-    let behind = body .before in
-    let found = behind .before in
-    let top = found .before in
-    let start = top .before .before .before .before .before in
-    let a = start .args in
+    let a = c .before .before .before .before .before .before .before .before .before .before .before .before .before .before .before .before .before .before .before .before .args in
     let ns = nodesIn (a .nodes .now) in
+    let ns₁ = nodesIn (c .before .before .before .before .before .before .write-reduct .last .0) in
     let rs = rowsIn (a .stack .now) in
     let r = a .registers in
-    let w = length (words (a .waiting .now)) in
-    let at = found .row-node .result in
-    let second = behind .row-start .result in
-    let source : Region = record { start = at + 2; length = body .less2 .result } in
-    let values = value .applied-to .result in
-    let most = limited .most-between .result in
-    let at-is = found .row-node .ensures .0 ∙ ap (λ i. rowNode (rowAt rs i)) (top .less .ensures) in
-    let second-is = behind .row-start .ensures .0 ∙ ap (λ i. rowStart (rowAt rs i)) (top .less .ensures) in
-    let source-is : source ≡ applicationBody at second = cc (body .less2 .ensures) in
+    let top = c .before .before .before .before .before .before .before .before .before .before .before .before .before .before .before .less .ensures in
+    let at = c .before .before .before .before .before .before .before .before .before .before .before .before .before .before .row-node .result in
+    let second = c .before .before .before .before .before .before .before .before .before .before .before .before .before .row-start .result in
+    let source : Region = record { start = at + 2; length = c .before .before .before .before .before .before .before .before .before .before .before .before .less2 .result } in
+    let at-is = c .before .before .before .before .before .before .before .before .before .before .before .before .before .before .row-node .ensures .0 ∙ ap (λ i. rowNode (rowAt rs i)) top in
+    let second-is = c .before .before .before .before .before .before .before .before .before .before .before .before .before .row-start .ensures .0 ∙ ap (λ i. rowStart (rowAt rs i)) top in
+    let source-is : source ≡ applicationBody at second = cc (c .before .before .before .before .before .before .before .before .before .before .before .before .less2 .ensures) in
     λ enough.
-    application-refused ns rs r at second source values most at-is second-is source-is (value .applied-to .ensures)
-    (limited .most-between .ensures) w enough
-    (subst (CountsReduct ns w source values most) (c .enum-told .given .1) (sized .reduct-size .ensures))
+    application-refused ns ns₁ rs r at second source (c .before .before .before .before .before .before .before .before .before .before .before .applied-to .result) (c .before .before .before .before .before .before .before .before .before .most-between .result) at-is second-is source-is
+    (c .before .before .before .before .before .before .before .before .before .before .before .applied-to .ensures) (c .before .before .before .before .before .before .before .before .before .most-between .ensures) (length (words (a .waiting .now))) enough (c .before .before .before .before .before .before .write-reduct .result)
+    (c .before .before .before .before .before .before .write-reduct .ensures) (c .enum-told .given .1)
 
 less-requires-3 : tie.Need-less-requires-3
 less-requires-3 c κs = search needs
 
-write-reduct-requires : tie.Need-write-reduct-requires
-write-reduct-requires c κs = search needs
+copy-nodes-requires : tie.Need-copy-nodes-requires
+copy-nodes-requires c κs = search needs
 
 taken-requires : tie.Need-taken-requires
 taken-requires c κs = search needs
@@ -96,42 +86,26 @@ same-length-4 c = search needs
 
 returns-2 : tie.Need-returns-2
 returns-2 c =
-    let written = c .before .before .before .before .before in
-    let placed = written .before .before .before in
-    let matched = placed .before .before in
-    let sized = matched .before .before .before .before in
-    let limited = sized .before .before .before in
-    let value = limited .before .before in
-    let body = value .before in
-    let behind = body .before in
-    let found = behind .before in
-    let top = found .before in
-    let start = top .before .before .before .before .before in
-    let a = start .args in
+    let a = c .before .before .before .before .before .before .before .before .before .before .before .before .before .before .before .before .before .before .before .before .before .before .before .before .before .before .before .args in
     let ns = nodesIn (a .nodes .now) in
+    let ns₁ = nodesIn (c .before .before .before .before .before .before .before .before .before .before .before .before .before .write-reduct .last .0) in
     let rs = rowsIn (a .stack .now) in
     let r = a .registers in
-    let w = length (words (a .waiting .now)) in
-    let at = found .row-node .result in
-    let second = behind .row-start .result in
-    let source : Region = record { start = at + 2; length = body .less2 .result } in
-    let values = value .applied-to .result in
-    let most = limited .most-between .result in
-    let at-is = found .row-node .ensures .0 ∙ ap (λ i. rowNode (rowAt rs i)) (top .less .ensures) in
-    let second-is = behind .row-start .ensures .0 ∙ ap (λ i. rowStart (rowAt rs i)) (top .less .ensures) in
-    let source-is : source ≡ applicationBody at second = cc (body .less2 .ensures) in
-    let fits = matched .size .given in
-    let to = placed .less3 .result in
-    let ns′ = nodesIn (written .write-reduct .last .0) in
-    let waiting′ = sized .reduct-size .last .1 .0 in
+    let top = c .before .before .before .before .before .before .before .before .before .before .before .before .before .before .before .before .before .before .before .before .before .before .less .ensures in
+    let at = c .before .before .before .before .before .before .before .before .before .before .before .before .before .before .before .before .before .before .before .before .before .row-node .result in
+    let second = c .before .before .before .before .before .before .before .before .before .before .before .before .before .before .before .before .before .before .before .before .row-start .result in
+    let source : Region = record { start = at + 2; length = c .before .before .before .before .before .before .before .before .before .before .before .before .before .before .before .before .before .before .before .less2 .result } in
+    let at-is = c .before .before .before .before .before .before .before .before .before .before .before .before .before .before .before .before .before .before .before .before .before .row-node .ensures .0 ∙ ap (λ i. rowNode (rowAt rs i)) top in
+    let second-is = c .before .before .before .before .before .before .before .before .before .before .before .before .before .before .before .before .before .before .before .before .row-start .ensures .0 ∙ ap (λ i. rowStart (rowAt rs i)) top in
+    let source-is : source ≡ applicationBody at second = cc (c .before .before .before .before .before .before .before .before .before .before .before .before .before .before .before .before .before .before .before .less2 .ensures) in
+    let ns′ = nodesIn (c .before .before .before .copy-nodes .last .0) in
+    let to = c .before .before .before .before .before .less3 .result in
+    let fits = c .before .before .before .before .before .before .before .size .given in
     λ enough.
     steps-answered at-application ns ns′ rs r (c .taken .result) (takenTo r at to) (c .taken .ensures)
-    (application-taken ns rs r at second source values most at-is second-is source-is (value .applied-to .ensures)
-    (limited .most-between .ensures) w enough ns′ (fits .0 .0) to (written .write-reduct .result) (length (words waiting′))
-    (subst (CountsReduct ns w source values most) (fits .1) (sized .reduct-size .ensures))
-    (placed .less3 .ensures)
-    (same-words (a .waiting .now) waiting′ (sized .reduct-size .kept .1 .0))
-    (written .write-reduct .ensures))
+    (application-taken ns ns₁ rs r at second source (c .before .before .before .before .before .before .before .before .before .before .before .before .before .before .before .before .before .before .applied-to .result) (c .before .before .before .before .before .before .before .before .before .before .before .before .before .before .before .before .most-between .result) at-is second-is source-is
+    (c .before .before .before .before .before .before .before .before .before .before .before .before .before .before .before .before .before .before .applied-to .ensures) (c .before .before .before .before .before .before .before .before .before .before .before .before .before .before .before .before .most-between .ensures) (length (words (a .waiting .now))) enough (c .before .before .before .before .before .before .before .before .before .before .before .before .before .write-reduct .result)
+    (c .before .before .before .before .before .before .before .before .before .before .before .before .before .write-reduct .ensures) ns′ (fits .0 .0) to (fits .1) (c .before .before .before .before .before .less3 .ensures) (c .before .before .before .copy-nodes .ensures))
 
 pub application-spec : {M : Type 1} → statement M
 application-spec =
@@ -144,14 +118,14 @@ application-spec =
     less-requires-2
     applied-to-requires
     most-between-requires
-    reduct-size-requires
+    write-reduct-requires
     enum-known-size
     enum-told
     same-length
     same-length-2
     returns
     less-requires-3
-    write-reduct-requires
+    copy-nodes-requires
     taken-requires
     same-length-3
     same-length-4

@@ -1,16 +1,14 @@
 -- `reduction::let_in` meets its contract. Assumes nothing.
-use mathlib.Core.Path.{refl, _∙_, ap, subst}
+use mathlib.Core.Path.{refl, _∙_, ap}
 use lib.ListN.{length}
 use borrow.Author.Needs.{needs}
 use Rattle.memory.specs.Words.{words}
-use Rattle.memory.specs.Laws.{same-words}
 use Rattle.evaluation.specs.Walks.{at-let}
 use Rattle.nodes.specs.Nodes.{nodesIn}
 use Rattle.walking.specs.Rows.{rowsIn, rowAt, rowNode}
 use Rattle.substitution.specs.Contractions.{letBody}
-use Rattle.substitution.specs.declared.Region.{Region}
 use Rattle.reduction.specs.Taking.{takenTo}
-use Rattle.reduction.specs.Reductions.{CountsReduct, steps-answered, let-refused, let-taken}
+use Rattle.reduction.specs.Reductions.{steps-answered, let-refused, let-taken}
 use Rattle.reduction.proofs.let_in.Statement.{statement}
 use Rattle.reduction.proofs.let_in.Tie as tie
 
@@ -38,8 +36,8 @@ less-requires-2 c κs = search needs
 most-between-requires : tie.Need-most-between-requires
 most-between-requires c κs = search needs
 
-reduct-size-requires : tie.Need-reduct-size-requires
-reduct-size-requires c κs = search needs
+write-reduct-requires : tie.Need-write-reduct-requires
+write-reduct-requires c κs = search needs
 
 enum-known-size : tie.Need-enum-known-size
 enum-known-size c = search needs
@@ -55,42 +53,26 @@ same-length-2 c = search needs
 
 returns : tie.Need-returns
 returns c =
-    let sized = c .before .before .before .before in
-    let limited = sized .before .before .before in
-    let whole = limited .before .before in
-    let ended = whole .before in
-    let pair = ended .before .before in
-    let half = pair .before in
-    let found = half .before .before in
-    let top = found .before in
-    let start = top .before .before .before .before .before in
-    let a = start .args in
+    let a = c .before .before .before .before .before .before .before .before .before .before .before .before .before .before .before .before .before .before .before .before .before .before .before .args in
     let ns = nodesIn (a .nodes .now) in
+    let ns₁ = nodesIn (c .before .before .before .before .before .before .write-reduct .last .0) in
     let rs = rowsIn (a .stack .now) in
     let r = a .registers in
-    let w = length (words (a .waiting .now)) in
-    let at = found .row-node .result in
-    let middle = half .subtree-end .result in
-    let next = ended .subtree-end2 .result in
-    let k = whole .less2 .result in
+    let at = c .before .before .before .before .before .before .before .before .before .before .before .before .before .before .before .before .before .row-node .result in
+    let k = c .before .before .before .before .before .before .before .before .before .before .before .less2 .result in
     let source = letBody (r .place .right) k in
-    let values = pair .halves .result in
-    let most = limited .most-between .result in
-    let at-is = found .row-node .ensures .0 ∙ ap (λ i. rowNode (rowAt rs i)) (top .less .ensures) in
+    let at-is = c .before .before .before .before .before .before .before .before .before .before .before .before .before .before .before .before .before .row-node .ensures .0 ∙ ap (λ i. rowNode (rowAt rs i)) (c .before .before .before .before .before .before .before .before .before .before .before .before .before .before .before .before .before .before .less .ensures) in
     λ enough.
-    let-refused ns rs r at middle next k source values most at-is (half .subtree-end .ensures)
-    (ended .subtree-end2 .ensures) (whole .less2 .ensures) refl (pair .halves .ensures) (limited .most-between .ensures) w
-    enough
-    (subst (CountsReduct ns w source values most) (c .enum-told .given .1) (sized .reduct-size .ensures))
-
-copy-nodes-requires : tie.Need-copy-nodes-requires
-copy-nodes-requires c κs = search needs
+    let-refused ns ns₁ rs r at (c .before .before .before .before .before .before .before .before .before .before .before .before .before .before .before .subtree-end .result) (c .before .before .before .before .before .before .before .before .before .before .before .before .subtree-end2 .result) k source (c .before .before .before .before .before .before .before .before .before .before .before .before .before .before .halves .result)
+    (c .before .before .before .before .before .before .before .before .before .most-between .result) at-is (c .before .before .before .before .before .before .before .before .before .before .before .before .before .before .before .subtree-end .ensures) (c .before .before .before .before .before .before .before .before .before .before .before .before .subtree-end2 .ensures) (c .before .before .before .before .before .before .before .before .before .before .before .less2 .ensures) refl (c .before .before .before .before .before .before .before .before .before .before .before .before .before .before .halves .ensures)
+    (c .before .before .before .before .before .before .before .before .before .most-between .ensures) (length (words (a .waiting .now))) enough (c .before .before .before .before .before .before .write-reduct .result) (c .before .before .before .before .before .before .write-reduct .ensures)
+    (c .enum-told .given .1)
 
 less-requires-3 : tie.Need-less-requires-3
 less-requires-3 c κs = search needs
 
-write-reduct-requires : tie.Need-write-reduct-requires
-write-reduct-requires c κs = search needs
+copy-nodes-requires : tie.Need-copy-nodes-requires
+copy-nodes-requires c κs = search needs
 
 taken-requires : tie.Need-taken-requires
 taken-requires c κs = search needs
@@ -103,48 +85,24 @@ same-length-4 c = search needs
 
 returns-2 : tie.Need-returns-2
 returns-2 c =
-    let written = c .before .before .before .before .before in
-    let placed = written .before .before .before in
-    let copied = placed .before .before .before in
-    let matched = copied .before .before .before in
-    let sized = matched .before .before .before .before in
-    let limited = sized .before .before .before in
-    let whole = limited .before .before in
-    let ended = whole .before in
-    let pair = ended .before .before in
-    let half = pair .before in
-    let found = half .before .before in
-    let top = found .before in
-    let start = top .before .before .before .before .before in
-    let a = start .args in
+    let a = c .before .before .before .before .before .before .before .before .before .before .before .before .before .before .before .before .before .before .before .before .before .before .before .before .before .before .before .before .before .before .args in
     let ns = nodesIn (a .nodes .now) in
+    let ns₁ = nodesIn (c .before .before .before .before .before .before .before .before .before .before .before .before .before .write-reduct .last .0) in
     let rs = rowsIn (a .stack .now) in
     let r = a .registers in
-    let w = length (words (a .waiting .now)) in
-    let at = found .row-node .result in
-    let middle = half .subtree-end .result in
-    let next = ended .subtree-end2 .result in
-    let k = whole .less2 .result in
+    let at = c .before .before .before .before .before .before .before .before .before .before .before .before .before .before .before .before .before .before .before .before .before .before .before .before .row-node .result in
+    let k = c .before .before .before .before .before .before .before .before .before .before .before .before .before .before .before .before .before .before .less2 .result in
     let source = letBody (r .place .right) k in
-    let values = pair .halves .result in
-    let most = limited .most-between .result in
-    let at-is = found .row-node .ensures .0 ∙ ap (λ i. rowNode (rowAt rs i)) (top .less .ensures) in
-    let fits = matched .size .given in
-    let to = placed .less3 .result in
-    let ns₁ = nodesIn (copied .copy-nodes .last .0) in
-    let ns′ = nodesIn (written .write-reduct .last .0) in
-    let waiting′ = sized .reduct-size .last .1 .0 in
+    let at-is = c .before .before .before .before .before .before .before .before .before .before .before .before .before .before .before .before .before .before .before .before .before .before .before .before .row-node .ensures .0 ∙ ap (λ i. rowNode (rowAt rs i)) (c .before .before .before .before .before .before .before .before .before .before .before .before .before .before .before .before .before .before .before .before .before .before .before .before .before .less .ensures) in
+    let ns′ = nodesIn (c .before .before .before .copy-nodes .last .0) in
+    let to = c .before .before .before .before .before .less3 .result in
+    let fits = c .before .before .before .before .before .before .before .size .given in
     λ enough.
     steps-answered at-let ns ns′ rs r (c .taken .result) (takenTo r at to) (c .taken .ensures)
-    (let-taken ns rs r at middle next k source values most at-is (half .subtree-end .ensures)
-    (ended .subtree-end2 .ensures) (whole .less2 .ensures) refl (pair .halves .ensures) (limited .most-between .ensures) w
-    enough ns₁ ns′ (letBody (r .place .left) k) (fits .0 .0) to (written .write-reduct .result) (length (words waiting′))
-    (subst (CountsReduct ns w source values most) (fits .1) (sized .reduct-size .ensures))
-    (placed .less3 .ensures)
-    refl
-    (same-words (a .waiting .now) waiting′ (sized .reduct-size .kept .1 .0))
-    (copied .copy-nodes .ensures)
-    (written .write-reduct .ensures))
+    (let-taken ns ns₁ rs r at (c .before .before .before .before .before .before .before .before .before .before .before .before .before .before .before .before .before .before .before .before .before .before .subtree-end .result) (c .before .before .before .before .before .before .before .before .before .before .before .before .before .before .before .before .before .before .before .subtree-end2 .result) k source (c .before .before .before .before .before .before .before .before .before .before .before .before .before .before .before .before .before .before .before .before .before .halves .result)
+    (c .before .before .before .before .before .before .before .before .before .before .before .before .before .before .before .before .most-between .result) at-is (c .before .before .before .before .before .before .before .before .before .before .before .before .before .before .before .before .before .before .before .before .before .before .subtree-end .ensures) (c .before .before .before .before .before .before .before .before .before .before .before .before .before .before .before .before .before .before .before .subtree-end2 .ensures) (c .before .before .before .before .before .before .before .before .before .before .before .before .before .before .before .before .before .before .less2 .ensures) refl (c .before .before .before .before .before .before .before .before .before .before .before .before .before .before .before .before .before .before .before .before .before .halves .ensures)
+    (c .before .before .before .before .before .before .before .before .before .before .before .before .before .before .before .before .most-between .ensures) (length (words (a .waiting .now))) enough (c .before .before .before .before .before .before .before .before .before .before .before .before .before .write-reduct .result) (c .before .before .before .before .before .before .before .before .before .before .before .before .before .write-reduct .ensures) ns′
+    (fits .0 .0) to (fits .1) (c .before .before .before .before .before .less3 .ensures) (c .before .before .before .copy-nodes .ensures))
 
 pub let-in-spec : {M : Type 1} → statement M
 let-in-spec =
@@ -158,15 +116,14 @@ let-in-spec =
     subtree-end-requires-2
     less-requires-2
     most-between-requires
-    reduct-size-requires
+    write-reduct-requires
     enum-known-size
     enum-told
     same-length
     same-length-2
     returns
-    copy-nodes-requires
     less-requires-3
-    write-reduct-requires
+    copy-nodes-requires
     taken-requires
     same-length-3
     same-length-4

@@ -1,16 +1,16 @@
--- `rules::wires_out` meets its contract: its column has the number of wires out, by a test at each gate.
+-- `rules::wires_out` meets its contract: its table has the number of wires out of each gate, as antt computes it.
 -- Assumes nothing.
 use mathlib.Core.Path.{_≡_, refl, _∙_}
 use lib.ListN.{length}
 use borrow.Author.Needs.{needs}
 use Rattle.rules.specs.Gates.{gateTable, outputWires}
 use Rattle.rules.specs.GateCodes.{wiresOut}
-use Rattle.rules.proofs.GateTable.{of-no-gate, number-at}
+use Rattle.rules.proofs.GateTable.{of-no-gate, number-in}
 use Rattle.rules.proofs.wires_out.Statement.{statement}
 use Rattle.rules.proofs.wires_out.Tie as tie
 
-cell-requires : tie.Need-cell-requires
-cell-requires c κs = search needs
+array-read-wide : tie.Need-array-read-wide
+array-read-wide c = search needs
 
 wide-requires : tie.Need-wide-requires
 wide-requires c κs = search needs
@@ -18,14 +18,11 @@ wide-requires c κs = search needs
 returns : tie.Need-returns
 unfolding wiresOut
 returns c =
-    let n = c .before .before .before .args .n in
-    c .wide .ensures
-    ∙ c .before .cell .ensures
-    ∙ number-at (λ g. length (outputWires g)) _ tt n (c .before .before .if1 .taken)
+    c .wide .ensures ∙ number-in (λ g. length (outputWires g)) gateTable (c .before .before .args .n) (c .before .if1 .taken)
 
 returns-2 : tie.Need-returns-2
 unfolding wiresOut
 returns-2 c = of-no-gate (λ g. 0 ≡ length (outputWires g)) gateTable refl (c .before .args .n) (c .if1 .left)
 
 pub wires-out-spec : {M : Type 1} → statement M
-wires-out-spec = tie.close (tie.spec cell-requires wide-requires returns returns-2)
+wires-out-spec = tie.close (tie.spec array-read-wide wide-requires returns returns-2)
