@@ -1,6 +1,6 @@
 /*
- * The check and the run of program files, for hosts in C (C99) and C++ on x86-64.
- * Both are in target/staticlib/libcabinet.a; docs/FORMATS.md has the layout of files and buffers.
+ * The reading, the check and the run of program files, for hosts in C (C99) and C++ on x86-64.
+ * All are in target/staticlib/libcabinet.a; docs/FORMATS.md has the layout of files and buffers.
  *
  * What the host owes: each pointer with its length is one buffer, readable and, all but the file, writable; no pointer is
  * null, even with length 0; no two buffers overlap; nothing else writes them meanwhile; 1 MiB of stack is free.
@@ -69,6 +69,39 @@ enum gawipsol_number {
     GAWIPSOL_LIMIT_REACHED = 21,   /* the limit's steps are done, and it is unfinished */
     GAWIPSOL_SIZE_EXCEEDED = 22    /* earlier than that, the next step exceeds a size */
 };
+
+/* The reading alone: the form of the file. No buffer is lent. */
+uint64_t read_packed(const uint8_t *file, size_t file_length);
+
+/* An answer of read_packed: its number. */
+static inline unsigned gawipsol_read_number(uint64_t answer)
+{
+    return (unsigned)(answer & 0xFF);
+}
+
+/* Refused: the place. */
+static inline unsigned gawipsol_read_place(uint64_t answer)
+{
+    return (unsigned)(answer >> 8 & 0xFFFF);
+}
+
+/* Accepted: the number of labels. */
+static inline unsigned gawipsol_read_labels(uint64_t answer)
+{
+    return (unsigned)(answer >> 24 & 0xFF);
+}
+
+/* Accepted: the number of type entries. */
+static inline unsigned gawipsol_read_types(uint64_t answer)
+{
+    return (unsigned)(answer >> 32 & 0xFFFF);
+}
+
+/* Accepted: the number of term entries. */
+static inline unsigned gawipsol_read_terms(uint64_t answer)
+{
+    return (unsigned)(answer >> 48 & 0xFFFF);
+}
 
 /* The check. Accepted: `out` has the program's type in preorder, one kind byte an entry. */
 uint64_t check_packed(const uint8_t *file, size_t file_length,

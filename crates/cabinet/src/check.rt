@@ -1,5 +1,5 @@
 // The check, exported beside the run: a library exports only functions of its own crate, and a host that links this one
-// has both operations.
+// has every operation.
 ghost use mathlib.Core.Path.{_≡_};
 ghost use lib.ListN.{length};
 ghost use Rattle.typing.specs.Answers.{checkAnswer, checkOut, checkWork};

@@ -4,6 +4,7 @@ pub mod core;
 pub mod finish;
 pub mod lent;
 pub mod packed;
+pub mod read;
 
 use crate::core::run_checked;
 use lent::clear_all;
