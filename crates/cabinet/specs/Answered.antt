@@ -5,10 +5,10 @@ use mathlib.Core.Bool.{true, false, cond}
 use mathlib.Core.List.{List}
 use lib.ListN.{length, replicate}
 use Rattle.program.specs.declared.Refusal.the-variants.{Run}
-use Rattle.cabinet.specs.declared.RunAnswer.{RunAnswer}
-use Rattle.cabinet.specs.declared.RunAnswer.the-variants.{Refused}
-use Rattle.cabinet.specs.Lengths.{tooShort}
-use Rattle.cabinet.specs.Answers.{runOf, answerTo, outTo, runAnswer, runOut, runWork}
+use Rattle.answers.specs.declared.RunAnswer.{RunAnswer}
+use Rattle.answers.specs.declared.RunAnswer.the-variants.{Refused}
+use Rattle.answers.specs.Lengths.{tooShort}
+use Rattle.answers.specs.Answers.{runOf, answerTo, outTo, runAnswer, runOut, runWork}
 use Rattle.cabinet.specs.Parts.{Says}
 
 module _ (lengths : List ℕ) (short : tooShort lengths ≡ true) where

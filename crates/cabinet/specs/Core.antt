@@ -22,9 +22,9 @@ use borrow.Author.Tests.{le-ltb}
 use Rattle.typing.specs.Layout.{least-work}
 use Rattle.typing.specs.Deciding.{CellOf}
 use Rattle.typing.specs.Whole.{SaysCore}
-use Rattle.cabinet.specs.declared.RunAnswer.{RunAnswer}
-use Rattle.cabinet.specs.declared.RunAnswer.the-variants.{Refused}
-use Rattle.cabinet.specs.Answers.{ranTo, ranAs, declines, runOf, answerTo, outTo}
+use Rattle.answers.specs.declared.RunAnswer.{RunAnswer}
+use Rattle.answers.specs.declared.RunAnswer.the-variants.{Refused}
+use Rattle.answers.specs.Answers.{ranTo, ranAs, declines, runOf, answerTo, outTo}
 use Rattle.cabinet.specs.Parts.{handedOn, Says}
 use Rattle.cabinet.specs.Finish.{says-ran}
 

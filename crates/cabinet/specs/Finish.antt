@@ -40,11 +40,11 @@ use Rattle.configuration.specs.declared.Registers.{Registers}
 use Rattle.loading.specs.Trees.{treeOf, typesOf}
 use Rattle.listing.specs.Listing.{listing, KindsFit, most-bytes}
 use Rattle.listing.specs.Lengths.{listing-fits, kinds-fit}
-use Rattle.cabinet.specs.declared.RunAnswer.{RunAnswer}
-use Rattle.cabinet.specs.declared.RunAnswer.the-variants.{Finished, Refused}
-use Rattle.cabinet.specs.Answers.{Ran, ran, declines, ranTo, ranAs, runOf, listed, listedAs, answerTo, outTo}
+use Rattle.answers.specs.declared.RunAnswer.{RunAnswer}
+use Rattle.answers.specs.declared.RunAnswer.the-variants.{Finished, Refused}
+use Rattle.answers.specs.Answers.{Ran, ran, declines, ranTo, ranAs, runOf, listed, listedAs, answerTo, outTo}
 use Rattle.cabinet.specs.Parts.{Ended, Says, Writes}
-use Rattle.cabinet.specs.Theorems.Finishing.{FinishedRun, finished-facts, finish-listed}
+use Rattle.answers.specs.Theorems.Finishing.{FinishedRun, finished-facts, finish-listed}
 
 pub says-ran : (f : List ℕ) (limit : ℕ) (out out′ : List ℕ) (r : RunAnswer) (x : Ran)
     → runOf f limit ≡ x

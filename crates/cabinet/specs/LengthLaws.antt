@@ -6,7 +6,7 @@ use mathlib.Core.Bool.{Bool, true, false, _||_}
 use mathlib.Core.List.{List, [], _∷_}
 use lib.Dec.{ltb}
 use borrow.Author.Tests.{lt-ltb, le-ltb, ltb-false}
-use Rattle.cabinet.specs.Lengths.{anyBelow, tooShort}
+use Rattle.answers.specs.Lengths.{anyBelow, tooShort}
 
 -- The first length is below its least.
 pub below-here : (l n : ℕ) (ls ns : List ℕ) → n < l → anyBelow (l ∷ ls) (n ∷ ns) ≡ true

@@ -1,10 +1,4 @@
-pub mod Lengths
-pub mod Answers
-pub mod Demand2
-pub mod Packed
-pub mod Safe
 pub mod Parts
-pub mod Theorems
 pub mod LengthLaws
 pub mod Finish
 pub mod Core

@@ -24,9 +24,9 @@ use Rattle.machine.specs.declared.Advanced.{Advanced}
 use Rattle.machine.specs.Advancing.{AdvancedTo}
 use Rattle.loading.specs.Trees.{treeOf, typesOf}
 use Rattle.listing.specs.Listing.{listing, KindsFit}
-use Rattle.cabinet.specs.declared.RunAnswer.{RunAnswer}
-use Rattle.cabinet.specs.declared.RunAnswer.the-variants.{Refused}
-use Rattle.cabinet.specs.Answers.{runOf, answerTo, outTo}
+use Rattle.answers.specs.declared.RunAnswer.{RunAnswer}
+use Rattle.answers.specs.declared.RunAnswer.the-variants.{Refused}
+use Rattle.answers.specs.Answers.{runOf, answerTo, outTo}
 
 -- What is known when the steps of an accepted program of wire type have ended.
 pub record Ended (f : List ℕ) (limit : ℕ) (A : Ty) (m : Memory) (a : Advanced) : Type 0 where

@@ -26,7 +26,7 @@ use Rattle.machine.specs.declared.Advanced.{Advanced}
 use Rattle.machine.specs.Advancing.{Advances}
 use Rattle.loading.specs.Trees.{treeOf, typesOf}
 use Rattle.loading.specs.Start.{least-types, Loads}
-use Rattle.cabinet.specs.Theorems.Finishing.{start-typed}
+use Rattle.answers.specs.Theorems.Finishing.{start-typed}
 use Rattle.cabinet.specs.Parts.{Ended}
 
 -- The buffers of gates, closed circuits, frames and results have room.

@@ -1,6 +1,6 @@
 // The run of a file with buffers that are long enough. The working memory is not cleared.
-use crate::RunAnswer;
 use crate::finish::finish;
+use answers::RunAnswer;
 use cells::is_wire_type;
 use loading::load;
 use machine::advance;
@@ -14,7 +14,7 @@ ghost use mathlib.Core.List.{[], _∷_};
 ghost use lib.ListN.{length};
 ghost use Rattle.rules.specs.Types.{Ty, isWireType};
 ghost use Rattle.typing.specs.Answers.{accepts, checkOf};
-ghost use Rattle.cabinet.specs.Lengths.{tooShort};
+ghost use Rattle.answers.specs.Lengths.{tooShort};
 ghost use Rattle.cabinet.specs.Parts.{Says};
 ghost use Rattle.cabinet.specs.Parts.{handedOn};
 

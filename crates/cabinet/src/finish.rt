@@ -1,5 +1,5 @@
 // From the end of the steps to the answer.
-use crate::RunAnswer;
+use answers::RunAnswer;
 use circuits::rows::row_word;
 use listing::write_listing;
 use machine::Advanced;

@@ -3,7 +3,7 @@ use memory::clear;
 ghost use mathlib.Core.Path.{_≡_};
 ghost use mathlib.Core.List.{[], _∷_};
 ghost use lib.ListN.{length, replicate};
-ghost use Rattle.cabinet.specs.Lengths.{tooShort};
+ghost use Rattle.answers.specs.Lengths.{tooShort};
 
 // The least lengths, as docs/FORMATS.md has them.
 pub const LEAST_OUT: usize = 11078;

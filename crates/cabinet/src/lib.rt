@@ -3,31 +3,21 @@ pub mod check;
 pub mod core;
 pub mod finish;
 pub mod lent;
-pub mod packed;
 pub mod read;
 
 use crate::core::run_checked;
+use answers::RunAnswer;
+use answers::packed::pack;
 use lent::clear_all;
 use lent::too_short;
-use packed::pack;
 use program::Refusal;
 ghost use mathlib.Core.Path.{_≡_};
 ghost use mathlib.Core.List.{[], _∷_};
 ghost use lib.ListN.{length};
-ghost use Rattle.cabinet.specs.Answers.{runAnswer, runOut, runWork};
-ghost use Rattle.cabinet.specs.Demand2.{RunMeans};
-ghost use Rattle.cabinet.specs.Packed.{packed};
-ghost use Rattle.cabinet.specs.Safe.{RunIsSafe};
-
-// What a run answers: steps, gates and the length of the listing that it wrote, or a refusal.
-pub enum RunAnswer {
-    Finished {
-        steps: usize,
-        gates: usize,
-        length: usize,
-    },
-    Refused(Refusal),
-}
+ghost use Rattle.answers.specs.Answers.{runAnswer, runOut, runWork};
+ghost use Rattle.answers.specs.Demand2.{RunMeans};
+ghost use Rattle.answers.specs.Packed.{packed};
+ghost use Rattle.answers.specs.Safe.{RunIsSafe};
 
 // The run: the check, then the steps from the file's start, at most as many as the limit; at the finish the listing at the start
 // of the output buffer. The other buffers are working memory.

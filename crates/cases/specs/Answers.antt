@@ -6,7 +6,7 @@ use lib.ListN.{length, drop}
 use Rattle.typing.specs.declared.CheckAnswer.{CheckAnswer}
 use Rattle.typing.specs.declared.CheckAnswer.the-variants.{Accepted, Refused}
 use Rattle.typing.specs.Answers.{checkAnswer, checkOut}
-use Rattle.cabinet.specs.Answers.{answerTo, outTo, runAnswer, runOut}
+use Rattle.answers.specs.Answers.{answerTo, outTo, runAnswer, runOut}
 use Rattle.cases.specs.Table.{CheckResult, accepted, refused, LimitedRun, limit_gives_, Case}
 
 -- "Accepted: the type in preorder, one kind byte an entry, at the start of the output buffer, and its length."

@@ -19,7 +19,7 @@ use Rattle.program.specs.declared.ReadAnswer.the-variants.{Accepted as Read, Re
 use Rattle.typing.specs.Answers.{labelsOf, termOf, Judged, accepts, refuses, checkOf}
 use Rattle.typing.specs.Files.{c2-file, c3-file, c4-file, c5-file, c6-file, c7-file, c8-file, c9-file, c10-file}
 use Rattle.typing.specs.Files.{c11-file, c12-file}
-use Rattle.cabinet.specs.Answers.{Ran, ran, declines, runOf}
+use Rattle.answers.specs.Answers.{Ran, ran, declines, runOf}
 
 -- What the check gives: "the type in preorder, one kind byte an entry"; or a refusal, with its number and place.
 pub data CheckResult : Type 0 where

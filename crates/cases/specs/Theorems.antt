@@ -12,9 +12,9 @@ use Rattle.typing.specs.Answers.{tooShort as checkTooShort, answerTo as judgedA
 use Rattle.typing.specs.Layout.{least-work}
 use Rattle.typing.specs.Files.{opened as check-opened}
 use Rattle.listing.specs.Listing.{listing}
-use Rattle.cabinet.specs.declared.RunAnswer.the-variants.{Refused as RunRefused}
-use Rattle.cabinet.specs.Lengths.{tooShort, least-lengths}
-use Rattle.cabinet.specs.Answers.{Ran, runOf, answerTo, outTo, runAnswer, runOut}
+use Rattle.answers.specs.declared.RunAnswer.the-variants.{Refused as RunRefused}
+use Rattle.answers.specs.Lengths.{tooShort, least-lengths}
+use Rattle.answers.specs.Answers.{Ran, runOf, answerTo, outTo, runAnswer, runOut}
 use Rattle.cases.specs.Table.{CheckResult, LimitedRun, limit_gives_, Case, checkedAs, RunsHold, Holds, AllHold}
 use Rattle.cases.specs.Table.{table, c1, c2, c3, c4, c5, c6, c7, c8, c9, c10, c11, c12, empty-file, sizes-alone}
 use Rattle.cases.specs.Answers.{checkAnswerTo, checkOutTo, RunsAnswer, Answers, AllAnswer}

@@ -12,11 +12,11 @@ use Rattle.text.specs.Text.{refusedLine, linesOf}
 use Rattle.text.specs.Least.{least-text}
 use Rattle.text.specs.Writing.{StandsWhole}
 use Rattle.text.specs.Reading.{lineCount, lineAt}
-use Rattle.cabinet.specs.declared.RunAnswer.{RunAnswer}
-use Rattle.cabinet.specs.declared.RunAnswer.the-variants.{Finished, Refused}
-use Rattle.cabinet.specs.Lengths.{tooShort}
-use Rattle.cabinet.specs.Answers.{declines, runOf, runAnswer, runOut}
-use Rattle.cabinet.specs.Demand2.{Finishes}
+use Rattle.answers.specs.declared.RunAnswer.{RunAnswer}
+use Rattle.answers.specs.declared.RunAnswer.the-variants.{Finished, Refused}
+use Rattle.answers.specs.Lengths.{tooShort}
+use Rattle.answers.specs.Answers.{declines, runOf, runAnswer, runOut}
+use Rattle.answers.specs.Demand2.{Finishes}
 
 -- "On refusal it prints one line".
 abbrev pub refusalLines : Refusal → List (List ℕ)

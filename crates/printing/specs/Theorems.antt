@@ -23,13 +23,13 @@ use Rattle.text.specs.Least.{most-outputs, least-text}
 use Rattle.text.specs.Writing.{Written, StandsWhole, puts-none, puts-first}
 use Rattle.text.specs.Reading.{lineCount, lineAt}
 use Rattle.text.specs.Theorems.{lines-counted}
-use Rattle.cabinet.specs.declared.RunAnswer.{RunAnswer}
-use Rattle.cabinet.specs.declared.RunAnswer.the-variants.{Finished, Refused}
-use Rattle.cabinet.specs.Lengths.{tooShort}
-use Rattle.cabinet.specs.Answers.{Ran, ran, declines, runOf, answerTo, outTo, runAnswer, runOut}
-use Rattle.cabinet.specs.Demand2.{Finishes}
-use Rattle.cabinet.specs.Theorems.Finishing.{FinishedRun, finished-facts}
-use Rattle.cabinet.specs.Theorems.Running.{run-finishes}
+use Rattle.answers.specs.declared.RunAnswer.{RunAnswer}
+use Rattle.answers.specs.declared.RunAnswer.the-variants.{Finished, Refused}
+use Rattle.answers.specs.Lengths.{tooShort}
+use Rattle.answers.specs.Answers.{Ran, ran, declines, runOf, answerTo, outTo, runAnswer, runOut}
+use Rattle.answers.specs.Demand2.{Finishes}
+use Rattle.answers.specs.Theorems.Finishing.{FinishedRun, finished-facts}
+use Rattle.answers.specs.Theorems.Running.{run-finishes}
 use Rattle.printing.specs.Printing.{refusalLines, Prints, finished, refused, answerCount, answerLine, CountsLines}
 use Rattle.printing.specs.Printing.{HoldsLine, IsLine}
 

@@ -1,5 +1,5 @@
 // What wirelist does (01, "Listing"): a program file is read from one descriptor and run, and its lines are written to another.
-use cabinet::RunAnswer;
+use answers::RunAnswer;
 use cabinet::run;
 use program::Refusal;
 use program::number_of;

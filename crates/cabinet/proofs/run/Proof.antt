@@ -4,9 +4,9 @@ use mathlib.Core.Path.{_≡_, sym, _∙_}
 use mathlib.Core.Bool.{true, false}
 use mathlib.Core.List.{[], _∷_}
 use lib.ListN.{length}
-use Rattle.cabinet.specs.Lengths.{tooShort}
+use Rattle.answers.specs.Lengths.{tooShort}
 use Rattle.cabinet.specs.Answered.{short-answer, short-out, short-work, long-answer, long-out, long-work}
-use Rattle.cabinet.specs.Theorems.Running.{run-means, run-is-safe}
+use Rattle.answers.specs.Theorems.Running.{run-means, run-is-safe}
 use borrow.Author.Needs.{needs}
 use Rattle.cabinet.proofs.run.Statement.{statement}
 use Rattle.cabinet.proofs.run.Tie as tie

@@ -1,12 +1,12 @@
 -- `cabinet::run_packed` meets its contract: that of `run`, with the answer packed. Assumes nothing.
 use mathlib.Core.Path.{_∙_, ap}
-use Rattle.cabinet.specs.Packed.{packed}
+use Rattle.answers.specs.Packed.{packed}
 use borrow.Author.Needs.{needs}
 use Rattle.cabinet.proofs.run_packed.Statement.{statement}
 use Rattle.cabinet.proofs.run_packed.Tie as tie
 use Rattle.cabinet.proofs.run_packed.Reads as reads
 use Rattle.cabinet.proofs.run_packed.Lts as lts
-use Rattle.cabinet.proofs.packed.pack.Reads as pack-reads
+use Rattle.answers.proofs.packed.pack.Reads as pack-reads
 use Rattle.cabinet.proofs.run.Reads as run-reads
 
 -- src/lib.rt:125:9

@@ -5,7 +5,7 @@ use mathlib.Core.List.{[], _∷_}
 use lib.ListN.{length}
 use Rattle.memory.specs.Words.{words}
 use Rattle.cells.specs.Rules.{SaysIsWireType}
-use Rattle.cabinet.specs.Lengths.{tooShort}
+use Rattle.answers.specs.Lengths.{tooShort}
 use Rattle.cabinet.specs.LengthLaws.{long-enough}
 use Rattle.cabinet.specs.Parts.{handedOn, Says}
 use Rattle.cabinet.specs.Core.{core-says, core-refused, core-typed, core-no-wires}

@@ -1,13 +1,13 @@
--- `cabinet::packed::pack` meets its contract. Assumes nothing.
+-- `answers::packed::pack` meets its contract. Assumes nothing.
 use mathlib.Core.Path.{sym, _∙_, ap, ap₂}
-use Rattle.cabinet.specs.Packed.{refusedIn, packed}
+use Rattle.answers.specs.Packed.{refusedIn, packed}
 use borrow.Author.Needs.{needs}
-use Rattle.cabinet.proofs.packed.pack.Statement.{statement}
-use Rattle.cabinet.proofs.packed.pack.Tie as tie
-use Rattle.cabinet.proofs.packed.pack.Reads as reads
-use Rattle.cabinet.proofs.packed.pack.Lts as lts
-use Rattle.cabinet.proofs.packed.pack_finished.Reads as pack-finished-reads
-use Rattle.cabinet.proofs.packed.pack_refused.Reads as pack-refused-reads
+use Rattle.answers.proofs.packed.pack.Statement.{statement}
+use Rattle.answers.proofs.packed.pack.Tie as tie
+use Rattle.answers.proofs.packed.pack.Reads as reads
+use Rattle.answers.proofs.packed.pack.Lts as lts
+use Rattle.answers.proofs.packed.pack_finished.Reads as pack-finished-reads
+use Rattle.answers.proofs.packed.pack_refused.Reads as pack-refused-reads
 use Rattle.program.proofs.number_of.Reads as number-of-reads
 use Rattle.program.proofs.place_of.Reads as place-of-reads
 

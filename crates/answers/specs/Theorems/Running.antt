@@ -23,12 +23,12 @@ use Rattle.program.specs.declared.Refusal.the-variants.{Run}
 use Rattle.typing.specs.Answers.{labelsOf, termOf, Judged, accepts, refuses, checkOf}
 use Rattle.typing.specs.Theorems.Checked.{accepted-is-safe}
 use Rattle.listing.specs.Listing.{listing}
-use Rattle.cabinet.specs.Answers.{Ran, ran, declines, listedAs, endedAs, ranTo, ranAs, runOf}
-use Rattle.cabinet.specs.Safe.{ListedSound, RunIsSafe}
-use Rattle.cabinet.specs.Demand2.{AcceptedWires, StepsTo, Finishes, NoWireType, LimitDone, SizeExceeded, OfCheck}
-use Rattle.cabinet.specs.Demand2.{RunMeans}
-use Rattle.cabinet.specs.Theorems.Families.{check-family}
-use Rattle.cabinet.specs.Theorems.Finishing.{FinishedRun, start-typed, reached-facts, finish-listed}
+use Rattle.answers.specs.Answers.{Ran, ran, declines, listedAs, endedAs, ranTo, ranAs, runOf}
+use Rattle.answers.specs.Safe.{ListedSound, RunIsSafe}
+use Rattle.answers.specs.Demand2.{AcceptedWires, StepsTo, Finishes, NoWireType, LimitDone, SizeExceeded, OfCheck}
+use Rattle.answers.specs.Demand2.{RunMeans}
+use Rattle.answers.specs.Theorems.Families.{check-family}
+use Rattle.answers.specs.Theorems.Finishing.{FinishedRun, start-typed, reached-facts, finish-listed}
 
 -- FROM THE ANSWER TO THE RULES
 

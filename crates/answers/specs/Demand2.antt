@@ -16,7 +16,7 @@ use Rattle.program.specs.declared.Refusal.{Refusal}
 use Rattle.program.specs.declared.Refusal.the-variants.{Form, Typing, Run}
 use Rattle.typing.specs.Answers.{labelsOf, termOf, accepts, refuses, checkOf}
 use Rattle.listing.specs.Listing.{listing}
-use Rattle.cabinet.specs.Answers.{ran, declines, runOf}
+use Rattle.answers.specs.Answers.{ran, declines, runOf}
 
 -- "A run first checks": the check accepts the file, with a wire type.
 pub record AcceptedWires (f : List ℕ) : Type 0 where

@@ -3,7 +3,7 @@ use crate::RunAnswer;
 use program::number_of;
 use program::place_of;
 ghost use mathlib.Core.Path.{_≡_};
-ghost use Rattle.cabinet.specs.Packed.{finishedIn, refusedIn, packed};
+ghost use Rattle.answers.specs.Packed.{finishedIn, refusedIn, packed};
 
 // Steps, gates and length of a finished run.
 fn pack_finished(steps: usize, gates: usize, length: usize) -> u64

@@ -23,7 +23,7 @@ use Rattle.typing.specs.Answers.{labelsOf, termOf, accepts, checkOf}
 use Rattle.typing.specs.ReadBack.{file-read}
 use Rattle.typing.specs.Theorems.Checked.{check-derives}
 use Rattle.listing.specs.Listing.{listing}
-use Rattle.cabinet.specs.Answers.{ran, listedAs, listed}
+use Rattle.answers.specs.Answers.{ran, listedAs, listed}
 
 -- The finish c of a program of wire type A with the inputs L: its only frame has a label tuple as its term, its circuits are
 -- sound, each wire has gone exactly once, and a listing has room for it.

@@ -21,7 +21,7 @@ use Rattle.program.specs.declared.ReadAnswer.{ReadAnswer}
 use Rattle.program.specs.declared.ReadAnswer.the-variants.{Accepted, Refused}
 use Rattle.typing.specs.Checking.{Verdict, has-type, refusal, verdict}
 use Rattle.typing.specs.Answers.{labelsOf, termOf, Judged, accepts, refuses, judged, judgedAs, checkOf}
-use Rattle.cabinet.specs.Demand2.{OfCheck}
+use Rattle.answers.specs.Demand2.{OfCheck}
 
 -- An answer of the reader that refuses nothing, or refuses with the form family.
 abbrev OfForm : ReadAnswer → Type 0

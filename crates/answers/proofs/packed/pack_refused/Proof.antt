@@ -1,11 +1,11 @@
--- `cabinet::packed::pack_refused` meets its contract. Assumes nothing.
+-- `answers::packed::pack_refused` meets its contract. Assumes nothing.
 use mathlib.Core.Path.{refl}
-use Rattle.cabinet.specs.Packed.{refusedIn}
+use Rattle.answers.specs.Packed.{refusedIn}
 use borrow.Author.Needs.{needs}
-use Rattle.cabinet.proofs.packed.pack_refused.Statement.{statement}
-use Rattle.cabinet.proofs.packed.pack_refused.Tie as tie
-use Rattle.cabinet.proofs.packed.pack_refused.Reads as reads
-use Rattle.cabinet.proofs.packed.pack_refused.Lts as lts
+use Rattle.answers.proofs.packed.pack_refused.Statement.{statement}
+use Rattle.answers.proofs.packed.pack_refused.Tie as tie
+use Rattle.answers.proofs.packed.pack_refused.Reads as reads
+use Rattle.answers.proofs.packed.pack_refused.Lts as lts
 
 -- src/packed.rt:21:28
 mul-result : tie.Need-mul-result

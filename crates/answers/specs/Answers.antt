@@ -16,9 +16,9 @@ use Rattle.program.specs.declared.Refusal.{Refusal}
 use Rattle.program.specs.declared.Refusal.the-variants.{Run}
 use Rattle.typing.specs.Answers.{labelsOf, termOf, Judged, accepts, refuses, checkOf}
 use Rattle.listing.specs.Listing.{listing}
-use Rattle.cabinet.specs.declared.RunAnswer.{RunAnswer}
-use Rattle.cabinet.specs.declared.RunAnswer.the-variants.{Finished, Refused}
-use Rattle.cabinet.specs.Lengths.{tooShort}
+use Rattle.answers.specs.declared.RunAnswer.{RunAnswer}
+use Rattle.answers.specs.declared.RunAnswer.the-variants.{Finished, Refused}
+use Rattle.answers.specs.Lengths.{tooShort}
 
 -- What a run whose buffers are long enough comes to: steps, gates and the bytes of the listing; or a refusal.
 pub data Ran : Type 0 where

@@ -3,7 +3,6 @@ use Prim.Native.Nat.{ℕ}
 use mathlib.Core.Path.{_≡_}
 use mathlib.Core.List.{List, []}
 use lib.ListN.{length}
-use Rattle.rules.specs.Types.{Wire}
 use Rattle.rules.specs.Terms.{Tuple, Gate, Boxed, tuple}
 use Rattle.rules.specs.Circuits.{circuit, Sound, GoneOnce}
 use Rattle.rules.specs.Steps.{frame, configuration, start}
@@ -12,7 +11,7 @@ use Rattle.rules.specs.Demand3.{ClosedSound}
 use Rattle.typing.specs.Answers.{labelsOf, termOf}
 use Rattle.typing.specs.Safe.{AcceptedIsSafe}
 use Rattle.listing.specs.Listing.{listing}
-use Rattle.cabinet.specs.Answers.{ran, runOf}
+use Rattle.answers.specs.Answers.{ran, runOf}
 
 -- The circuit that was listed, its outputs, and the circuits closed on the way: each wire of the listing is made once, and
 -- gone exactly once, to a later gate or to one output; in every closed circuit likewise.

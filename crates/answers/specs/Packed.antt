@@ -1,8 +1,8 @@
 -- The answer of a run in one number, for callers outside. What the fields do not hold is cut off.
 use Prim.Native.Nat.{ℕ, _+_, _*_, _%_}
 use Rattle.program.specs.Refusals.{refusalNumber, refusalPlace}
-use Rattle.cabinet.specs.declared.RunAnswer.{RunAnswer}
-use Rattle.cabinet.specs.declared.RunAnswer.the-variants.{Finished, Refused}
+use Rattle.answers.specs.declared.RunAnswer.{RunAnswer}
+use Rattle.answers.specs.declared.RunAnswer.the-variants.{Finished, Refused}
 
 -- Bits 5 to 16 the gates, 17 to 30 the length, 31 to 62 the steps; bits 0 to 4 are 0.
 unfoldable pub finishedIn : ℕ → ℕ → ℕ → ℕ

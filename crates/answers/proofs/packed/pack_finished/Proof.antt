@@ -1,11 +1,11 @@
--- `cabinet::packed::pack_finished` meets its contract. Assumes nothing.
+-- `answers::packed::pack_finished` meets its contract. Assumes nothing.
 use mathlib.Core.Path.{refl}
-use Rattle.cabinet.specs.Packed.{finishedIn}
+use Rattle.answers.specs.Packed.{finishedIn}
 use borrow.Author.Needs.{needs}
-use Rattle.cabinet.proofs.packed.pack_finished.Statement.{statement}
-use Rattle.cabinet.proofs.packed.pack_finished.Tie as tie
-use Rattle.cabinet.proofs.packed.pack_finished.Reads as reads
-use Rattle.cabinet.proofs.packed.pack_finished.Lts as lts
+use Rattle.answers.proofs.packed.pack_finished.Statement.{statement}
+use Rattle.answers.proofs.packed.pack_finished.Tie as tie
+use Rattle.answers.proofs.packed.pack_finished.Reads as reads
+use Rattle.answers.proofs.packed.pack_finished.Lts as lts
 
 -- src/packed.rt:12:5
 mul-result : tie.Need-mul-result
