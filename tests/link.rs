@@ -1,24 +1,28 @@
-//! Links the static library of a crate from the folder that GAWIPSOL_LIB
-//! names, else from target/staticlib beside tests/.
+//! Links the static library of crate cabinet from the folder that GAWIPSOL_LIB
+//! names, else from target/staticlib beside tests/. With the feature `port`
+//! nothing is linked.
 
 use std::env;
 use std::path::PathBuf;
 
-pub fn link(name: &str) {
+fn main() {
     println!("cargo:rerun-if-env-changed=GAWIPSOL_LIB");
+    if env::var_os("CARGO_FEATURE_PORT").is_some() {
+        return;
+    }
     let folder = match env::var_os("GAWIPSOL_LIB") {
         Some(folder) => PathBuf::from(folder),
         None => PathBuf::from(env::var_os("CARGO_MANIFEST_DIR").expect("CARGO_MANIFEST_DIR"))
             .join("../../target/staticlib"),
     };
-    let library = folder.join(format!("lib{name}.a"));
+    let library = folder.join("libcabinet.a");
     println!("cargo:rerun-if-changed={}", library.display());
     let folder = folder.canonicalize().unwrap_or(folder);
     assert!(
         library.is_file(),
-        "{} is missing: build the static library of crate {name} first, or set GAWIPSOL_LIB",
+        "{} is missing: build the static library of crate cabinet first, or set GAWIPSOL_LIB",
         library.display()
     );
     println!("cargo:rustc-link-search=native={}", folder.display());
-    println!("cargo:rustc-link-lib=static={name}");
+    println!("cargo:rustc-link-lib=static=cabinet");
 }

@@ -1,6 +1,0 @@
-#[path = "../link.rs"]
-mod link;
-
-fn main() {
-    link::link("typing");
-}
