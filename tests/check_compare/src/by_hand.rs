@@ -1,107 +1,35 @@
 //! Programs written by hand, with their answers.
 
-use crate::compare::{Comparison, Known};
+use crate::compare::Comparison;
+use comparing::cases::{
+    file, plain, Written, ABS, APP, C1, C10, C11, C12, C1_FILE, C2, C3, C4, C5, C6, C7, C8, C9,
+    FUN, REU, VAR,
+};
+use comparing::Known;
 use program_files::kinds::*;
 use program_files::read::types_at;
-use program_files::{Entries, Entry};
-
-type Written = (&'static [u8], &'static [u8], &'static [(u8, u16)]);
-
-fn entries((labels, types, terms): Written) -> Entries {
-    let plain = |list: &[u8]| list.iter().map(|&kind| Entry::new(kind, 0)).collect();
-    Entries {
-        labels: plain(labels),
-        types: plain(types),
-        terms: terms
-            .iter()
-            .map(|&(kind, argument)| Entry::new(kind, argument))
-            .collect(),
-    }
-}
+use program_files::Entries;
 
 /// A type in preorder.
 fn known_type(kinds: &[u8]) -> Known {
-    let entries = entries((&[], &[], &[]));
-    let types = kinds.iter().map(|&kind| Entry::new(kind, 0)).collect();
-    let types = types_at(&Entries { types, ..entries });
+    let types = types_at(&Entries {
+        labels: Vec::new(),
+        types: plain(kinds),
+        terms: Vec::new(),
+    });
     Known::Type(types[0].clone())
 }
-
-const ABS: u8 = ABSTRACTION;
-const APP: u8 = APPLICATION;
-const VAR: u8 = VARIABLE;
-const FUN: u8 = FUNCTION;
-const REU: u8 = REUSABLE;
 
 /// Cases c1 to c4 and c10 to c12, and others that are accepted, with their
 /// types.
 const ACCEPTED: [(&[u8], Written); 32] = [
-    (&[QUBIT], (&[QUBIT], &[], &[(LABEL, 0)])),
-    (
-        &[QUBIT],
-        (&[QUBIT], &[], &[(APPLY, 0), (GATE, 0), (LABEL, 0)]),
-    ),
-    (
-        &[PAIR_TYPE, QUBIT, QUBIT],
-        (
-            &[QUBIT, QUBIT],
-            &[],
-            &[
-                (LET, 0),
-                (APPLY, 0),
-                (GATE, 5),
-                (PAIR, 0),
-                (LABEL, 0),
-                (LABEL, 1),
-                (PAIR, 0),
-                (VAR, 0),
-                (VAR, 1),
-            ],
-        ),
-    ),
-    (
-        &[QUBIT],
-        (
-            &[QUBIT],
-            &[QUBIT],
-            &[
-                (APPLY, 0),
-                (BOX, 0),
-                (LIFT, 0),
-                (ABS, 0),
-                (APPLY, 0),
-                (GATE, 0),
-                (VAR, 0),
-                (LABEL, 0),
-            ],
-        ),
-    ),
-    (
-        &[QUBIT],
-        (
-            &[QUBIT],
-            &[CIRCUIT, QUBIT, QUBIT],
-            &[
-                (APP, 0),
-                (ABS, 0),
-                (APPLY, 0),
-                (VAR, 0),
-                (APPLY, 0),
-                (VAR, 0),
-                (LABEL, 0),
-                (GATE, 0),
-            ],
-        ),
-    ),
-    (&[FUN, QUBIT, QUBIT], (&[], &[QUBIT], &[(ABS, 0), (VAR, 0)])),
-    (
-        &[QUBIT],
-        (
-            &[QUBIT],
-            &[CIRCUIT, QUBIT, QUBIT],
-            &[(APP, 0), (ABS, 0), (LABEL, 0), (GATE, 0)],
-        ),
-    ),
+    (&[QUBIT], C1),
+    (&[QUBIT], C2),
+    (&[PAIR_TYPE, QUBIT, QUBIT], C3),
+    (&[QUBIT], C4),
+    (&[QUBIT], C10),
+    (&[FUN, QUBIT, QUBIT], C11),
+    (&[QUBIT], C12),
     // The gates.
     (&[CIRCUIT, QUBIT, QUBIT], (&[], &[], &[(GATE, 0)])),
     (&[CIRCUIT, QUBIT, QUBIT], (&[], &[], &[(GATE, 1)])),
@@ -275,23 +203,11 @@ const ACCEPTED: [(&[u8], Written); 32] = [
 
 /// Cases c5 to c9, and others that are refused: the number and the place.
 const REFUSED: [(u8, usize, Written); 57] = [
-    (17, 0, (&[QUBIT], &[], &[(PAIR, 0), (LABEL, 0), (LABEL, 0)])),
-    (17, 0, (&[QUBIT], &[QUBIT], &[(ABS, 0), (VAR, 0)])),
-    (18, 2, (&[QUBIT], &[], &[(LIFT, 0), (LABEL, 0)])),
-    (
-        16,
-        1,
-        (
-            &[QUBIT],
-            &[],
-            &[(APPLY, 0), (GATE, 0), (APPLY, 0), (GATE, 6), (LABEL, 0)],
-        ),
-    ),
-    (
-        17,
-        1,
-        (&[], &[QUBIT], &[(ABS, 0), (PAIR, 0), (VAR, 0), (VAR, 0)]),
-    ),
+    (17, 0, C5),
+    (17, 0, C6),
+    (18, 2, C7),
+    (16, 1, C8),
+    (17, 1, C9),
     // 16, each rule.
     (16, 0, (&[], &[], &[(FORCE, 0), (GATE, 0)])),
     (16, 0, (&[], &[], &[(APP, 0), (GATE, 0), (GATE, 0)])),
@@ -653,19 +569,14 @@ const REFUSED: [(u8, usize, Written); 57] = [
 
 pub fn compare(comparison: &mut Comparison) {
     comparison.listed_group("written by hand");
-    let c1 = [1, 0, 0, 0, 1, 0, 1, 0x11, 0, 0, 0, 0];
-    assert_eq!(
-        entries(ACCEPTED[0].1).bytes(),
-        c1,
-        "c1 as written in the document"
-    );
+    assert_eq!(file(C1), C1_FILE, "the file of c1");
     for (kinds, written) in ACCEPTED {
-        comparison.program(&entries(written).bytes(), &known_type(kinds));
+        comparison.program(&file(written), &known_type(kinds));
     }
     comparison.program(&[], &Known::Refused(1, 0));
     comparison.program(&[1, 0, 0, 0, 0, 0], &Known::Refused(2, 0));
     for (number, place, written) in REFUSED {
         let known = Known::Refused(number, place);
-        comparison.program(&entries(written).bytes(), &known);
+        comparison.program(&file(written), &known);
     }
 }

@@ -1,19 +1,15 @@
 //! One program at a time to both checks; what has been seen is counted.
 
-use crate::memory::MEMORY;
+use crate::memory::{Check, MEMORY};
 use crate::seen::{name_of, Seen};
 use check_compare::counting::{self, Wrong, PLANTED};
-use check_compare::lent::{exported, Check, Lent};
-use check_compare::library::{LEAST_OUT, LEAST_WORK};
-use program_files::{read, Accepted, Random, Term, Type};
+use check_compare::library::{self, is_short, pack, Lengths, LEAST_OUT, LEAST_WORK, SHORT};
+use comparing::{Counts, Expected, Known, Lent, Planted};
+use program_files::{read, Accepted, Random, Term};
 use programs::check::{agree, check_read, Answer};
 use programs::rules::{verdict, Sharing};
 use programs::survey::Survey;
-use std::collections::hash_map::DefaultHasher;
-use std::collections::{BTreeMap, HashSet};
-use std::hash::{Hash, Hasher};
-use std::process::exit;
-use std::rc::Rc;
+use std::collections::BTreeMap;
 
 /// The least number of distinct generated programs, and of programs for each
 /// answer.
@@ -31,38 +27,15 @@ const LEAST_FOUND: usize = 10;
 const MOST_NODES: usize = 12;
 const MOST_LINEAR: usize = 5;
 
-/// What a program is known to give before it is checked.
-#[derive(Clone, PartialEq, Eq, Debug)]
-pub enum Known {
-    Nothing,
-    Accepted,
-    Type(Rc<Type>),
-    Number(u8),
-    Refused(u8, usize),
-}
-
-struct Planted<T> {
-    name: &'static str,
-    fault: T,
-    /// The numbers of the programs that told it apart.
-    found: Vec<usize>,
-}
-
 pub struct Comparison {
-    lent: Lent,
+    counts: Counts,
+    lent: Lent<2>,
     random: Random,
-    programs: usize,
     calls: usize,
     short: usize,
     every_sharing: usize,
-    by_number: [usize; 20],
-    groups: Vec<(String, usize)>,
-    /// Whether the group is one of generated programs, and those of all such
-    /// groups.
-    generated: bool,
-    distinct: HashSet<u64>,
-    planted: Vec<Planted<Wrong>>,
-    memory: Vec<Planted<Check>>,
+    planted: Planted<Wrong>,
+    memory: Planted<Check>,
     /// By number, and by what stands at the place.
     places: BTreeMap<(u8, &'static str), usize>,
     accepted: Seen,
@@ -71,18 +44,18 @@ pub struct Comparison {
 impl Comparison {
     pub fn new() -> Comparison {
         Comparison {
-            lent: Lent::new(1),
+            counts: Counts::new(),
+            lent: Lent::new(
+                1,
+                ["the output buffer", "the working memory"],
+                library::in_words,
+            ),
             random: Random::new(2),
-            programs: 0,
             calls: 0,
             short: 0,
             every_sharing: 0,
-            by_number: [0; 20],
-            groups: Vec::new(),
-            generated: false,
-            distinct: HashSet::new(),
-            planted: none_found(&PLANTED),
-            memory: none_found(&MEMORY),
+            planted: Planted::new(LEAST_FOUND, PLANTED),
+            memory: Planted::new(LEAST_FOUND, MEMORY),
             places: BTreeMap::new(),
             accepted: Seen::default(),
         }
@@ -90,50 +63,45 @@ impl Comparison {
 
     /// The generated programs that follow are counted under this name.
     pub fn group(&mut self, name: &str) {
-        self.groups.push((name.to_string(), 0));
-        self.generated = true;
+        self.counts.group(name);
     }
 
     /// The same of programs that are listed and not generated.
     pub fn listed_group(&mut self, name: &str) {
-        self.group(name);
-        self.generated = false;
+        self.counts.listed_group(name);
     }
 
     pub fn programs(&self) -> usize {
-        self.programs
+        self.counts.all()
     }
 
     /// Compares both checks with each other and with what is known. The least
     /// lengths are lent, or more.
     pub fn program(&mut self, file: &[u8], known: &Known) {
         let answer = self.expected(file, known);
-        let (out, work) = match self.random.below(32) {
-            0 => (LEAST_OUT + 1, LEAST_WORK),
-            1 => (LEAST_OUT, LEAST_WORK + 1),
-            2 | 3 => (
+        let lengths = match self.random.below(32) {
+            0 => [LEAST_OUT + 1, LEAST_WORK],
+            1 => [LEAST_OUT, LEAST_WORK + 1],
+            2 | 3 => [
                 self.random.between(LEAST_OUT, 2_000),
                 self.random.between(LEAST_WORK, 60_000),
-            ),
-            4 if self.random.one_in(16) => (70_000, 140_000),
-            _ => (LEAST_OUT, LEAST_WORK),
+            ],
+            4 if self.random.one_in(16) => [70_000, 140_000],
+            _ => [LEAST_OUT, LEAST_WORK],
         };
-        self.call(file, (out, work), &answer);
+        self.call(file, lengths, &answer);
     }
 
     /// Compares calls with buffers of these lengths, and looks for planted
     /// faults in the use of memory.
-    pub fn lengths(&mut self, file: &[u8], lengths: &[(usize, usize)]) {
+    pub fn lengths(&mut self, file: &[u8], lengths: &[Lengths]) {
         let answer = self.expected(file, &Known::Nothing);
-        for &(out, work) in lengths {
-            self.call(file, (out, work), &answer);
-            let memory = self.memory.iter_mut();
-            for planted in memory.filter(|planted| planted.found.len() < LEAST_FOUND) {
-                let compared = self.lent.call(planted.fault, file, (out, work), &answer);
-                if compared.is_err() {
-                    planted.found.push(self.programs);
-                }
-            }
+        for &lengths in lengths {
+            self.call(file, lengths, &answer);
+            let lent = &mut self.lent;
+            self.memory.look(self.calls, |&fault| {
+                call(lent, fault, file, lengths, &answer).is_err()
+            });
         }
     }
 
@@ -147,19 +115,17 @@ impl Comparison {
             }
             Err(refusal) => (Err(*refusal), None),
         };
+        let refusal = answer.as_ref().err();
         let fits = match (known, &answer) {
-            (Known::Nothing, _) | (Known::Accepted, Ok(_)) => true,
             (Known::Type(of), Ok(other)) => of == other,
-            (Known::Number(number), Err(refusal)) => refusal.number == *number,
-            (Known::Refused(number, place), Err(refusal)) => {
-                (refusal.number, refusal.place) == (*number, *place)
-            }
-            _ => false,
+            _ => known.fits(refusal),
         };
         if !fits {
-            self.differs(file, &format!("known {known:?}, expected {answer:?}"));
+            let words = format!("known {known:?}, expected {answer:?}");
+            self.counts.differs(file, &words);
         }
-        self.count(file, &answer);
+        let number = refusal.map_or(0, |refusal| refusal.number);
+        self.counts.count(file, number);
         if let (Ok(read), Some(survey)) = (&read, &survey) {
             self.other_checks(file, read, &answer);
             self.look(read, survey, &answer);
@@ -167,14 +133,12 @@ impl Comparison {
         answer
     }
 
-    fn call(&mut self, file: &[u8], lengths: (usize, usize), answer: &Answer) {
-        match self.lent.call(exported, file, lengths, answer) {
-            Ok(packed) => self.short += usize::from(packed & 0xFF == 19),
-            Err(words) => {
-                let words = format!("buffers of {lengths:?} bytes: {words}");
-                self.differs(file, &words);
-            }
+    fn call(&mut self, file: &[u8], lengths: Lengths, answer: &Answer) {
+        if let Err(words) = call(&mut self.lent, exported, file, lengths, answer) {
+            let words = format!("buffers of {lengths:?} bytes: {words}");
+            self.counts.differs(file, &words);
         }
+        self.short += usize::from(is_short(lengths));
         self.calls += 1;
     }
 
@@ -183,49 +147,23 @@ impl Comparison {
     fn other_checks(&mut self, file: &[u8], read: &Accepted, answer: &Answer) {
         let counted = counting::check(Wrong::Nothing, read);
         if counted != *answer {
-            self.differs(file, &format!("counted {counted:?}, expected {answer:?}"));
+            self.counts
+                .differs(file, &format!("counted {counted:?}, expected {answer:?}"));
         }
-        let planted = self.planted.iter_mut().filter(|_| self.generated);
-        for planted in planted.filter(|planted| planted.found.len() < LEAST_FOUND) {
-            if counting::check(planted.fault, read) != *answer {
-                planted.found.push(self.programs);
-            }
+        if self.counts.is_generated() {
+            self.planted.look(self.counts.all(), |&fault| {
+                counting::check(fault, read) != *answer
+            });
         }
         if read.sizes.terms <= MOST_NODES && linear(read) <= MOST_LINEAR {
             let every = verdict(&read.labels, &read.term, Sharing::Every);
             if !agree(&every, answer) {
-                self.differs(
+                self.counts.differs(
                     file,
                     &format!("every sharing {every:?}, expected {answer:?}"),
                 );
             }
             self.every_sharing += 1;
-        }
-    }
-
-    fn differs(&self, file: &[u8], words: &str) -> ! {
-        println!(
-            "difference in program {} of {} bytes:",
-            self.programs,
-            file.len()
-        );
-        println!("file     {}", hex(file));
-        println!("{words}");
-        exit(1);
-    }
-
-    fn count(&mut self, file: &[u8], answer: &Answer) {
-        self.programs += 1;
-        let number = match answer {
-            Ok(_) => 0,
-            Err(refusal) => refusal.number,
-        };
-        self.by_number[usize::from(number)] += 1;
-        self.groups.last_mut().expect("a group").1 += 1;
-        if self.generated {
-            let mut hasher = DefaultHasher::new();
-            file.hash(&mut hasher);
-            self.distinct.insert(hasher.finish());
         }
     }
 
@@ -246,52 +184,26 @@ impl Comparison {
 
     /// Prints the counts, and fails if too little has been seen.
     pub fn report(&self) {
-        for (name, programs) in &self.groups {
-            println!("{programs:>9} {name}");
-        }
-        println!("{:>9} in all", self.programs);
-        println!("{:>9} distinct generated", self.distinct.len());
+        self.counts.report("accepted", (1..10).chain(16..19));
         println!("{:>9} calls, {} refused with 19", self.calls, self.short);
         println!("{:>9} with every way to share", self.every_sharing);
-        println!("{:>9} accepted", self.by_number[0]);
-        for number in (1..10).chain(16..19) {
-            println!("{:>9} refused with {number}", self.by_number[number]);
-        }
         for ((number, name), programs) in &self.places {
             println!("{programs:>9} refused with {number} at: {name}");
         }
         self.accepted.report();
-        let planted = self
-            .planted
-            .iter()
-            .map(|planted| (planted.name, &planted.found));
-        let memory = self
-            .memory
-            .iter()
-            .map(|planted| (planted.name, &planted.found));
-        let planted: Vec<(&str, &Vec<usize>)> = planted.chain(memory).collect();
-        for (name, found) in &planted {
-            match found.first() {
-                Some(first) if found.len() == LEAST_FOUND => {
-                    println!("planted fault ({name}) found: first by program {first}");
-                }
-                _ => println!("planted fault ({name}) NOT found: {} programs", found.len()),
-            }
-        }
-        assert!(
-            planted.iter().all(|(_, found)| found.len() == LEAST_FOUND),
-            "a planted fault was not found"
-        );
-        assert!(self.distinct.len() >= LEAST_GENERATED, "too few generated");
-        assert!(self.by_number[0] >= LEAST_ACCEPTED, "too few accepted");
+        self.planted.report("program");
+        self.memory.report("call");
+        let counts = &self.counts;
+        assert!(counts.distinct() >= LEAST_GENERATED, "too few generated");
+        assert!(counts.with(0) >= LEAST_ACCEPTED, "too few accepted");
         for (number, least) in LEAST_REFUSED {
             assert!(
-                self.by_number[usize::from(number)] >= least,
+                counts.with(number) >= least,
                 "too few refused with {number}"
             );
         }
         assert!(
-            (1..10).all(|number| self.by_number[number] >= LEAST_NOT_READ),
+            (1..10).all(|number| counts.with(number) >= LEAST_NOT_READ),
             "too few refused by read"
         );
         self.assert_places();
@@ -329,13 +241,35 @@ impl Comparison {
     }
 }
 
-fn none_found<T: Copy>(list: &[(&'static str, T)]) -> Vec<Planted<T>> {
-    let planted = list.iter().map(|&(name, fault)| Planted {
-        name,
-        fault,
-        found: Vec::new(),
-    });
-    planted.collect()
+/// The exported check.
+fn exported(lent: &mut Lent<2>) -> u64 {
+    let (file, [out, work]) = lent.parts();
+    library::answer(file, out, work)
+}
+
+/// Calls a check with buffers of these lengths on a file that has this answer.
+/// What differs, if anything.
+fn call(
+    lent: &mut Lent<2>,
+    check: Check,
+    file: &[u8],
+    lengths: Lengths,
+    answer: &Answer,
+) -> Result<(), String> {
+    let short = is_short(lengths);
+    let out = match answer {
+        Ok(of) if !short => of.preorder(),
+        _ => Vec::new(),
+    };
+    let expected = Expected {
+        packed: match short {
+            true => pack(&Err(SHORT)),
+            false => pack(answer),
+        },
+        out: &out,
+        cleared: !short,
+    };
+    lent.call(check, file, &lengths, &expected)
 }
 
 /// How many labels and bound variables there are.
@@ -349,8 +283,4 @@ fn linear(read: &Accepted) -> usize {
         }
     }
     read.labels.len() + binders(&read.term)
-}
-
-fn hex(file: &[u8]) -> String {
-    file.iter().map(|byte| format!("{byte:02X}")).collect()
 }

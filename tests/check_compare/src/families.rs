@@ -1,10 +1,12 @@
 //! The programs that are compared, all from fixed seeds.
 
-use crate::compare::{Comparison, Known};
+use crate::compare::Comparison;
+use comparing::files::{broken_file, bytes, entries, often_broken_file, some_typed};
+use comparing::Known;
 use program_files::entries::MOST_TYPES;
 use program_files::generate::{Generator, Lean, Shape};
 use program_files::{encode, kinds, Entries, Positions, Program, Random, Term, Type, Wire};
-use programs::broken::{broken, Expected, Spot, Way, WAYS};
+use programs::broken::{Way, WAYS};
 use programs::edit::{binds, with_parts};
 use programs::extremes;
 use programs::rules::MOST_ENTRIES;
@@ -34,45 +36,12 @@ pub fn compare(comparison: &mut Comparison) {
     not_read(comparison);
 }
 
-/// The program's file, its types listed or not, shared or not.
-fn entries(random: &mut Random, program: &Program) -> Option<Entries> {
-    let unlisted = || Program {
-        listed: Vec::new(),
-        ..program.clone()
-    };
-    let entries = match random.below(4) {
-        0 => encode(&unlisted(), Positions::Fresh),
-        1 => encode(&unlisted(), Positions::First),
-        2 => encode(&unlisted(), Positions::Any(random)),
-        _ => None,
-    };
-    let entries = entries.or_else(|| encode(program, Positions::Any(random)));
-    entries.or_else(|| encode(&unlisted(), Positions::First))
-}
-
 /// A well-typed program is accepted with its type; none if it has no file.
 fn accepted(comparison: &mut Comparison, random: &mut Random, typed: &Typed) -> Option<()> {
     let entries = entries(random, &typed.program)?;
     let known = Known::Type(typed.of.clone());
     comparison.program(&entries.bytes(), &known);
     Some(())
-}
-
-/// A program of this plan, or of one that asks for less.
-fn some_typed(random: &mut Random, plan: &Plan) -> Typed {
-    let mut plan = plan.clone();
-    loop {
-        if let Some(typed) = typed(random, &plan) {
-            if entries(random, &typed.program).is_some() {
-                return typed;
-            }
-        }
-        plan.terms -= plan.terms / 8;
-        plan.types = 512;
-        if plan.goal != Goal::Wires {
-            plan.goal = Goal::Made;
-        }
-    }
 }
 
 /// What small terms are made of: leaves, and nodes that get other parts.
@@ -167,8 +136,7 @@ fn all_small(comparison: &mut Comparison) {
                     listed: Vec::new(),
                     term,
                 };
-                let entries = encode(&program, Positions::First).expect("sizes in range");
-                comparison.program(&entries.bytes(), &Known::Nothing);
+                comparison.program(&bytes(&program), &Known::Nothing);
             }
         }
     }
@@ -469,18 +437,6 @@ fn one_comparison(
     }
 }
 
-/// What is known of a well-typed program that was broken.
-fn known(expected: Expected, entries: &Entries) -> Known {
-    match expected {
-        Expected::Anything => Known::Nothing,
-        Expected::Number(number) => Known::Number(number),
-        Expected::Refused(number, Spot::Label(label)) => Known::Refused(number, label),
-        Expected::Refused(number, Spot::Node(node)) => {
-            Known::Refused(number, entries.sizes().first_term() + node)
-        }
-    }
-}
-
 fn one_fault(comparison: &mut Comparison) {
     let mut random = Random::new(7);
     let mut bases: Vec<Typed> = Vec::new();
@@ -510,15 +466,10 @@ fn one_fault(comparison: &mut Comparison) {
             };
             at += 1;
             assert!(at < 40 * wanted, "too few programs: {name}");
-            let Some((program, expected)) = broken(&mut random, &base.program, way) else {
-                continue;
-            };
-            let Some(entries) = entries(&mut random, &program) else {
-                continue;
-            };
-            let known = known(expected, &entries);
-            comparison.program(&entries.bytes(), &known);
-            found += 1;
+            if let Some((file, known)) = broken_file(&mut random, &base.program, way) {
+                comparison.program(&file, &known);
+                found += 1;
+            }
         }
     }
 }
@@ -543,16 +494,10 @@ fn several_faults(comparison: &mut Comparison) {
     ];
     for round in 0..16_000 {
         let plan = Plan::any(&mut random, 4, 16);
-        let mut program = some_typed(&mut random, &plan).program;
+        let program = some_typed(&mut random, &plan).program;
         let among = &groups[round % groups.len()];
-        for _ in 0..random.between(2, 5) {
-            let way = random.pick(among);
-            if let Some((more, _)) = broken(&mut random, &program, way) {
-                program = more;
-            }
-        }
-        if let Some(entries) = entries(&mut random, &program) {
-            comparison.program(&entries.bytes(), &Known::Nothing);
+        if let Some(file) = often_broken_file(&mut random, program, among) {
+            comparison.program(&file, &Known::Nothing);
         }
     }
 }

@@ -1,7 +1,8 @@
 //! Buffers of every length near the least, shorter and longer.
 
 use crate::compare::Comparison;
-use check_compare::library::{LEAST_OUT, LEAST_WORK};
+use check_compare::library::{Lengths, LEAST_OUT, LEAST_WORK};
+use comparing::files::bytes;
 use program_files::{encode, Positions, Random};
 use programs::broken::{broken, Way};
 use programs::extremes;
@@ -21,15 +22,15 @@ pub fn compare(comparison: &mut Comparison) {
         .collect();
     let mut random = Random::new(1);
     for (at, file) in files(&mut random).iter().enumerate() {
-        let mut lengths: Vec<(usize, usize)> = Vec::new();
-        lengths.extend(outs.iter().map(|&out| (out, LEAST_WORK)));
-        lengths.extend(works.iter().map(|&work| (LEAST_OUT, work)));
+        let mut lengths: Vec<Lengths> = Vec::new();
+        lengths.extend(outs.iter().map(|&out| [out, LEAST_WORK]));
+        lengths.extend(works.iter().map(|&work| [LEAST_OUT, work]));
         for _ in 0..40 {
-            lengths.push((random.pick(&outs), random.pick(&works)));
+            lengths.push([random.pick(&outs), random.pick(&works)]);
         }
         if at == 0 {
             for &out in &outs {
-                lengths.extend(works.iter().map(|&work| (out, work)));
+                lengths.extend(works.iter().map(|&work| [out, work]));
             }
         }
         comparison.lengths(file, &lengths);
@@ -63,12 +64,10 @@ fn files(random: &mut Random) -> Vec<Vec<u8>> {
         }
     }
     for (_, typed) in extremes::all(2_048) {
-        let entries = encode(&typed.program, Positions::First);
-        files.push(entries.expect("sizes in range").bytes());
+        files.push(bytes(&typed.program));
     }
     let lifts = extremes::at_the_type_bound().swap_remove(0).1;
-    let lifts = encode(&lifts.program, Positions::First).expect("sizes in range");
-    files.push(lifts.bytes());
+    files.push(bytes(&lifts.program));
     files.extend(not_read());
     files
 }

@@ -1,5 +1,4 @@
-//! The exported check, the buffers that it is lent, and a check that counts.
+//! The exported check, and a check that counts.
 
 pub mod counting;
-pub mod lent;
 pub mod library;

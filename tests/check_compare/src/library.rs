@@ -8,6 +8,14 @@ pub const LEAST_OUT: usize = 512;
 /// The least length of the working memory.
 pub const LEAST_WORK: usize = 54_880;
 
+/// The lengths of the output buffer and of the working memory.
+pub type Lengths = [usize; 2];
+
+/// Whether one of the buffers is too short.
+pub fn is_short([out, work]: Lengths) -> bool {
+    out < LEAST_OUT || work < LEAST_WORK
+}
+
 extern "C" {
     fn check_packed(
         file_ptr: *const u8,

@@ -1,9 +1,12 @@
 //! Checks that answer as they should, with one fault each in their use of
 //! memory. The comparison must find every one of them.
 
-use check_compare::lent::{Check, Lent};
 use check_compare::library::{pack, LEAST_OUT, LEAST_WORK, SHORT};
+use comparing::Lent;
 use programs::check;
+
+/// A check that is lent buffers; its answer is one number.
+pub type Check = fn(&mut Lent<2>) -> u64;
 
 pub const MEMORY: [(&str, Check); 16] = [
     ("working memory left as it was", |lent| {
@@ -34,7 +37,7 @@ pub const MEMORY: [(&str, Check); 16] = [
     ("a buffer touched on 19", |lent| {
         after(lent, |lent, packed| {
             if packed & 0xFF == 19 {
-                let (_, out, work) = lent.parts();
+                let (_, [out, work]) = lent.parts();
                 if let Some(byte) = out.first_mut().or(work.first_mut()) {
                     *byte ^= 1;
                 }
@@ -44,41 +47,32 @@ pub const MEMORY: [(&str, Check); 16] = [
     ("output buffer touched on a refusal", |lent| {
         after(lent, |lent, packed| {
             if packed & 0xFF >= 16 && packed & 0xFF != 19 {
-                lent.parts().1[0] ^= 1;
+                lent.parts().1[0][0] ^= 1;
             }
         })
     }),
     ("output buffer cleared behind the type", |lent| {
         after(lent, |lent, packed| {
             if packed & 0xFF == 0 {
-                lent.parts().1[(packed >> 32) as usize..].fill(0);
+                lent.parts().1[0][(packed >> 32) as usize..].fill(0);
             }
         })
     }),
     ("one byte of the type missing", |lent| {
         after(lent, |lent, packed| {
             if packed & 0xFF == 0 {
-                lent.parts().1[(packed >> 32) as usize - 1] ^= 8;
+                lent.parts().1[0][(packed >> 32) as usize - 1] ^= 8;
             }
         })
     }),
-    ("a byte before the output buffer", |lent| {
-        after(lent, |lent, _| {
-            let (row, [_, out, _]) = lent.row();
-            row[out.start - 1] ^= 1;
-        })
+    ("a byte beside the output buffer touched", |lent| {
+        after(lent, |lent, _| lent.touch_beside(0))
     }),
-    ("a byte behind the working memory", |lent| {
-        after(lent, |lent, _| {
-            let (row, [_, _, work]) = lent.row();
-            row[work.end] ^= 1;
-        })
+    ("a byte beside the working memory touched", |lent| {
+        after(lent, |lent, _| lent.touch_beside(1))
     }),
-    ("a byte of the file", |lent| {
-        after(lent, |lent, _| {
-            let (row, [file, _, _]) = lent.row();
-            row[file.start] ^= 1;
-        })
+    ("a byte of the file touched", |lent| {
+        after(lent, |lent, _| lent.touch_file())
     }),
 ];
 
@@ -93,8 +87,8 @@ enum Clears {
 }
 
 /// The check with these least lengths.
-fn with(lent: &mut Lent, least_out: usize, least_work: usize, clears: Clears) -> u64 {
-    let (file, out, work) = lent.parts();
+fn with(lent: &mut Lent<2>, least_out: usize, least_work: usize, clears: Clears) -> u64 {
+    let (file, [out, work]) = lent.parts();
     if out.len() < least_out || work.len() < least_work {
         return pack(&Err(SHORT));
     }
@@ -118,17 +112,17 @@ fn with(lent: &mut Lent, least_out: usize, least_work: usize, clears: Clears) ->
 }
 
 /// The check as it should be, and then something more.
-fn after(lent: &mut Lent, more: fn(&mut Lent, u64)) -> u64 {
+fn after(lent: &mut Lent<2>, more: fn(&mut Lent<2>, u64)) -> u64 {
     let packed = with(lent, LEAST_OUT, LEAST_WORK, Clears::All);
     more(lent, packed);
     packed
 }
 
 /// 19 only for a file that is read.
-fn after_read(lent: &mut Lent) -> u64 {
+fn after_read(lent: &mut Lent<2>) -> u64 {
     match program_files::read(lent.file()) {
         Err(refusal) => {
-            lent.parts().2.fill(0);
+            lent.parts().1[1].fill(0);
             pack(&Err(refusal))
         }
         Ok(_) => with(lent, LEAST_OUT, LEAST_WORK, Clears::All),

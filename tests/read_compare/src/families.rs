@@ -1,8 +1,10 @@
 //! The files that are compared, all from fixed seeds.
 
-use crate::compare::{Comparison, Known};
+use crate::compare::Comparison;
+use comparing::files::room_for_faults;
+use comparing::Known;
 use program_files::entries::LONGEST;
-use program_files::faults::{broken, Broken};
+use program_files::faults::broken;
 use program_files::generate::{Generator, Grouping, Lean, Shape};
 use program_files::{kinds, read, Entries, Entry, Random};
 
@@ -26,7 +28,7 @@ pub fn compare(comparison: &mut Comparison) {
 fn accepted(comparison: &mut Comparison, random: &mut Random, shape: &Shape) -> Entries {
     let (program, entries) = Generator::entries(random, shape);
     let bytes = entries.bytes();
-    comparison.known(&bytes, Known::Accepted);
+    comparison.known(&bytes, &Known::Accepted);
     let read = read(&bytes).expect("an accepted file");
     assert_eq!(read.labels, program.labels, "labels read back");
     assert!(read.term == program.term, "term read back");
@@ -115,7 +117,7 @@ fn every_kind_and_argument(comparison: &mut Comparison) {
             Entry::new(kinds::VARIABLE, 2),
         ],
     };
-    comparison.known(&base.bytes(), Known::Accepted);
+    comparison.known(&base.bytes(), &Known::Accepted);
     let all = base.sizes().all();
     for number in 0..all {
         for kind in 0..=255 {
@@ -249,7 +251,7 @@ fn sizes_at_bounds(comparison: &mut Comparison) {
                 } else {
                     Known::Refused(2, 0)
                 };
-                comparison.known(&entries.bytes(), known);
+                comparison.known(&entries.bytes(), &known);
             }
         }
     }
@@ -410,12 +412,12 @@ fn cut_and_extended(comparison: &mut Comparison) {
         let bytes = accepted(comparison, &mut random, &shape).bytes();
         for length in 0..bytes.len() {
             let number = if length < 6 { 1 } else { 3 };
-            comparison.known(&bytes[..length], Known::Refused(number, 0));
+            comparison.known(&bytes[..length], &Known::Refused(number, 0));
         }
         let mut longer = bytes;
         for _ in 0..12 {
             longer.push(random.byte());
-            comparison.known(&longer, Known::Refused(3, 0));
+            comparison.known(&longer, &Known::Refused(3, 0));
         }
     }
     for _ in 0..3 {
@@ -425,7 +427,7 @@ fn cut_and_extended(comparison: &mut Comparison) {
         assert_eq!(bytes.len(), LONGEST, "the longest file");
         for length in (0..LONGEST).step_by(3).chain(LONGEST - 20..LONGEST) {
             let number = if length < 6 { 1 } else { 3 };
-            comparison.known(&bytes[..length], Known::Refused(number, 0));
+            comparison.known(&bytes[..length], &Known::Refused(number, 0));
         }
         let mut longer = bytes;
         for length in [
@@ -440,7 +442,7 @@ fn cut_and_extended(comparison: &mut Comparison) {
             200_000,
         ] {
             longer.resize_with(length, || random.byte());
-            comparison.known(&longer, Known::Refused(3, 0));
+            comparison.known(&longer, &Known::Refused(3, 0));
         }
     }
     // Lengths that agree only in their low 8 or 16 bits.
@@ -450,7 +452,7 @@ fn cut_and_extended(comparison: &mut Comparison) {
         for more in [256, 512, 7_936, 65_536, 131_072] {
             let mut longer = bytes.clone();
             longer.resize(bytes.len() + more, 0);
-            comparison.known(&longer, Known::Refused(3, 0));
+            comparison.known(&longer, &Known::Refused(3, 0));
         }
     }
 }
@@ -497,15 +499,9 @@ fn moved(size: usize, random: &mut Random) -> usize {
 
 /// An accepted file with room for all faults, mostly.
 fn base(comparison: &mut Comparison, random: &mut Random) -> Entries {
-    let mut shape = Shape::any(random, 5, 20, 30);
-    shape.types = shape.types.max(3);
-    if random.one_in(2) {
-        shape.type_kinds = kinds::TYPES_WITH_PARTS.to_vec();
-        shape.term_kinds = kinds::TERMS_WITH_PARTS.to_vec();
-    }
-    let (_, entries) = Generator::entries(random, &shape);
+    let entries = room_for_faults(random);
     if random.one_in(8) {
-        comparison.known(&entries.bytes(), Known::Accepted);
+        comparison.known(&entries.bytes(), &Known::Accepted);
     }
     entries
 }
@@ -514,17 +510,9 @@ fn with_faults(comparison: &mut Comparison, random: &mut Random, numbers: &[u8])
     loop {
         let entries = base(comparison, random);
         if let Some(broken) = broken(entries, numbers, random) {
-            comparison.known(&broken.bytes, known(&broken));
+            comparison.known(&broken.bytes, &Known::of_file(&broken));
             return;
         }
-    }
-}
-
-/// What a broken file must give.
-fn known(broken: &Broken) -> Known {
-    match broken.place {
-        Some(place) => Known::Refused(broken.number, place),
-        None => Known::Number(broken.number),
     }
 }
 
@@ -553,7 +541,7 @@ fn one_fault(comparison: &mut Comparison) {
             };
             let (_, entries) = Generator::entries(&mut random, &shape);
             if let Some(broken) = broken(entries, &[number], &mut random) {
-                comparison.known(&broken.bytes, known(&broken));
+                comparison.known(&broken.bytes, &Known::of_file(&broken));
             }
         }
     }

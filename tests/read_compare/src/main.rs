@@ -8,16 +8,13 @@ mod planted;
 mod stack;
 
 use compare::Comparison;
-use std::env;
+use comparing::process;
 
 fn main() {
-    let arguments: Vec<String> = env::args().skip(1).collect();
-    if arguments
-        .first()
-        .is_some_and(|word| word == stack::ARGUMENT)
-    {
-        stack::child(&arguments[1..]);
-    }
+    process::run(compare_all, library::answer);
+}
+
+fn compare_all() {
     let mut comparison = Comparison::new();
     by_hand::compare(&mut comparison);
     families::compare(&mut comparison);

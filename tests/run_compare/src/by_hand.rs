@@ -1,104 +1,15 @@
 //! Programs written by hand, with the lines of `wirelist` for each.
 
-use crate::compare::{Comparison, Known};
+use crate::compare::Comparison;
+use comparing::cases::{
+    file, Written, ABS, APP, C1, C10, C11, C12, C1_FILE, C2, C3, C4, C5, C6, C7, C8, C9, FUN, REU,
+    VAR,
+};
+use comparing::Known;
 use evaluator::text::{text, LIMIT};
 use evaluator::{prepare, Answer};
 use example_programs::examples;
 use program_files::kinds::*;
-use program_files::{Entries, Entry};
-
-type Written = (&'static [u8], &'static [u8], &'static [(u8, u16)]);
-
-const ABS: u8 = ABSTRACTION;
-const APP: u8 = APPLICATION;
-const VAR: u8 = VARIABLE;
-const FUN: u8 = FUNCTION;
-const REU: u8 = REUSABLE;
-
-fn file((labels, types, terms): Written) -> Vec<u8> {
-    let plain = |list: &[u8]| list.iter().map(|&kind| Entry::new(kind, 0)).collect();
-    let entries = Entries {
-        labels: plain(labels),
-        types: plain(types),
-        terms: terms
-            .iter()
-            .map(|&(kind, argument)| Entry::new(kind, argument))
-            .collect(),
-    };
-    entries.bytes()
-}
-
-const C1: Written = (&[QUBIT], &[], &[(LABEL, 0)]);
-
-const C2: Written = (&[QUBIT], &[], &[(APPLY, 0), (GATE, 0), (LABEL, 0)]);
-
-const C3: Written = (
-    &[QUBIT, QUBIT],
-    &[],
-    &[
-        (LET, 0),
-        (APPLY, 0),
-        (GATE, 5),
-        (PAIR, 0),
-        (LABEL, 0),
-        (LABEL, 1),
-        (PAIR, 0),
-        (VAR, 0),
-        (VAR, 1),
-    ],
-);
-
-const C4: Written = (
-    &[QUBIT],
-    &[QUBIT],
-    &[
-        (APPLY, 0),
-        (BOX, 0),
-        (LIFT, 0),
-        (ABS, 0),
-        (APPLY, 0),
-        (GATE, 0),
-        (VAR, 0),
-        (LABEL, 0),
-    ],
-);
-
-const C5: Written = (&[QUBIT], &[], &[(PAIR, 0), (LABEL, 0), (LABEL, 0)]);
-
-const C6: Written = (&[QUBIT], &[QUBIT], &[(ABS, 0), (VAR, 0)]);
-
-const C7: Written = (&[QUBIT], &[], &[(LIFT, 0), (LABEL, 0)]);
-
-const C8: Written = (
-    &[QUBIT],
-    &[],
-    &[(APPLY, 0), (GATE, 0), (APPLY, 0), (GATE, 6), (LABEL, 0)],
-);
-
-const C9: Written = (&[], &[QUBIT], &[(ABS, 0), (PAIR, 0), (VAR, 0), (VAR, 0)]);
-
-const C10: Written = (
-    &[QUBIT],
-    &[CIRCUIT, QUBIT, QUBIT],
-    &[
-        (APP, 0),
-        (ABS, 0),
-        (APPLY, 0),
-        (VAR, 0),
-        (APPLY, 0),
-        (VAR, 0),
-        (LABEL, 0),
-        (GATE, 0),
-    ],
-);
-
-const C11: Written = (&[], &[QUBIT], &[(ABS, 0), (VAR, 0)]);
-
-const C12: Written = (
-    &[QUBIT],
-    &[CIRCUIT, QUBIT, QUBIT],
-    &[(APP, 0), (ABS, 0), (LABEL, 0), (GATE, 0)],
-);
 
 /// Cases c1 to c12.
 const CASES: [(Written, &str); 12] = [
@@ -312,13 +223,13 @@ const LISTING: [u8; 18] = [
 pub fn compare(comparison: &mut Comparison) {
     comparison.group("written by hand");
     for (written, lines) in CASES.into_iter().chain(OTHERS) {
-        comparison.program(&file(written), &Known::Text(lines));
+        comparison.program(&file(written), &Known::Nothing);
+        comparison.at_limit(&file(written), LIMIT, lines);
     }
     comparison.program(&[], &Known::Refused(1, 0));
     comparison.program(&[1, 0, 0, 0, 0, 0], &Known::Refused(2, 0));
-    let bytes = [1, 0, 0, 0, 1, 0, 1, 17, 0, 0, 0, 0];
-    assert_eq!(file(C1), bytes, "the file of c1");
-    comparison.at_limit(&bytes, 0, "in 0 Qubit\nout 0\nsteps 0\n");
+    assert_eq!(file(C1), C1_FILE, "the file of c1");
+    comparison.at_limit(&C1_FILE, 0, "in 0 Qubit\nout 0\nsteps 0\n");
     comparison.at_limit(&file(C4), 4, "refused 21 0\n");
     comparison.at_limit(&file(C4), 5, CASES[3].1);
     comparison.at_limit(&file(C11), 0, "refused 20 0\n");
@@ -332,7 +243,7 @@ pub fn compare(comparison: &mut Comparison) {
     assert_eq!(totals(C4), [8, 14, 11, 9, 3, 1], "the nodes of c4");
     comparison.group("examples");
     for example in examples() {
-        comparison.program(&example.file, &Known::Finished);
+        comparison.program(&example.file, &Known::Accepted);
         comparison.at_limit(&example.file, LIMIT, &example.lines);
     }
 }

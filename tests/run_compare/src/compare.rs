@@ -4,18 +4,14 @@
 use crate::memory::{self, as_lent, Fault};
 use crate::seen::{Run, Seen};
 use crate::sound;
+use comparing::{Counts, Expected, Known, Planted};
 use evaluator::text::text;
 use evaluator::{prepare, Answer, Prepared};
 use planted::PLANTED;
-use program_files::{Random, Type};
-use run_compare::interface::{self, Lengths, LEAST};
-use run_compare::lent::{under_test, Lent};
-use std::collections::hash_map::DefaultHasher;
-use std::collections::HashSet;
-use std::hash::{Hash, Hasher};
+use program_files::Random;
+use run_compare::interface::{self, is_short, pack, Lengths, Lent, LEAST, SHORT};
+use run_compare::under_test;
 use std::panic::{self, AssertUnwindSafe};
-use std::process::exit;
-use std::rc::Rc;
 
 /// The least number of distinct programs, and of programs for each answer.
 const LEAST_DISTINCT: usize = 100_000;
@@ -44,83 +40,46 @@ const LEAST_FOUND: usize = 3;
 /// Every run ends with fewer steps.
 const MOST_STEPS: u32 = 1_000_000;
 
-/// What a program is known to give before it is run.
-#[derive(Clone, PartialEq, Eq, Debug)]
-pub enum Known {
-    Nothing,
-    Finished,
-    /// Well typed: 20 if this is no wire type, else it runs.
-    Type(Rc<Type>),
-    Number(u8),
-    Refused(u8, usize),
-    /// The lines of `wirelist`.
-    Text(&'static str),
-}
-
-struct Planted {
-    name: String,
-    fault: Fault,
-    /// The numbers of the programs that told it apart.
-    found: Vec<usize>,
-}
-
 pub struct Comparison {
+    counts: Counts,
     lent: Lent,
     random: Random,
-    programs: usize,
     calls: usize,
-    short: usize,
-    by_number: [usize; 23],
     calls_by_number: [usize; 23],
-    /// The name of the group, and how many programs it has.
-    group: (String, usize),
-    distinct: HashSet<u64>,
     /// Faults in the evaluation, and faults in the use of memory.
-    planted: Vec<Planted>,
-    memory: Vec<Planted>,
+    planted: Planted<Fault>,
+    memory: Planted<Fault>,
     seen: Seen,
 }
 
 impl Comparison {
     pub fn new() -> Comparison {
         let planted = PLANTED.iter().map(|&(name, run)| {
-            let fault: Fault = Box::new(move |lent: &mut Lent| {
-                let answer = run(lent.file(), lent.limit());
+            let fault: Fault = Box::new(move |lent: &mut Lent, limit: u32| {
+                let answer = run(lent.file(), limit);
                 as_lent(lent, &answer)
             });
-            (name.to_string(), fault)
+            (name, fault)
         });
         Comparison {
-            lent: Lent::new(1),
+            counts: Counts::new(),
+            lent: Lent::new(1, std::array::from_fn(interface::name), interface::in_words),
             random: Random::new(2),
-            programs: 0,
             calls: 0,
-            short: 0,
-            by_number: [0; 23],
             calls_by_number: [0; 23],
-            group: (String::new(), 0),
-            distinct: HashSet::new(),
-            planted: none_found(planted),
-            memory: none_found(memory::faults()),
+            planted: Planted::new(LEAST_FOUND, planted),
+            memory: Planted::new(LEAST_FOUND, memory::faults()),
             seen: Seen::default(),
         }
     }
 
     /// The programs that follow are counted under this name.
     pub fn group(&mut self, name: &str) {
-        self.report_group();
-        self.group = (name.to_string(), 0);
-    }
-
-    fn report_group(&self) {
-        let (name, programs) = &self.group;
-        if *programs > 0 {
-            println!("{programs:>9} {name}");
-        }
+        self.counts.group(name);
     }
 
     pub fn programs(&self) -> usize {
-        self.programs
+        self.counts.all()
     }
 
     pub fn calls(&self) -> usize {
@@ -153,7 +112,7 @@ impl Comparison {
     pub fn at_limit(&mut self, file: &[u8], limit: u32, lines: &str) {
         let answer = evaluator::run(file, limit);
         if text(&answer) != lines {
-            self.differs(file, limit, &format!("expected {answer:?}, known {lines}"));
+            self.differs(file, limit, &format!("known {lines}, expected {answer:?}"));
         }
         self.call(file, limit, &answer);
     }
@@ -166,12 +125,9 @@ impl Comparison {
         for lengths in lengths {
             self.call_with(file, limit, lengths, &answer);
             let lent = &mut self.lent;
-            for planted in unfound(&mut self.memory) {
-                let compared = lent.call(&planted.fault, file, limit, lengths, &answer);
-                if compared.is_err() {
-                    planted.found.push(self.programs);
-                }
-            }
+            self.memory.look(self.calls, |fault| {
+                call(lent, fault, file, limit, lengths, &answer).is_err()
+            });
         }
     }
 
@@ -215,83 +171,51 @@ impl Comparison {
         }
         self.call_with(file, limit, &lengths, answer);
         let lent = &mut self.lent;
-        for planted in unfound(&mut self.planted) {
-            if planted.found.last() == Some(&self.programs) {
-                continue;
-            }
-            let fault = &planted.fault;
-            let compared = quietly(|| lent.call(fault, file, limit, &LEAST, answer));
-            if !matches!(compared, Some(Ok(_))) {
-                planted.found.push(self.programs);
-            }
-        }
+        self.planted.look(self.counts.all(), |fault| {
+            let compared = quietly(|| call(lent, fault, file, limit, &LEAST, answer));
+            !matches!(compared, Some(Ok(())))
+        });
     }
 
     fn call_with(&mut self, file: &[u8], limit: u32, lengths: &Lengths, answer: &Answer) {
-        match self.lent.call(&under_test, file, limit, lengths, answer) {
-            Ok(packed) => {
-                let number = interface::number(packed);
-                self.short += usize::from(number == 19);
-                self.calls_by_number[usize::from(number)] += 1;
-            }
-            Err(words) => {
-                let words = format!("buffers of {lengths:?} bytes: {words}");
-                self.differs(file, limit, &words);
-            }
+        if let Err(words) = call(&mut self.lent, &under_test, file, limit, lengths, answer) {
+            let words = format!("buffers of {lengths:?} bytes: {words}");
+            self.differs(file, limit, &words);
         }
+        let number = match is_short(lengths) {
+            true => 19,
+            false => number(answer),
+        };
+        self.calls_by_number[usize::from(number)] += 1;
         self.calls += 1;
     }
 
     fn differs(&self, file: &[u8], limit: u32, words: &str) -> ! {
-        println!(
-            "difference in program {} of {} bytes, limit {limit}:",
-            self.programs,
-            file.len()
-        );
-        println!("file     {}", hex(file));
-        println!("{words}");
-        exit(1);
+        let words = format!("limit {limit}: {words}");
+        self.counts.differs(file, &words);
     }
 
     fn count(&mut self, file: &[u8], answer: &Answer, known: &Known) {
-        let number = match answer {
-            Answer::Finished { .. } => 0,
-            Answer::Refused(refusal) => refusal.number,
-        };
-        let fits = match (known, answer) {
-            (Known::Nothing, _) | (Known::Finished, Answer::Finished { .. }) => true,
-            (Known::Type(of), _) => {
-                (number == 20) != of.is_wire_type() && !(1..20).contains(&number)
-            }
-            (Known::Number(known), _) => number == *known,
-            (Known::Refused(number, place), Answer::Refused(refusal)) => {
-                (refusal.number, refusal.place) == (*number, *place)
-            }
-            (Known::Text(lines), answer) => text(answer) == *lines,
-            _ => false,
+        let number = number(answer);
+        let fits = match known {
+            // 20 if it is no wire type, else it runs.
+            Known::Type(of) => (number == 20) != of.is_wire_type() && !(1..20).contains(&number),
+            _ => known.fits(match answer {
+                Answer::Finished { .. } => None,
+                Answer::Refused(refusal) => Some(refusal),
+            }),
         };
         if !fits {
             let words = format!("known {known:?}, expected {answer:?}");
             self.differs(file, MOST_STEPS, &words);
         }
-        self.programs += 1;
-        self.by_number[usize::from(number)] += 1;
-        self.group.1 += 1;
-        let mut hasher = DefaultHasher::new();
-        file.hash(&mut hasher);
-        self.distinct.insert(hasher.finish());
+        self.counts.count(file, number);
     }
 
     /// Prints the counts, and fails if too little has been seen.
     pub fn report(&self) {
-        self.report_group();
-        println!("{:>9} in all", self.programs);
-        println!("{:>9} distinct", self.distinct.len());
-        println!("{:>9} finished", self.by_number[0]);
-        for (number, _) in LEAST_REFUSED {
-            let programs = self.by_number[usize::from(number)];
-            println!("{programs:>9} refused with {number}");
-        }
+        let numbers = LEAST_REFUSED.iter().map(|&(number, _)| number);
+        self.counts.report("finished", numbers);
         println!("{:>9} calls", self.calls);
         println!("{:>9} of them finished", self.calls_by_number[0]);
         for number in [19, 21, 22] {
@@ -299,60 +223,54 @@ impl Comparison {
             println!("{calls:>9} of them refused with {number}");
         }
         self.seen.report();
-        self.report_planted();
-        assert!(self.distinct.len() >= LEAST_DISTINCT, "too few programs");
-        assert!(self.by_number[0] >= LEAST_FINISHED, "too few finished");
+        self.planted.report("program");
+        self.memory.report("call");
+        let counts = &self.counts;
+        assert!(counts.distinct() >= LEAST_DISTINCT, "too few programs");
+        assert!(counts.with(0) >= LEAST_FINISHED, "too few finished");
         for (number, least) in LEAST_REFUSED {
-            let programs = self.by_number[usize::from(number)];
-            assert!(programs >= least, "too few refused with {number}");
+            assert!(
+                counts.with(number) >= least,
+                "too few refused with {number}"
+            );
         }
-        assert!(self.short >= 1_000, "too few short buffers");
+        assert!(self.calls_by_number[19] >= 1_000, "too few short buffers");
         self.seen.assert();
     }
-
-    fn report_planted(&self) {
-        let is_found = |planted: &&Planted| planted.found.len() >= LEAST_FOUND;
-        for planted in self.planted.iter().filter(is_found) {
-            let first = planted.found[0];
-            println!(
-                "planted fault ({}) found: first by program {first}",
-                planted.name
-            );
-        }
-        let all = self.planted.iter().chain(&self.memory);
-        for planted in all.filter(|planted| !is_found(planted)) {
-            let programs = planted.found.len();
-            println!(
-                "planted fault ({}) NOT found: {programs} programs",
-                planted.name
-            );
-        }
-        let in_memory = self.memory.iter().filter(is_found).count();
-        println!(
-            "planted faults in the use of memory found: {in_memory} of {}",
-            self.memory.len()
-        );
-        let found = in_memory + self.planted.iter().filter(is_found).count();
-        let all = self.planted.len() + self.memory.len();
-        println!("planted faults found: {found} of {all}");
-        assert_eq!(found, all, "a planted fault was not found");
-    }
 }
 
-fn none_found(faults: impl IntoIterator<Item = (String, Fault)>) -> Vec<Planted> {
-    let planted = faults.into_iter().map(|(name, fault)| Planted {
-        name,
-        fault,
-        found: Vec::new(),
-    });
-    planted.collect()
+/// 0, or the number of the refusal.
+fn number(answer: &Answer) -> u8 {
+    interface::number(pack(answer))
 }
 
-/// Those that too few programs have told apart.
-fn unfound(planted: &mut [Planted]) -> impl Iterator<Item = &mut Planted> {
-    planted
-        .iter_mut()
-        .filter(|planted| planted.found.len() < LEAST_FOUND)
+/// The run under test.
+fn under_test(lent: &mut Lent, limit: u32) -> u64 {
+    let (file, [out, working @ ..]) = lent.parts();
+    under_test::answer(file, limit, out, working)
+}
+
+/// Calls a run with buffers of these lengths on a program that has this
+/// answer. What differs, if anything.
+fn call(
+    lent: &mut Lent,
+    run: &dyn Fn(&mut Lent, u32) -> u64,
+    file: &[u8],
+    limit: u32,
+    lengths: &Lengths,
+    answer: &Answer,
+) -> Result<(), String> {
+    let short = is_short(lengths);
+    let answer = if short { &SHORT } else { answer };
+    let expected = Expected {
+        packed: pack(answer),
+        out: match answer {
+            Answer::Finished { listing, .. } => listing,
+            Answer::Refused(_) => &[],
+        },
+        cleared: !short,
+    };
+    lent.call(|lent| run(lent, limit), file, lengths, &expected)
 }
 
 /// What is run may panic: then there is no result.
@@ -362,8 +280,4 @@ fn quietly<T>(run: impl FnOnce() -> T) -> Option<T> {
     let result = panic::catch_unwind(AssertUnwindSafe(run)).ok();
     panic::set_hook(hook);
     result
-}
-
-fn hex(file: &[u8]) -> String {
-    file.iter().map(|byte| format!("{byte:02X}")).collect()
 }

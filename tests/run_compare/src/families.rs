@@ -1,19 +1,22 @@
 //! The programs that are compared, all from fixed seeds.
 
-use crate::compare::{Comparison, Known};
+use crate::compare::Comparison;
+use comparing::files::{
+    broken_file, bytes, entries, often_broken_file, room_for_faults, some_typed,
+};
+use comparing::Known;
 use program_files::entries::{MOST_TERMS, MOST_TYPES};
 use program_files::faults;
-use program_files::generate::{Generator, Shape};
-use program_files::{encode, kinds, Entries, Positions, Program, Random, Term, Type, Wire, GATES};
+use program_files::{encode, Positions, Program, Random, Term, Type, Wire, GATES};
 use programs::blocks::{self, blocks};
-use programs::broken::{broken, Expected, Spot, Way, WAYS};
+use programs::broken::{Way, WAYS};
 use programs::edit::map_leaves;
 use programs::extremes;
 use programs::rules::MOST_ENTRIES;
 use programs::terms::{
     abstraction, application, apply, boxed, gate, label, let_in, lift, pair, variable,
 };
-use programs::typed::{padded, typed, Goal, Plan, Typed, RULES};
+use programs::typed::{padded, Plan, Typed, RULES};
 use programs::types::{self, reusable, shuffle};
 use std::rc::Rc;
 
@@ -36,44 +39,11 @@ pub fn compare(comparison: &mut Comparison) {
     not_read(comparison);
 }
 
-/// The program's file, its types listed or not, shared or not.
-fn entries(random: &mut Random, program: &Program) -> Option<Entries> {
-    let unlisted = || Program {
-        listed: Vec::new(),
-        ..program.clone()
-    };
-    let entries = match random.below(4) {
-        0 => encode(&unlisted(), Positions::Fresh),
-        1 => encode(&unlisted(), Positions::First),
-        2 => encode(&unlisted(), Positions::Any(random)),
-        _ => None,
-    };
-    let entries = entries.or_else(|| encode(program, Positions::Any(random)));
-    entries.or_else(|| encode(&unlisted(), Positions::First))
-}
-
 /// A well-typed program; none if it has no file.
 fn well_typed(comparison: &mut Comparison, random: &mut Random, typed: &Typed) -> Option<()> {
     let entries = entries(random, &typed.program)?;
     comparison.program(&entries.bytes(), &Known::Type(typed.of.clone()));
     Some(())
-}
-
-/// A program of this plan, or of one that asks for less.
-fn some_typed(random: &mut Random, plan: &Plan) -> Typed {
-    let mut plan = plan.clone();
-    loop {
-        if let Some(typed) = typed(random, &plan) {
-            if entries(random, &typed.program).is_some() {
-                return typed;
-            }
-        }
-        plan.terms -= plan.terms / 8;
-        plan.types = 512;
-        if plan.goal != Goal::Wires {
-            plan.goal = Goal::Made;
-        }
-    }
 }
 
 /// So many programs of plans.
@@ -140,9 +110,8 @@ pub fn small(comparison: &mut Comparison) {
     });
     comparison.group("a linear use under a lift, small");
     for base in bases(&mut random, 30) {
-        if let Some((program, _)) = broken(&mut random, &base.program, Way::UseUnderLift) {
-            let entries = entries(&mut random, &program).expect("a file");
-            comparison.program(&entries.bytes(), &Known::Number(18));
+        if let Some((file, _)) = broken_file(&mut random, &base.program, Way::UseUnderLift) {
+            comparison.program(&file, &Known::Number(18));
         }
     }
 }
@@ -378,8 +347,7 @@ fn long(comparison: &mut Comparison) {
     comparison.group("with many steps");
     for doublings in 0..16 {
         let typed = extremes::calls(doublings);
-        let entries = encode(&typed.program, Positions::First).expect("sizes in range");
-        comparison.program(&entries.bytes(), &Known::Finished);
+        comparison.program(&bytes(&typed.program), &Known::Accepted);
     }
 }
 
@@ -392,18 +360,6 @@ fn no_wire_type(comparison: &mut Comparison) {
     planned(comparison, &mut random, 100, |random| {
         Plan::any(random, 64, 1_500)
     });
-}
-
-/// What is known of a well-typed program that was broken.
-fn known(expected: Expected, entries: &Entries) -> Known {
-    match expected {
-        Expected::Anything => Known::Nothing,
-        Expected::Number(number) => Known::Number(number),
-        Expected::Refused(number, Spot::Label(label)) => Known::Refused(number, label),
-        Expected::Refused(number, Spot::Node(node)) => {
-            Known::Refused(number, entries.sizes().first_term() + node)
-        }
-    }
 }
 
 /// Programs of a wire type, which one fault breaks or leaves as they are.
@@ -443,15 +399,10 @@ fn one_fault(comparison: &mut Comparison) {
             assert!(at < 60 * wanted, "too few programs: {name}");
             let base = &bases[at % bases.len()];
             at += 1;
-            let Some((program, expected)) = broken(&mut random, &base.program, way) else {
-                continue;
-            };
-            let Some(entries) = entries(&mut random, &program) else {
-                continue;
-            };
-            let known = known(expected, &entries);
-            comparison.program(&entries.bytes(), &known);
-            found += 1;
+            if let Some((file, known)) = broken_file(&mut random, &base.program, way) {
+                comparison.program(&file, &known);
+                found += 1;
+            }
         }
     }
 }
@@ -463,15 +414,8 @@ fn several_faults(comparison: &mut Comparison) {
     let ways = WAYS.iter().map(|&(way, _)| way);
     let ways: Vec<Way> = ways.filter(|&way| way != Way::TooLarge).collect();
     for base in bases(&mut random, 5_000) {
-        let mut program = base.program;
-        for _ in 0..random.between(2, 5) {
-            let way = random.pick(&ways);
-            if let Some((more, _)) = broken(&mut random, &program, way) {
-                program = more;
-            }
-        }
-        if let Some(entries) = entries(&mut random, &program) {
-            comparison.program(&entries.bytes(), &Known::Nothing);
+        if let Some(file) = often_broken_file(&mut random, base.program, &ways) {
+            comparison.program(&file, &Known::Nothing);
         }
     }
 }
@@ -512,19 +456,8 @@ fn not_read(comparison: &mut Comparison) {
 
 fn faulty(comparison: &mut Comparison, random: &mut Random, numbers: &[u8]) {
     loop {
-        let mut shape = Shape::any(random, 5, 20, 30);
-        shape.types = shape.types.max(3);
-        if random.one_in(2) {
-            shape.type_kinds = kinds::TYPES_WITH_PARTS.to_vec();
-            shape.term_kinds = kinds::TERMS_WITH_PARTS.to_vec();
-        }
-        let (_, entries) = Generator::entries(random, &shape);
-        if let Some(broken) = faults::broken(entries, numbers, random) {
-            let known = match broken.place {
-                Some(place) => Known::Refused(broken.number, place),
-                None => Known::Number(broken.number),
-            };
-            comparison.program(&broken.bytes, &known);
+        if let Some(broken) = faults::broken(room_for_faults(random), numbers, random) {
+            comparison.program(&broken.bytes, &Known::of_file(&broken));
             return;
         }
     }

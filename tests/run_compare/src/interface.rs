@@ -23,6 +23,9 @@ pub const WORKING: [(&str, usize); 12] = [
 /// The output buffer and the working memories.
 pub const BUFFERS: usize = 1 + WORKING.len();
 
+/// What is lent: a file, the output buffer and the working memories.
+pub type Lent = comparing::Lent<BUFFERS>;
+
 /// The lengths of the output buffer and of the working memories.
 pub type Lengths = [usize; BUFFERS];
 

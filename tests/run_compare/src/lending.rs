@@ -1,9 +1,10 @@
 //! Buffers of every length near the least, shorter and longer.
 
 use crate::compare::Comparison;
+use comparing::files::bytes;
 use program_files::faults;
 use program_files::generate::{Generator, Shape};
-use program_files::{encode, Positions, Program, Random};
+use program_files::Random;
 use programs::blocks::{self, blocks};
 use programs::broken::{broken, Way};
 use programs::extremes;
@@ -39,11 +40,6 @@ pub fn compare(comparison: &mut Comparison) {
         }
         comparison.lengths(&file, limit, &all);
     }
-}
-
-fn bytes(program: &Program) -> Vec<u8> {
-    let entries = encode(program, Positions::First);
-    entries.expect("sizes in range").bytes()
 }
 
 /// Files with each answer, and the limits with which they have it.

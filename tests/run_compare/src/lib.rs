@@ -1,6 +1,4 @@
-//! The run that is under test, the buffers that it is lent, and its answer.
+//! The run that is under test, what it is lent, and its answer.
 
-pub mod guarded;
 pub mod interface;
-pub mod lent;
 pub mod under_test;

@@ -1,11 +1,13 @@
 //! Programs that come to the sizes of a configuration: as many as fit, and a
 //! few fewer and more.
 
-use crate::compare::{Comparison, Known};
+use crate::compare::Comparison;
+use comparing::files::bytes;
+use comparing::Known;
 use evaluator::configurations::{MOST_BOXES, MOST_GATES, MOST_NODES};
 use evaluator::{terms, Configuration};
 use program_files::entries::MOST_TERMS;
-use program_files::{encode, Positions, Program, Term, Type, Wire};
+use program_files::{Program, Term, Type, Wire};
 use programs::extremes;
 use programs::terms::{
     abstraction, application, apply, boxed, force, gate, label, let_in, lift, pair, variable,
@@ -96,12 +98,11 @@ fn near(comparison: &mut Comparison, build: Build, numbers: usize, size: usize) 
             listed: Vec::new(),
             term,
         };
-        let entries = encode(&program, Positions::First).expect("sizes in range");
         let known = match wanted <= bound {
-            true => Known::Finished,
+            true => Known::Accepted,
             false => Known::Refused(22, 0),
         };
-        comparison.program(&entries.bytes(), &known);
+        comparison.program(&bytes(&program), &known);
     }
     found
 }

@@ -2,10 +2,10 @@
 //! memory. The comparison must find every one of them.
 
 use evaluator::Answer;
-use run_compare::interface::{is_short, name, number, pack, LEAST, SHORT};
-use run_compare::lent::Lent;
+use run_compare::interface::{is_short, name, number, pack, Lent, LEAST, SHORT};
 
-pub type Fault = Box<dyn Fn(&mut Lent) -> u64>;
+/// A run that is lent buffers, with its limit; its answer is one number.
+pub type Fault = Box<dyn Fn(&mut Lent, u32) -> u64>;
 
 pub fn faults() -> Vec<(String, Fault)> {
     let mut faults: Vec<(String, Fault)> = Vec::new();
@@ -26,8 +26,8 @@ pub fn faults() -> Vec<(String, Fault)> {
     add("memory left by the finish", left(|number| number == 0));
     add(
         "19 only where the file is read",
-        Box::new(|lent| {
-            let answer = answer(lent);
+        Box::new(|lent, limit| {
+            let answer = answer(lent, limit);
             match number(pack(&answer)) {
                 1..=9 => as_long(lent, &answer),
                 _ => as_lent(lent, &answer),
@@ -36,8 +36,8 @@ pub fn faults() -> Vec<(String, Fault)> {
     );
     add(
         "19 only where the program can be run",
-        Box::new(|lent| {
-            let answer = answer(lent);
+        Box::new(|lent, limit| {
+            let answer = answer(lent, limit);
             match number(pack(&answer)) {
                 1..=20 => as_long(lent, &answer),
                 _ => as_lent(lent, &answer),
@@ -48,7 +48,7 @@ pub fn faults() -> Vec<(String, Fault)> {
         "output buffer touched on a refusal",
         after(|lent, number| {
             if number > 0 && number != 19 {
-                lent.parts().1[0] ^= 1;
+                lent.parts().1[0][0] ^= 1;
             }
         }),
     );
@@ -56,18 +56,18 @@ pub fn faults() -> Vec<(String, Fault)> {
         "output buffer touched by 21",
         after(|lent, number| {
             if number == 21 {
-                lent.parts().1[11_077] ^= 1;
+                lent.parts().1[0][11_077] ^= 1;
             }
         }),
     );
     add(
         "output buffer cleared behind the listing",
-        Box::new(|lent| {
-            let answer = answer(lent);
+        Box::new(|lent, limit| {
+            let answer = answer(lent, limit);
             let packed = as_lent(lent, &answer);
             if let Answer::Finished { listing, .. } = &answer {
                 if number(packed) == 0 {
-                    lent.parts().1[listing.len()..].fill(0);
+                    lent.parts().1[0][listing.len()..].fill(0);
                 }
             }
             packed
@@ -75,12 +75,12 @@ pub fn faults() -> Vec<(String, Fault)> {
     );
     add(
         "last byte of the listing wrong",
-        Box::new(|lent| {
-            let answer = answer(lent);
+        Box::new(|lent, limit| {
+            let answer = answer(lent, limit);
             let packed = as_lent(lent, &answer);
             if let Answer::Finished { listing, .. } = &answer {
                 if number(packed) == 0 {
-                    lent.parts().1[listing.len() - 1] ^= 1;
+                    lent.parts().1[0][listing.len() - 1] ^= 1;
                 }
             }
             packed
@@ -107,11 +107,7 @@ pub fn faults() -> Vec<(String, Fault)> {
         );
         add(
             &format!("a byte beside {name} touched"),
-            after(move |lent, _| {
-                let (bytes, place) = lent.region(buffer);
-                let beside = place.start.checked_sub(1).unwrap_or(place.end);
-                bytes[beside] ^= 1;
-            }),
+            after(move |lent, _| lent.touch_beside(buffer)),
         );
         if buffer > 0 {
             add(
@@ -137,8 +133,8 @@ pub fn faults() -> Vec<(String, Fault)> {
     faults
 }
 
-fn answer(lent: &Lent) -> Answer {
-    evaluator::run(lent.file(), lent.limit())
+fn answer(lent: &Lent, limit: u32) -> Answer {
+    evaluator::run(lent.file(), limit)
 }
 
 /// The buffers as they should be after this answer, and the answer as one
@@ -152,7 +148,7 @@ pub fn as_lent(lent: &mut Lent, answer: &Answer) -> u64 {
 
 /// The same whatever the lengths.
 fn as_long(lent: &mut Lent, answer: &Answer) -> u64 {
-    let (_, out, working) = lent.parts();
+    let (_, [out, working @ ..]) = lent.parts();
     if let Answer::Finished { listing, .. } = answer {
         if let Some(start) = out.get_mut(..listing.len()) {
             start.copy_from_slice(listing);
@@ -166,14 +162,14 @@ fn as_long(lent: &mut Lent, answer: &Answer) -> u64 {
 
 /// Working memory is left after some answers.
 fn left(after: fn(u8) -> bool) -> Fault {
-    Box::new(move |lent| {
-        let answer = answer(lent);
+    Box::new(move |lent, limit| {
+        let answer = answer(lent, limit);
         if is_short(&lent.lengths()) {
             return pack(&SHORT);
         }
         if after(number(pack(&answer))) {
             if let Answer::Finished { listing, .. } = &answer {
-                lent.parts().1[..listing.len()].copy_from_slice(listing);
+                lent.parts().1[0][..listing.len()].copy_from_slice(listing);
             }
             return pack(&answer);
         }
@@ -183,8 +179,8 @@ fn left(after: fn(u8) -> bool) -> Fault {
 
 /// A buffer has another least length.
 fn with_least(buffer: usize, least: usize) -> Fault {
-    Box::new(move |lent| {
-        let answer = answer(lent);
+    Box::new(move |lent, limit| {
+        let answer = answer(lent, limit);
         let mut lengths = lent.lengths();
         let length = &mut lengths[buffer];
         *length = match *length >= least {
@@ -200,8 +196,8 @@ fn with_least(buffer: usize, least: usize) -> Fault {
 
 /// The run as it should be, and then something more.
 fn after(more: impl Fn(&mut Lent, u8) + 'static) -> Fault {
-    Box::new(move |lent| {
-        let answer = answer(lent);
+    Box::new(move |lent, limit| {
+        let answer = answer(lent, limit);
         let packed = as_lent(lent, &answer);
         more(lent, number(packed));
         packed

@@ -1,0 +1,19 @@
+//! What the comparisons have in common: what is known of a program, the
+//! programs written by hand and those broken, the buffers that are lent, what
+//! is counted, and the process and the stack on which all this is done.
+
+pub mod cases;
+pub mod counts;
+pub mod files;
+pub mod guarded;
+pub mod known;
+pub mod lent;
+pub mod one_kind;
+pub mod planted;
+pub mod process;
+pub mod stack;
+
+pub use counts::Counts;
+pub use known::Known;
+pub use lent::{Expected, Lent};
+pub use planted::Planted;
