@@ -44,7 +44,7 @@ pub struct Comparison {
 impl Comparison {
     pub fn new() -> Comparison {
         Comparison {
-            counts: Counts::new(),
+            counts: Counts::default(),
             lent: Lent::new(
                 1,
                 ["the output buffer", "the working memory"],

@@ -5,10 +5,11 @@ use std::collections::HashSet;
 use std::hash::{Hash, Hasher};
 use std::process::exit;
 
+#[derive(Default)]
 pub struct Counts {
     all: usize,
-    /// The name of the group, and how many programs it has.
-    group: (String, usize),
+    /// The groups by their names, and how many programs each has.
+    groups: Vec<(String, usize)>,
     /// Whether the group is one of generated programs, and the distinct ones of
     /// all such groups.
     generated: bool,
@@ -18,20 +19,9 @@ pub struct Counts {
 }
 
 impl Counts {
-    pub fn new() -> Counts {
-        Counts {
-            all: 0,
-            group: (String::new(), 0),
-            generated: false,
-            distinct: HashSet::new(),
-            by_number: [0; 32],
-        }
-    }
-
     /// The generated programs that follow are counted under this name.
     pub fn group(&mut self, name: &str) {
-        self.report_group();
-        self.group = (name.to_string(), 0);
+        self.groups.push((name.to_string(), 0));
         self.generated = true;
     }
 
@@ -60,7 +50,7 @@ impl Counts {
 
     pub fn count(&mut self, file: &[u8], number: u8) {
         self.all += 1;
-        self.group.1 += 1;
+        self.groups.last_mut().expect("a group").1 += 1;
         self.by_number[usize::from(number)] += 1;
         if self.generated {
             let mut hasher = DefaultHasher::new();
@@ -69,16 +59,21 @@ impl Counts {
         }
     }
 
-    fn report_group(&self) {
-        let (name, programs) = &self.group;
-        if *programs > 0 {
-            println!("{programs:>9} {name}");
+    /// Counts what was counted elsewhere, too.
+    pub fn add(&mut self, other: Counts) {
+        self.all += other.all;
+        self.groups.extend(other.groups);
+        self.distinct.extend(other.distinct);
+        for (programs, more) in self.by_number.iter_mut().zip(other.by_number) {
+            *programs += more;
         }
     }
 
-    /// Prints the last group, and all by their answers.
+    /// Prints the groups, and all programs by their answers.
     pub fn report(&self, accepted: &str, numbers: impl IntoIterator<Item = u8>) {
-        self.report_group();
+        for (name, programs) in &self.groups {
+            println!("{programs:>9} {name}");
+        }
         println!("{:>9} in all", self.all);
         println!("{:>9} distinct generated", self.distinct());
         println!("{:>9} {accepted}", self.with(0));

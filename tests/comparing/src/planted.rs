@@ -29,6 +29,13 @@ impl<T> Planted<T> {
         }
     }
 
+    pub fn none() -> Planted<T> {
+        Planted {
+            least: 0,
+            faults: Vec::new(),
+        }
+    }
+
     /// Tries those that too few have told apart; one number counts once.
     pub fn look(&mut self, number: usize, mut told_apart: impl FnMut(&T) -> bool) {
         for fault in &mut self.faults {

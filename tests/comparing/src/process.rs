@@ -3,7 +3,7 @@
 use crate::stack::{self, Call};
 use std::env;
 use std::process::{exit, Command};
-use std::thread;
+use std::thread::{self, JoinHandle};
 
 /// The argument by which the program calls itself to compare.
 const ARGUMENT: &str = "compare";
@@ -35,9 +35,11 @@ fn parent() -> ! {
 }
 
 fn child(compare: fn()) -> ! {
-    let thread = thread::Builder::new()
-        .stack_size(STACK)
-        .spawn(compare)
-        .expect("a thread");
-    exit(if thread.join().is_ok() { 0 } else { 1 });
+    exit(if thread(compare).join().is_ok() { 0 } else { 1 });
+}
+
+/// A thread with enough stack to compare.
+pub fn thread<T: Send + 'static>(compare: fn() -> T) -> JoinHandle<T> {
+    let thread = thread::Builder::new().stack_size(STACK);
+    thread.spawn(compare).expect("a thread")
 }

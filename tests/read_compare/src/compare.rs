@@ -23,7 +23,7 @@ pub struct Comparison {
 impl Comparison {
     pub fn new() -> Comparison {
         Comparison {
-            counts: Counts::new(),
+            counts: Counts::default(),
             lent: Lent::new(1, [], library::in_words),
             longest: 0,
             deepest_term: 0,

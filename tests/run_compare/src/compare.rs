@@ -1,8 +1,8 @@
 //! One program at a time to the run under test and to the evaluator; what has
 //! been seen is counted.
 
-use crate::memory::{self, as_lent, Fault};
-use crate::seen::{Run, Seen};
+use crate::memory::{self, Fault};
+use crate::seen::{add, Run, Seen};
 use crate::sound;
 use comparing::{Counts, Expected, Known, Planted};
 use evaluator::text::text;
@@ -11,6 +11,7 @@ use planted::PLANTED;
 use program_files::Random;
 use run_compare::interface::{self, is_short, pack, Lengths, Lent, LEAST, SHORT};
 use run_compare::under_test;
+use std::cell::Cell;
 use std::panic::{self, AssertUnwindSafe};
 
 /// The least number of distinct programs, and of programs for each answer.
@@ -41,49 +42,64 @@ const LEAST_FOUND: usize = 3;
 const MOST_STEPS: u32 = 1_000_000;
 
 pub struct Comparison {
-    counts: Counts,
+    pub counted: Counted,
     lent: Lent,
     random: Random,
+    /// Faults in the evaluation, and faults in the use of memory.
+    planted: Planted<planted::Run>,
+    memory: Planted<Fault>,
+}
+
+/// What has been compared.
+#[derive(Default)]
+pub struct Counted {
+    counts: Counts,
     calls: usize,
     calls_by_number: [usize; 23],
-    /// Faults in the evaluation, and faults in the use of memory.
-    planted: Planted<Fault>,
-    memory: Planted<Fault>,
     seen: Seen,
 }
 
-impl Comparison {
-    pub fn new() -> Comparison {
-        let planted = PLANTED.iter().map(|&(name, run)| {
-            let fault: Fault = Box::new(move |lent: &mut Lent, limit: u32| {
-                let answer = run(lent.file(), limit);
-                as_lent(lent, &answer)
-            });
-            (name, fault)
-        });
-        Comparison {
-            counts: Counts::new(),
-            lent: Lent::new(1, std::array::from_fn(interface::name), interface::in_words),
-            random: Random::new(2),
-            calls: 0,
-            calls_by_number: [0; 23],
-            planted: Planted::new(LEAST_FOUND, planted),
-            memory: Planted::new(LEAST_FOUND, memory::faults()),
-            seen: Seen::default(),
-        }
-    }
-
-    /// The programs that follow are counted under this name.
-    pub fn group(&mut self, name: &str) {
-        self.counts.group(name);
-    }
-
+impl Counted {
     pub fn programs(&self) -> usize {
         self.counts.all()
     }
 
     pub fn calls(&self) -> usize {
         self.calls
+    }
+
+    /// Counts what was compared elsewhere, too.
+    pub fn add(&mut self, other: Counted) {
+        self.counts.add(other.counts);
+        self.calls += other.calls;
+        add(&mut self.calls_by_number, &other.calls_by_number);
+        self.seen.add(&other.seen);
+    }
+}
+
+impl Comparison {
+    /// A comparison that looks for no planted fault.
+    pub fn new() -> Comparison {
+        Comparison {
+            counted: Counted::default(),
+            lent: Lent::new(1, std::array::from_fn(interface::name), interface::in_words),
+            random: Random::new(2),
+            planted: Planted::none(),
+            memory: Planted::none(),
+        }
+    }
+
+    pub fn with_planted_faults() -> Comparison {
+        Comparison {
+            planted: Planted::new(LEAST_FOUND, PLANTED),
+            memory: Planted::new(LEAST_FOUND, memory::faults()),
+            ..Comparison::new()
+        }
+    }
+
+    /// The programs that follow are counted under this name.
+    pub fn group(&mut self, name: &str) {
+        self.counted.counts.group(name);
     }
 
     /// Compares the run under test with the evaluator and with what is known:
@@ -125,8 +141,9 @@ impl Comparison {
         for lengths in lengths {
             self.call_with(file, limit, lengths, &answer);
             let lent = &mut self.lent;
-            self.memory.look(self.calls, |fault| {
-                call(lent, fault, file, limit, lengths, &answer).is_err()
+            self.memory.look(self.counted.calls, |fault| {
+                let run = |lent: &mut Lent| fault(lent, &answer);
+                call(lent, run, file, lengths, &answer).is_err()
             });
         }
     }
@@ -151,7 +168,7 @@ impl Comparison {
         let answer = prepared.run_seen(MOST_STEPS, &mut |now| run.look(now));
         let steps = run.steps();
         assert!(steps < MOST_STEPS, "a run without end");
-        self.seen.count(&run, &answer);
+        self.counted.seen.count(&run, &answer);
         if let Answer::Finished { listing, .. } = &answer {
             if let Err(words) = sound::check(listing, prepared) {
                 self.differs(file, MOST_STEPS, &words);
@@ -170,15 +187,17 @@ impl Comparison {
             };
         }
         self.call_with(file, limit, &lengths, answer);
-        let lent = &mut self.lent;
-        self.planted.look(self.counts.all(), |fault| {
-            let compared = quietly(|| call(lent, fault, file, limit, &LEAST, answer));
-            !matches!(compared, Some(Ok(())))
+        self.planted.look(self.counted.programs(), |run| {
+            quietly(|| run(file, limit)).as_ref() != Some(answer)
         });
     }
 
     fn call_with(&mut self, file: &[u8], limit: u32, lengths: &Lengths, answer: &Answer) {
-        if let Err(words) = call(&mut self.lent, &under_test, file, limit, lengths, answer) {
+        let run = |lent: &mut Lent| {
+            let (file, [out, working @ ..]) = lent.parts();
+            under_test::answer(file, limit, out, working)
+        };
+        if let Err(words) = call(&mut self.lent, run, file, lengths, answer) {
             let words = format!("buffers of {lengths:?} bytes: {words}");
             self.differs(file, limit, &words);
         }
@@ -186,13 +205,13 @@ impl Comparison {
             true => 19,
             false => number(answer),
         };
-        self.calls_by_number[usize::from(number)] += 1;
-        self.calls += 1;
+        self.counted.calls_by_number[usize::from(number)] += 1;
+        self.counted.calls += 1;
     }
 
     fn differs(&self, file: &[u8], limit: u32, words: &str) -> ! {
         let words = format!("limit {limit}: {words}");
-        self.counts.differs(file, &words);
+        self.counted.counts.differs(file, &words);
     }
 
     fn count(&mut self, file: &[u8], answer: &Answer, known: &Known) {
@@ -209,23 +228,28 @@ impl Comparison {
             let words = format!("known {known:?}, expected {answer:?}");
             self.differs(file, MOST_STEPS, &words);
         }
-        self.counts.count(file, number);
+        self.counted.counts.count(file, number);
     }
 
     /// Prints the counts, and fails if too little has been seen.
     pub fn report(&self) {
+        let Counted {
+            counts,
+            calls,
+            calls_by_number,
+            seen,
+        } = &self.counted;
         let numbers = LEAST_REFUSED.iter().map(|&(number, _)| number);
-        self.counts.report("finished", numbers);
-        println!("{:>9} calls", self.calls);
-        println!("{:>9} of them finished", self.calls_by_number[0]);
+        counts.report("finished", numbers);
+        println!("{calls:>9} calls");
+        println!("{:>9} of them finished", calls_by_number[0]);
         for number in [19, 21, 22] {
-            let calls = self.calls_by_number[number];
+            let calls = calls_by_number[number];
             println!("{calls:>9} of them refused with {number}");
         }
-        self.seen.report();
+        seen.report();
         self.planted.report("program");
         self.memory.report("call");
-        let counts = &self.counts;
         assert!(counts.distinct() >= LEAST_DISTINCT, "too few programs");
         assert!(counts.with(0) >= LEAST_FINISHED, "too few finished");
         for (number, least) in LEAST_REFUSED {
@@ -234,8 +258,8 @@ impl Comparison {
                 "too few refused with {number}"
             );
         }
-        assert!(self.calls_by_number[19] >= 1_000, "too few short buffers");
-        self.seen.assert();
+        assert!(calls_by_number[19] >= 1_000, "too few short buffers");
+        seen.assert();
     }
 }
 
@@ -244,19 +268,12 @@ fn number(answer: &Answer) -> u8 {
     interface::number(pack(answer))
 }
 
-/// The run under test.
-fn under_test(lent: &mut Lent, limit: u32) -> u64 {
-    let (file, [out, working @ ..]) = lent.parts();
-    under_test::answer(file, limit, out, working)
-}
-
 /// Calls a run with buffers of these lengths on a program that has this
 /// answer. What differs, if anything.
 fn call(
     lent: &mut Lent,
-    run: &dyn Fn(&mut Lent, u32) -> u64,
+    run: impl FnOnce(&mut Lent) -> u64,
     file: &[u8],
-    limit: u32,
     lengths: &Lengths,
     answer: &Answer,
 ) -> Result<(), String> {
@@ -270,14 +287,28 @@ fn call(
         },
         cleared: !short,
     };
-    lent.call(|lent| run(lent, limit), file, lengths, &expected)
+    lent.call(run, file, lengths, &expected)
+}
+
+thread_local! {
+    /// Whether a panic of this thread prints nothing.
+    static QUIET: Cell<bool> = const { Cell::new(false) };
+}
+
+/// Panics of what is run quietly print nothing.
+pub fn set_panic_hook() {
+    let hook = panic::take_hook();
+    panic::set_hook(Box::new(move |panic| {
+        if !QUIET.get() {
+            hook(panic);
+        }
+    }));
 }
 
 /// What is run may panic: then there is no result.
 fn quietly<T>(run: impl FnOnce() -> T) -> Option<T> {
-    let hook = panic::take_hook();
-    panic::set_hook(Box::new(|_| {}));
+    QUIET.set(true);
     let result = panic::catch_unwind(AssertUnwindSafe(run)).ok();
-    panic::set_hook(hook);
+    QUIET.set(false);
     result
 }

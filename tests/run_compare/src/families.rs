@@ -20,12 +20,19 @@ use programs::typed::{padded, Plan, Typed, RULES};
 use programs::types::{self, reusable, shuffle};
 use std::rc::Rc;
 
-pub fn compare(comparison: &mut Comparison) {
-    circuits_in_blocks(comparison);
+/// Programs that any of the typing rules may have made, and broken files.
+pub fn of_all_rules(comparison: &mut Comparison) {
     any_rules(comparison);
     one_rule(comparison);
     nested_boxes(comparison);
     copies(comparison);
+    no_wire_type(comparison);
+    not_read(comparison);
+}
+
+/// Programs that are built to have one form.
+pub fn of_one_form(comparison: &mut Comparison) {
+    circuits_in_blocks(comparison);
     bound_gates(comparison);
     many_boxes(comparison);
     wide_boxes(comparison);
@@ -33,10 +40,8 @@ pub fn compare(comparison: &mut Comparison) {
     large(comparison);
     extreme(comparison);
     long(comparison);
-    no_wire_type(comparison);
     one_fault(comparison);
     several_faults(comparison);
-    not_read(comparison);
 }
 
 /// A well-typed program; none if it has no file.

@@ -13,6 +13,7 @@ use programs::terms::{
     abstraction, application, apply, boxed, force, gate, label, let_in, lift, pair, variable,
 };
 use programs::types::{circuit, function, reusable};
+use std::collections::HashMap;
 use std::rc::Rc;
 
 pub fn compare(comparison: &mut Comparison) {
@@ -63,23 +64,26 @@ fn most_of(term: &Rc<Term>, size: usize) -> Option<usize> {
 }
 
 /// The program for the largest number that has, with a padding, exactly so
-/// much of a size; none if there is none in a file.
-fn exactly(build: Build, numbers: usize, size: usize, wanted: usize) -> Option<Rc<Term>> {
-    let fits = |number: usize| most_of(&build(number, 0), size).is_some_and(|most| most <= wanted);
+/// much of a size; none if there is none in a file. `unpadded` is the most of
+/// that size by the number.
+fn exactly(
+    build: Build,
+    unpadded: &mut dyn FnMut(usize) -> Option<usize>,
+    numbers: usize,
+    size: usize,
+    wanted: usize,
+) -> Option<Rc<Term>> {
     let (mut least, mut exceeds) = (0, numbers + 1);
     while exceeds - least > 1 {
         let number = least + (exceeds - least) / 2;
-        match fits(number) {
+        match unpadded(number).is_some_and(|most| most <= wanted) {
             true => least = number,
             false => exceeds = number,
         }
     }
     let tries = (least.saturating_sub(6).max(1)..=least).rev();
     tries
-        .filter_map(|number| {
-            let padding = wanted - most_of(&build(number, 0), size)?;
-            Some(build(number, padding))
-        })
+        .filter_map(|number| Some(build(number, wanted - unpadded(number)?)))
         .find(|term| most_of(term, size) == Some(wanted))
 }
 
@@ -88,8 +92,13 @@ fn exactly(build: Build, numbers: usize, size: usize, wanted: usize) -> Option<R
 fn near(comparison: &mut Comparison, build: Build, numbers: usize, size: usize) -> usize {
     let mut found = 0;
     let bound = BOUNDS[size];
+    let mut seen: HashMap<usize, Option<usize>> = HashMap::new();
+    let mut unpadded = |number: usize| {
+        let most = seen.entry(number);
+        *most.or_insert_with(|| most_of(&build(number, 0), size))
+    };
     for wanted in bound - 2..=bound + 2 {
-        let Some(term) = exactly(build, numbers, size, wanted) else {
+        let Some(term) = exactly(build, &mut unpadded, numbers, size, wanted) else {
             continue;
         };
         found += 1;

@@ -18,20 +18,28 @@ fn main() {
     process::run(compare_all, stack::call);
 }
 
+/// Two threads compare; the first one looks for the planted faults.
 fn compare_all() {
     println!("run under test: {NAME}");
-    let mut comparison = Comparison::new();
+    compare::set_panic_hook();
+    let second = process::thread(|| {
+        let mut comparison = Comparison::new();
+        families::of_one_form(&mut comparison);
+        comparison.counted
+    });
+    let mut comparison = Comparison::with_planted_faults();
     by_hand::compare(&mut comparison);
-    // Those that tell the planted faults apart stand first.
     families::small(&mut comparison);
     limits::compare(&mut comparison);
-    families::compare(&mut comparison);
     lending::compare(&mut comparison);
+    families::of_all_rules(&mut comparison);
+    let counted = second.join().expect("the second thread's counts");
+    comparison.counted.add(counted);
     comparison.report();
     stack::measure();
     println!(
         "run_compare: {} programs, {} calls, 0 differences",
-        comparison.programs(),
-        comparison.calls()
+        comparison.counted.programs(),
+        comparison.counted.calls()
     );
 }

@@ -4,8 +4,9 @@
 use evaluator::Answer;
 use run_compare::interface::{is_short, name, number, pack, Lent, LEAST, SHORT};
 
-/// A run that is lent buffers, with its limit; its answer is one number.
-pub type Fault = Box<dyn Fn(&mut Lent, u32) -> u64>;
+/// A run that is lent buffers, on a program that has this answer; its answer is
+/// one number.
+pub type Fault = Box<dyn Fn(&mut Lent, &Answer) -> u64>;
 
 pub fn faults() -> Vec<(String, Fault)> {
     let mut faults: Vec<(String, Fault)> = Vec::new();
@@ -26,22 +27,16 @@ pub fn faults() -> Vec<(String, Fault)> {
     add("memory left by the finish", left(|number| number == 0));
     add(
         "19 only where the file is read",
-        Box::new(|lent, limit| {
-            let answer = answer(lent, limit);
-            match number(pack(&answer)) {
-                1..=9 => as_long(lent, &answer),
-                _ => as_lent(lent, &answer),
-            }
+        Box::new(|lent, answer| match number(pack(answer)) {
+            1..=9 => as_long(lent, answer),
+            _ => as_lent(lent, answer),
         }),
     );
     add(
         "19 only where the program can be run",
-        Box::new(|lent, limit| {
-            let answer = answer(lent, limit);
-            match number(pack(&answer)) {
-                1..=20 => as_long(lent, &answer),
-                _ => as_lent(lent, &answer),
-            }
+        Box::new(|lent, answer| match number(pack(answer)) {
+            1..=20 => as_long(lent, answer),
+            _ => as_lent(lent, answer),
         }),
     );
     add(
@@ -62,10 +57,9 @@ pub fn faults() -> Vec<(String, Fault)> {
     );
     add(
         "output buffer cleared behind the listing",
-        Box::new(|lent, limit| {
-            let answer = answer(lent, limit);
-            let packed = as_lent(lent, &answer);
-            if let Answer::Finished { listing, .. } = &answer {
+        Box::new(|lent, answer| {
+            let packed = as_lent(lent, answer);
+            if let Answer::Finished { listing, .. } = answer {
                 if number(packed) == 0 {
                     lent.parts().1[0][listing.len()..].fill(0);
                 }
@@ -75,10 +69,9 @@ pub fn faults() -> Vec<(String, Fault)> {
     );
     add(
         "last byte of the listing wrong",
-        Box::new(|lent, limit| {
-            let answer = answer(lent, limit);
-            let packed = as_lent(lent, &answer);
-            if let Answer::Finished { listing, .. } = &answer {
+        Box::new(|lent, answer| {
+            let packed = as_lent(lent, answer);
+            if let Answer::Finished { listing, .. } = answer {
                 if number(packed) == 0 {
                     lent.parts().1[0][listing.len() - 1] ^= 1;
                 }
@@ -133,13 +126,9 @@ pub fn faults() -> Vec<(String, Fault)> {
     faults
 }
 
-fn answer(lent: &Lent, limit: u32) -> Answer {
-    evaluator::run(lent.file(), limit)
-}
-
 /// The buffers as they should be after this answer, and the answer as one
 /// number.
-pub fn as_lent(lent: &mut Lent, answer: &Answer) -> u64 {
+fn as_lent(lent: &mut Lent, answer: &Answer) -> u64 {
     match is_short(&lent.lengths()) {
         true => pack(&SHORT),
         false => as_long(lent, answer),
@@ -162,25 +151,23 @@ fn as_long(lent: &mut Lent, answer: &Answer) -> u64 {
 
 /// Working memory is left after some answers.
 fn left(after: fn(u8) -> bool) -> Fault {
-    Box::new(move |lent, limit| {
-        let answer = answer(lent, limit);
+    Box::new(move |lent, answer| {
         if is_short(&lent.lengths()) {
             return pack(&SHORT);
         }
-        if after(number(pack(&answer))) {
-            if let Answer::Finished { listing, .. } = &answer {
+        if after(number(pack(answer))) {
+            if let Answer::Finished { listing, .. } = answer {
                 lent.parts().1[0][..listing.len()].copy_from_slice(listing);
             }
-            return pack(&answer);
+            return pack(answer);
         }
-        as_lent(lent, &answer)
+        as_lent(lent, answer)
     })
 }
 
 /// A buffer has another least length.
 fn with_least(buffer: usize, least: usize) -> Fault {
-    Box::new(move |lent, limit| {
-        let answer = answer(lent, limit);
+    Box::new(move |lent, answer| {
         let mut lengths = lent.lengths();
         let length = &mut lengths[buffer];
         *length = match *length >= least {
@@ -189,16 +176,15 @@ fn with_least(buffer: usize, least: usize) -> Fault {
         };
         match is_short(&lengths) {
             true => pack(&SHORT),
-            false => as_long(lent, &answer),
+            false => as_long(lent, answer),
         }
     })
 }
 
 /// The run as it should be, and then something more.
 fn after(more: impl Fn(&mut Lent, u8) + 'static) -> Fault {
-    Box::new(move |lent, limit| {
-        let answer = answer(lent, limit);
-        let packed = as_lent(lent, &answer);
+    Box::new(move |lent, answer| {
+        let packed = as_lent(lent, answer);
         more(lent, number(packed));
         packed
     })

@@ -161,6 +161,23 @@ impl Seen {
         }
     }
 
+    /// Counts what was seen elsewhere, too.
+    pub fn add(&mut self, other: &Seen) {
+        add(&mut self.steps, &other.steps);
+        self.most_steps = self.most_steps.max(other.most_steps);
+        for (most, size) in self.most.iter_mut().zip(other.most) {
+            *most = (*most).max(size);
+        }
+        add(&mut self.at_most, &other.at_most);
+        add(&mut self.open, &other.open);
+        self.twice += other.twice;
+        self.in_frames += other.in_frames;
+        self.passing += other.passing;
+        self.crossing += other.crossing;
+        add(&mut self.uses, &other.uses);
+        add(&mut self.gates, &other.gates);
+    }
+
     pub fn report(&self) {
         for (name, steps) in STEPS.iter().zip(self.steps) {
             println!("{steps:>9} steps: {name}");
@@ -214,7 +231,7 @@ impl Seen {
     }
 }
 
-fn add<const N: usize>(to: &mut [usize; N], more: &[usize; N]) {
+pub fn add<const N: usize>(to: &mut [usize; N], more: &[usize; N]) {
     for (count, more) in to.iter_mut().zip(more) {
         *count += more;
     }
