@@ -1,5 +1,4 @@
 pub mod Parts
-pub mod LengthLaws
 pub mod Finish
 pub mod Core
 pub mod Whole

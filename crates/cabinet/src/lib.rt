@@ -2,7 +2,6 @@
 pub mod check;
 pub mod core;
 pub mod finish;
-pub mod lent;
 pub mod read;
 
 use crate::core::run_checked;

@@ -13,8 +13,8 @@ use Rattle.cabinet.proofs.run.Tie as tie
 use Rattle.cabinet.proofs.run.Reads as reads
 use Rattle.cabinet.proofs.run.Lts as lts
 use Rattle.cabinet.proofs.core.run_checked.Reads as run-checked-reads
-use Rattle.cabinet.proofs.lent.clear_all.Reads as clear-all-reads
-use Rattle.cabinet.proofs.lent.too_short.Reads as too-short-reads
+use Rattle.lent.proofs.clear_all.Reads as clear-all-reads
+use Rattle.lent.proofs.too_short.Reads as too-short-reads
 
 -- src/lib.rt:61:8
 too-short-requires : tie.Need-too-short-requires

@@ -8,7 +8,7 @@ use Rattle.nodes.specs.Nodes.{nodesIn, length-nodesIn}
 use Rattle.walking.specs.Rows.{rowsIn as stackRowsIn, length-rowsIn as length-stack}
 use Rattle.circuits.specs.Layout.{rowsIn, fourResults}
 use Rattle.configuration.specs.Memory.{memory}
-use Rattle.cabinet.specs.LengthLaws.{long-enough}
+use Rattle.lent.specs.LengthLaws.{long-enough}
 use Rattle.cabinet.specs.Whole.{roomy-lent, ended-run}
 use borrow.Author.Needs.{needs}
 use Rattle.cabinet.proofs.core.run_accepted.Statement.{statement}

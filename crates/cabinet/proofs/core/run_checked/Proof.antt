@@ -6,7 +6,7 @@ use lib.ListN.{length}
 use Rattle.memory.specs.Words.{words}
 use Rattle.cells.specs.Rules.{SaysIsWireType}
 use Rattle.answers.specs.Lengths.{tooShort}
-use Rattle.cabinet.specs.LengthLaws.{long-enough}
+use Rattle.lent.specs.LengthLaws.{long-enough}
 use Rattle.cabinet.specs.Parts.{handedOn, Says}
 use Rattle.cabinet.specs.Core.{core-says, core-refused, core-typed, core-no-wires}
 use borrow.Author.Needs.{needs}

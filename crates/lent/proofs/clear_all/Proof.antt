@@ -1,108 +1,108 @@
--- `cabinet::lent::clear_all` meets its contract. Assumes nothing.
+-- `lent::clear_all` meets its contract. Assumes nothing.
 use borrow.Author.Needs.{needs}
-use Rattle.cabinet.proofs.lent.clear_all.Statement.{statement}
-use Rattle.cabinet.proofs.lent.clear_all.Tie as tie
-use Rattle.cabinet.proofs.lent.clear_all.Reads as reads
-use Rattle.cabinet.proofs.lent.clear_all.Lts as lts
+use Rattle.lent.proofs.clear_all.Statement.{statement}
+use Rattle.lent.proofs.clear_all.Tie as tie
+use Rattle.lent.proofs.clear_all.Reads as reads
+use Rattle.lent.proofs.clear_all.Lts as lts
 use Rattle.memory.proofs.clear.Reads as clear-reads
 
--- src/lent.rt:117:5
+-- src/lib.rt:117:5
 clear-requires : tie.Need-clear-requires
 clear-requires c κs = search needs
 
--- src/lent.rt:118:5
+-- src/lib.rt:118:5
 clear-requires-2 : tie.Need-clear-requires-2
 clear-requires-2 c κs = search needs
 
--- src/lent.rt:119:5
+-- src/lib.rt:119:5
 clear-requires-3 : tie.Need-clear-requires-3
 clear-requires-3 c κs = search needs
 
--- src/lent.rt:120:5
+-- src/lib.rt:120:5
 clear-requires-4 : tie.Need-clear-requires-4
 clear-requires-4 c κs = search needs
 
--- src/lent.rt:121:5
+-- src/lib.rt:121:5
 clear-requires-5 : tie.Need-clear-requires-5
 clear-requires-5 c κs = search needs
 
--- src/lent.rt:122:5
+-- src/lib.rt:122:5
 clear-requires-6 : tie.Need-clear-requires-6
 clear-requires-6 c κs = search needs
 
--- src/lent.rt:123:5
+-- src/lib.rt:123:5
 clear-requires-7 : tie.Need-clear-requires-7
 clear-requires-7 c κs = search needs
 
--- src/lent.rt:124:5
+-- src/lib.rt:124:5
 clear-requires-8 : tie.Need-clear-requires-8
 clear-requires-8 c κs = search needs
 
--- src/lent.rt:125:5
+-- src/lib.rt:125:5
 clear-requires-9 : tie.Need-clear-requires-9
 clear-requires-9 c κs = search needs
 
--- src/lent.rt:126:5
+-- src/lib.rt:126:5
 clear-requires-10 : tie.Need-clear-requires-10
 clear-requires-10 c κs = search needs
 
--- src/lent.rt:127:5
+-- src/lib.rt:127:5
 clear-requires-11 : tie.Need-clear-requires-11
 clear-requires-11 c κs = search needs
 
--- src/lent.rt:128:5
+-- src/lib.rt:128:5
 clear-requires-12 : tie.Need-clear-requires-12
 clear-requires-12 c κs = search needs
 
--- src/lent.rt:90:1
+-- src/lib.rt:90:1
 same-length : tie.Need-same-length
 same-length c = search needs
 
--- src/lent.rt:90:1
+-- src/lib.rt:90:1
 same-length-2 : tie.Need-same-length-2
 same-length-2 c = search needs
 
--- src/lent.rt:90:1
+-- src/lib.rt:90:1
 same-length-3 : tie.Need-same-length-3
 same-length-3 c = search needs
 
--- src/lent.rt:90:1
+-- src/lib.rt:90:1
 same-length-4 : tie.Need-same-length-4
 same-length-4 c = search needs
 
--- src/lent.rt:90:1
+-- src/lib.rt:90:1
 same-length-5 : tie.Need-same-length-5
 same-length-5 c = search needs
 
--- src/lent.rt:90:1
+-- src/lib.rt:90:1
 same-length-6 : tie.Need-same-length-6
 same-length-6 c = search needs
 
--- src/lent.rt:90:1
+-- src/lib.rt:90:1
 same-length-7 : tie.Need-same-length-7
 same-length-7 c = search needs
 
--- src/lent.rt:90:1
+-- src/lib.rt:90:1
 same-length-8 : tie.Need-same-length-8
 same-length-8 c = search needs
 
--- src/lent.rt:90:1
+-- src/lib.rt:90:1
 same-length-9 : tie.Need-same-length-9
 same-length-9 c = search needs
 
--- src/lent.rt:90:1
+-- src/lib.rt:90:1
 same-length-10 : tie.Need-same-length-10
 same-length-10 c = search needs
 
--- src/lent.rt:90:1
+-- src/lib.rt:90:1
 same-length-11 : tie.Need-same-length-11
 same-length-11 c = search needs
 
--- src/lent.rt:90:1
+-- src/lib.rt:90:1
 same-length-12 : tie.Need-same-length-12
 same-length-12 c = search needs
 
--- src/lent.rt:90:1
+-- src/lib.rt:90:1
 returns : tie.Need-returns
 returns c = (c .before .before .before .before .before .before .before .before .before .before .before .before .before .before .before .before .before .before .before .before .before .before .before .before .before .before .before .before .before .before .before .before .before .before .before .before .before .before .before .before .before .before .before .before .before .before .clear .ensures, (c .before .before .before .before .before .before .before .before .before .before .before .before .before .before .before .before .before .before .before .before .before .before .before .before .before .before .before .before .before .before .before .before .before .before .before .before .before .before .before .before .before .before .clear2 .ensures, (c .before .before .before .before .before .before .before .before .before .before .before .before .before .before .before .before .before .before .before .before .before .before .before .before .before .before .before .before .before .before .before .before .before .before .before .before .before .before .clear3 .ensures, (c .before .before .before .before .before .before .before .before .before .before .before .before .before .before .before .before .before .before .before .before .before .before .before .before .before .before .before .before .before .before .before .before .before .before .clear4 .ensures, (c .before .before .before .before .before .before .before .before .before .before .before .before .before .before .before .before .before .before .before .before .before .before .before .before .before .before .before .before .before .before .clear5 .ensures, (c .before .before .before .before .before .before .before .before .before .before .before .before .before .before .before .before .before .before .before .before .before .before .before .before .before .before .clear6 .ensures, (c .before .before .before .before .before .before .before .before .before .before .before .before .before .before .before .before .before .before .before .before .before .before .clear7 .ensures, (c .before .before .before .before .before .before .before .before .before .before .before .before .before .before .before .before .before .before .clear8 .ensures, (c .before .before .before .before .before .before .before .before .before .before .before .before .before .before .clear9 .ensures, (c .before .before .before .before .before .before .before .before .before .before .clear10 .ensures, (c .before .before .before .before .before .before .clear11 .ensures, c .before .before .clear12 .ensures)))))))))))
 

@@ -1,13 +1,13 @@
--- `cabinet::lent::too_short` meets its contract: each test in turn. Assumes nothing.
+-- `lent::too_short` meets its contract: each test in turn. Assumes nothing.
 use mathlib.Core.Path.{sym, _∙_}
 use mathlib.Core.List.{[], _∷_}
-use Rattle.cabinet.specs.LengthLaws.{below-here, below-later}
-use Rattle.cabinet.proofs.lent.too_short.Statement.{statement}
-use Rattle.cabinet.proofs.lent.too_short.Tie as tie
-use Rattle.cabinet.proofs.lent.too_short.Reads as reads
-use Rattle.cabinet.proofs.lent.too_short.Lts as lts
+use Rattle.lent.specs.LengthLaws.{below-here, below-later}
+use Rattle.lent.proofs.too_short.Statement.{statement}
+use Rattle.lent.proofs.too_short.Tie as tie
+use Rattle.lent.proofs.too_short.Reads as reads
+use Rattle.lent.proofs.too_short.Lts as lts
 
--- src/lent.rt:48:9
+-- src/lib.rt:48:9
 returns : tie.Need-returns
 returns c =
     let s = c .before .args in
@@ -15,7 +15,7 @@ returns c =
     below-here 11078 (s .out) (65536 ∷ 32768 ∷ 8194 ∷ 1024 ∷ 1152 ∷ 32776 ∷ 32768 ∷ 2048 ∷ 65536 ∷ 65536 ∷ 65536 ∷ 65536 ∷ []) (s .nodes ∷ s .stack ∷ s .waiting ∷ s .labels ∷ s .types ∷ s .frames ∷ s .gates ∷ s .closed ∷ s .first ∷ s .second ∷ s .third ∷ s .fourth ∷ []) (c .if1 .taken)
     )
 
--- src/lent.rt:51:9
+-- src/lib.rt:51:9
 returns-2 : tie.Need-returns-2
 returns-2 c =
     let s = c .before .before .args in
@@ -24,7 +24,7 @@ returns-2 c =
     ∙ below-here 65536 (s .nodes) (32768 ∷ 8194 ∷ 1024 ∷ 1152 ∷ 32776 ∷ 32768 ∷ 2048 ∷ 65536 ∷ 65536 ∷ 65536 ∷ 65536 ∷ []) (s .stack ∷ s .waiting ∷ s .labels ∷ s .types ∷ s .frames ∷ s .gates ∷ s .closed ∷ s .first ∷ s .second ∷ s .third ∷ s .fourth ∷ []) (c .if2 .taken)
     )
 
--- src/lent.rt:54:9
+-- src/lib.rt:54:9
 returns-3 : tie.Need-returns-3
 returns-3 c =
     let s = c .before .before .before .args in
@@ -34,7 +34,7 @@ returns-3 c =
     ∙ below-here 32768 (s .stack) (8194 ∷ 1024 ∷ 1152 ∷ 32776 ∷ 32768 ∷ 2048 ∷ 65536 ∷ 65536 ∷ 65536 ∷ 65536 ∷ []) (s .waiting ∷ s .labels ∷ s .types ∷ s .frames ∷ s .gates ∷ s .closed ∷ s .first ∷ s .second ∷ s .third ∷ s .fourth ∷ []) (c .if3 .taken)
     )
 
--- src/lent.rt:57:9
+-- src/lib.rt:57:9
 returns-4 : tie.Need-returns-4
 returns-4 c =
     let s = c .before .before .before .before .args in
@@ -45,7 +45,7 @@ returns-4 c =
     ∙ below-here 8194 (s .waiting) (1024 ∷ 1152 ∷ 32776 ∷ 32768 ∷ 2048 ∷ 65536 ∷ 65536 ∷ 65536 ∷ 65536 ∷ []) (s .labels ∷ s .types ∷ s .frames ∷ s .gates ∷ s .closed ∷ s .first ∷ s .second ∷ s .third ∷ s .fourth ∷ []) (c .if4 .taken)
     )
 
--- src/lent.rt:60:9
+-- src/lib.rt:60:9
 returns-5 : tie.Need-returns-5
 returns-5 c =
     let s = c .before .before .before .before .before .args in
@@ -57,7 +57,7 @@ returns-5 c =
     ∙ below-here 1024 (s .labels) (1152 ∷ 32776 ∷ 32768 ∷ 2048 ∷ 65536 ∷ 65536 ∷ 65536 ∷ 65536 ∷ []) (s .types ∷ s .frames ∷ s .gates ∷ s .closed ∷ s .first ∷ s .second ∷ s .third ∷ s .fourth ∷ []) (c .if5 .taken)
     )
 
--- src/lent.rt:63:9
+-- src/lib.rt:63:9
 returns-6 : tie.Need-returns-6
 returns-6 c =
     let s = c .before .before .before .before .before .before .args in
@@ -70,7 +70,7 @@ returns-6 c =
     ∙ below-here 1152 (s .types) (32776 ∷ 32768 ∷ 2048 ∷ 65536 ∷ 65536 ∷ 65536 ∷ 65536 ∷ []) (s .frames ∷ s .gates ∷ s .closed ∷ s .first ∷ s .second ∷ s .third ∷ s .fourth ∷ []) (c .if6 .taken)
     )
 
--- src/lent.rt:66:9
+-- src/lib.rt:66:9
 returns-7 : tie.Need-returns-7
 returns-7 c =
     let s = c .before .before .before .before .before .before .before .args in
@@ -84,7 +84,7 @@ returns-7 c =
     ∙ below-here 32776 (s .frames) (32768 ∷ 2048 ∷ 65536 ∷ 65536 ∷ 65536 ∷ 65536 ∷ []) (s .gates ∷ s .closed ∷ s .first ∷ s .second ∷ s .third ∷ s .fourth ∷ []) (c .if7 .taken)
     )
 
--- src/lent.rt:69:9
+-- src/lib.rt:69:9
 returns-8 : tie.Need-returns-8
 returns-8 c =
     let s = c .before .before .before .before .before .before .before .before .args in
@@ -99,7 +99,7 @@ returns-8 c =
     ∙ below-here 32768 (s .gates) (2048 ∷ 65536 ∷ 65536 ∷ 65536 ∷ 65536 ∷ []) (s .closed ∷ s .first ∷ s .second ∷ s .third ∷ s .fourth ∷ []) (c .if8 .taken)
     )
 
--- src/lent.rt:72:9
+-- src/lib.rt:72:9
 returns-9 : tie.Need-returns-9
 returns-9 c =
     let s = c .before .before .before .before .before .before .before .before .before .args in
@@ -115,7 +115,7 @@ returns-9 c =
     ∙ below-here 2048 (s .closed) (65536 ∷ 65536 ∷ 65536 ∷ 65536 ∷ []) (s .first ∷ s .second ∷ s .third ∷ s .fourth ∷ []) (c .if9 .taken)
     )
 
--- src/lent.rt:75:9
+-- src/lib.rt:75:9
 returns-10 : tie.Need-returns-10
 returns-10 c =
     let s = c .before .before .before .before .before .before .before .before .before .before .args in
@@ -132,7 +132,7 @@ returns-10 c =
     ∙ below-here 65536 (s .first) (65536 ∷ 65536 ∷ 65536 ∷ []) (s .second ∷ s .third ∷ s .fourth ∷ []) (c .if10 .taken)
     )
 
--- src/lent.rt:78:9
+-- src/lib.rt:78:9
 returns-11 : tie.Need-returns-11
 returns-11 c =
     let s = c .before .before .before .before .before .before .before .before .before .before .before .args in
@@ -150,7 +150,7 @@ returns-11 c =
     ∙ below-here 65536 (s .second) (65536 ∷ 65536 ∷ []) (s .third ∷ s .fourth ∷ []) (c .if11 .taken)
     )
 
--- src/lent.rt:81:9
+-- src/lib.rt:81:9
 returns-12 : tie.Need-returns-12
 returns-12 c =
     let s = c .before .before .before .before .before .before .before .before .before .before .before .before .args in
@@ -169,7 +169,7 @@ returns-12 c =
     ∙ below-here 65536 (s .third) (65536 ∷ []) (s .fourth ∷ []) (c .if12 .taken)
     )
 
--- src/lent.rt:84:9
+-- src/lib.rt:84:9
 returns-13 : tie.Need-returns-13
 returns-13 c =
     let s = c .before .before .before .before .before .before .before .before .before .before .before .before .before .args in
@@ -189,7 +189,7 @@ returns-13 c =
     ∙ below-here 65536 (s .fourth) [] [] (c .if13 .taken)
     )
 
--- src/lent.rt:30:1
+-- src/lib.rt:30:1
 returns-14 : tie.Need-returns-14
 returns-14 c =
     let s = c .before .before .before .before .before .before .before .before .before .before .before .before .before .args in
