@@ -7,16 +7,12 @@ use machine::advance;
 use program::Refusal;
 use typing::Core;
 use typing::check_core;
-ghost use Prim.Native.Nat.{ℕ};
 ghost use mathlib.Core.Path.{_≡_};
-ghost use mathlib.Core.Bool.{true, false};
+ghost use mathlib.Core.Bool.{false};
 ghost use mathlib.Core.List.{[], _∷_};
 ghost use lib.ListN.{length};
-ghost use Rattle.rules.specs.Types.{Ty, isWireType};
-ghost use Rattle.typing.specs.Answers.{accepts, checkOf};
 ghost use Rattle.answers.specs.Lengths.{tooShort};
-ghost use Rattle.cabinet.specs.Parts.{Says};
-ghost use Rattle.cabinet.specs.Parts.{handedOn};
+ghost use Rattle.cabinet.specs.Parts.{handedOn, Says};
 
 // 01: "at most 2,048 gates".
 const MOST_GATES: usize = 2048;
@@ -34,49 +30,7 @@ fn handed_on(core: Core) -> RunAnswer
     }
 }
 
-// The steps of a file that is accepted with a wire type.
-pub fn run_accepted(
-    file: &[u8],
-    limit: usize,
-    out: &mut [u8],
-    nodes: &mut [u8],
-    stack: &mut [u8],
-    waiting: &mut [u8],
-    labels: &mut [u8],
-    types: &mut [u8],
-    frames: &mut [u8],
-    gates: &mut [u8],
-    closed: &mut [u8],
-    first: &mut [u8],
-    second: &mut [u8],
-    third: &mut [u8],
-    fourth: &mut [u8],
-) -> RunAnswer
-    ensures { λ r. ⌜ (tooShort (length (now (out .entry)) ∷ length (now (nodes .entry)) ∷ length (now (stack .entry)) ∷ length (now (waiting .entry)) ∷ length (now (labels .entry)) ∷ length (now (types .entry)) ∷ length (now (frames .entry)) ∷ length (now (gates .entry)) ∷ length (now (closed .entry)) ∷ length (now (first .entry)) ∷ length (now (second .entry)) ∷ length (now (third .entry)) ∷ length (now (fourth .entry)) ∷ []) ≡ false → (A : Ty) → checkOf (now (file .entry)) ≡ accepts A → isWireType A ≡ true
-        → Says (now (file .entry)) limit (now (out .entry)) (now (out .exit)) r) ⌝ }
-{
-    let registers = load(file, nodes, types, frames);
-    let advanced = advance(
-        limit,
-        MOST_GATES,
-        registers,
-        nodes,
-        stack,
-        waiting,
-        labels,
-        types,
-        frames,
-        gates,
-        closed,
-        first,
-        second,
-        third,
-        fourth,
-    );
-    finish(advanced, types, gates, nodes, frames, out)
-}
-
-// The check, then the steps.
+// The check; of a file that is accepted with a wire type the steps, and the answer.
 pub fn run_checked(
     file: &[u8],
     limit: usize,
@@ -101,10 +55,11 @@ pub fn run_checked(
         return handed_on(core);
     };
     if is_wire_type(nodes, cell) {
-        return run_accepted(
-            file,
+        let registers = load(file, nodes, types, frames);
+        let advanced = advance(
             limit,
-            out,
+            MOST_GATES,
+            registers,
             nodes,
             stack,
             waiting,
@@ -118,6 +73,7 @@ pub fn run_checked(
             third,
             fourth,
         );
+        return finish(advanced, types, gates, nodes, frames, out);
     }
     RunAnswer::Refused(Refusal::Run {
         number: 20,
