@@ -1,8 +1,8 @@
 // The step at a stop of the walk.
 use applying::constant::apply_constant;
 use applying::gate::apply_gate;
-use boxing::closing::close_box;
-use boxing::opening::open_box;
+use box_entry::open_box;
+use box_exit::close_box;
 use configuration::Registers;
 use configuration::Stepped;
 use nodes::kind_at;

@@ -7,8 +7,8 @@ use Rattle.machine.proofs.step.step.Statement.{statement}
 use Rattle.machine.proofs.step.step.Tie as tie
 use Rattle.machine.proofs.step.step.Reads as reads
 use Rattle.machine.proofs.step.step.Lts as lts
-use Rattle.boxing.proofs.closing.close_box.Reads as close-box-reads
-use Rattle.boxing.proofs.opening.open_box.Reads as open-box-reads
+use Rattle.box_exit.proofs.close_box.Reads as close-box-reads
+use Rattle.box_entry.proofs.open_box.Reads as open-box-reads
 use Rattle.reduction.proofs.application.Reads as application-reads
 use Rattle.reduction.proofs.force.Reads as force-reads
 use Rattle.reduction.proofs.let_in.Reads as let-in-reads

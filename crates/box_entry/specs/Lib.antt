@@ -1,0 +1,3 @@
+pub mod Opening
+pub mod Laws
+pub mod Stepping

@@ -1,5 +1,0 @@
-pub mod Opening
-pub mod OpeningLaws
-pub mod OpeningSteps
-pub mod Closing
-pub mod ClosingLaws
