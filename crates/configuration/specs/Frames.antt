@@ -1,21 +1,27 @@
--- The rows of the frames: which writes keep them, and how many there are.
-use Prim.Native.Nat.{_≤_}
+-- The rows of the frames: which writes keep them, what they are where the innermost circuit becomes another, as apply of a
+-- gate or of a closed circuit leaves it, and how many there are.
+use Prim.Native.Nat.{ℕ, _+_, _*_, _≤_, _<_}
 use native.Mathlib.Omega.{arith}
-use mathlib.Core.Path.{_≡_, _∙_}
+use mathlib.Core.Path.{_≡_, _∙_, ap, ap₂}
 use mathlib.Core.List.{List, [], _∷_}
-use lib.ListN.{length, length-append}
-use Rattle.rules.specs.Circuits.{Circuit}
-use Rattle.rules.specs.Sizes.{most-nodes}
+use lib.ListN.{length, set, length-append}
+use lib.Seq.{getD-set-same, getD-set-other}
+use Rattle.rules.specs.Types.{Wire}
+use Rattle.rules.specs.Terms.{Gate}
+use Rattle.rules.specs.Circuits.{Circuit, circuit, wireCount}
+use Rattle.rules.specs.Sizes.{most-nodes, most-gates}
 use Rattle.evaluation.specs.Trees.{Node, Tree, preorder}
 use Rattle.evaluation.specs.Holes.{Hole, only, first, second, opened, before, openBoxes}
 use Rattle.evaluation.specs.Walks.{returning}
+use Rattle.evaluation.specs.States.{openGates}
 use Rattle.walking.specs.Rows.{Row as StackRow}
 use Rattle.walking.specs.Places.{Holds}
 use Rattle.walking.specs.Laws.{holes-few}
 use Rattle.walking.specs.declared.Place.{Place}
-use Rattle.circuits.specs.Layout.{Row}
+use Rattle.circuits.specs.Layout.{Row, row, rowAt, rowWord, gate-slots}
 use Rattle.circuits.specs.Held.{SameBelow}
-use Rattle.configuration.specs.Memory.{HoldsFrames}
+use Rattle.circuits.specs.Typed.{few-wires}
+use Rattle.configuration.specs.Memory.{frameRow, inputs, most-inputs, HoldsFrames}
 
 -- Frames stay where the rows below their number do.
 pub frames-kept : (fs fs′ : List Row) (Cs : List Circuit)
@@ -28,6 +34,51 @@ frames-kept fs fs′ (C ∷ Cs) same held = (
   held .1,
   frames-kept fs fs′ Cs (λ i h. same i (omega arith)) (held .2),
 )
+
+-- Any circuit may take the innermost one's place, its row being put; the frames below have lower rows.
+pub frames-top-set : (fs fs′ : List Row) (C C′ : Circuit) (Cs : List Circuit)
+    → HoldsFrames fs (C ∷ Cs)
+    → length Cs < length fs
+    → fs′ ≡ set fs (length Cs) (frameRow C′ Cs)
+    → inputs C′ ≤ most-inputs
+    → HoldsFrames fs′ (C′ ∷ Cs)
+frames-top-set fs fs′ C C′ Cs held inside put few = (
+  ap (λ l. rowAt l (length Cs)) put
+      ∙ getD-set-same fs (length Cs) (frameRow C′ Cs) (row 0 0 0 0) inside,
+  few,
+  frames-kept fs fs′ Cs
+      (λ i h.
+      ap (λ l. rowAt l i) put
+      ∙ getD-set-other fs (length Cs) i (frameRow C′ Cs) (row 0 0 0 0) (λ e. omega arith))
+      (held .2),
+)
+
+-- The innermost circuit has grown: of its row only the number of wires changes.
+pub frames-grown : (fs fs′ : List Row) (I : List Wire) (hs hs′ : List Gate) (Cs : List Circuit) (next : ℕ)
+    → HoldsFrames fs (circuit I hs ∷ Cs)
+    → length Cs < length fs
+    → next ≡ wireCount (circuit I hs′)
+    → fs′
+    ≡ set fs (length Cs) (row (rowWord (rowAt fs (length Cs)) 0) next (rowWord (rowAt fs (length Cs)) 2) 0)
+    → HoldsFrames fs′ (circuit I hs′ ∷ Cs)
+frames-grown fs fs′ I hs hs′ Cs next held inside e put =
+    frames-top-set fs fs′ (circuit I hs) (circuit I hs′) Cs held inside
+    (put
+    ∙ ap₂ (λ r j. set fs (length Cs) (row (rowWord r 0) j (rowWord r 2) 0)) (held .0) e)
+    (held .1)
+
+-- The row of the innermost frame has the number of the next wire.
+pub next-held : (fs : List Row) (I : List Wire) (hs : List Gate) (Cs : List Circuit)
+    → HoldsFrames fs (circuit I hs ∷ Cs)
+    → rowWord (rowAt fs (length Cs)) 1 ≡ wireCount (circuit I hs)
+next-held fs I hs Cs held = ap (λ r. rowWord r 1) (held .0)
+
+-- A circuit that is held has few wires.
+pub wires-few : (fs : List Row) (I : List Wire) (hs : List Gate) (Cs : List Circuit)
+    → HoldsFrames fs (circuit I hs ∷ Cs)
+    → openGates (circuit I hs ∷ Cs) ≤ most-gates
+    → wireCount (circuit I hs) ≤ most-inputs + gate-slots * most-gates
+wires-few fs I hs Cs held few = omega (arith, few-wires I hs, held .1)
 
 -- There are no more open boxes than holes.
 pub boxes-few : (hs : List Hole) → openBoxes hs ≤ length hs

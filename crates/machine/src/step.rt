@@ -1,6 +1,6 @@
 // The step at a stop of the walk.
-use applying::constant::apply_constant;
-use applying::gate::apply_gate;
+use apply_of_constant::apply_constant;
+use apply_of_gate::apply_gate;
 use box_entry::open_box;
 use box_exit::close_box;
 use configuration::Registers;

@@ -7,10 +7,10 @@ use mathlib.Core.List.{List, [], _∷_, _++_, append-assoc, append-nil}
 use lib.ListN.{length, set, take, drop, length-append, length-set, length-drop}
 use lib.Seq.{take-take, take-at, drop-drop, drop-at}
 use Rattle.rules.specs.Sizes.{most-nodes}
-use Rattle.evaluation.specs.Trees.{Node, Tree, leaf, preorder, WellKinded}
+use Rattle.evaluation.specs.Trees.{Node, kind, Tree, leaf, preorder, WellKinded, an-apply, twoKind}
 use Rattle.evaluation.specs.Holes.{Hole, only, first, second, opened, nodesBefore, before, after}
 use Rattle.evaluation.specs.Walks.{Walk, evaluating, returning, turnsLeft, walk, WalkFits, Stopped as StoppedAt}
-use Rattle.evaluation.specs.Walks.{left as walkedNodes, right as nodesToWalk}
+use Rattle.evaluation.specs.Walks.{left as walkedNodes, right as nodesToWalk, at-apply, stopped-apply}
 use Rattle.evaluation.specs.Theorems.Walking.{turns-fit, turn-stopped}
 use Rattle.nodes.specs.Nodes.{nodeAt, no-node}
 use Rattle.nodes.specs.Regions.{over, take-over, written, drop-over, length-over, Stands, stands-first, stands-within}
@@ -30,6 +30,12 @@ pub walked-stopped : (positions closed : ℕ) (ns : List Node) (rs : List Row) (
     → StoppedAt (walk w) (stopOf (r .stop))
 walked-stopped positions closed ns rs w r f h =
     turn-stopped positions closed (walk w) (stopOf (r .stop)) (turns-fit positions closed (turnsLeft w) w f) (h .stop-is)
+
+-- The walk stops at apply only at a node of that kind whose two parts are values.
+pub apply-kind : {n : Node} {f v : Tree} {hs : List Hole}
+    → StoppedAt (returning v (second n f ∷ hs)) at-apply
+    → twoKind (kind n) ≡ an-apply
+apply-kind (stopped-apply e) = e
 
 -- The nodes of all frames are those of the two parts of the buffer.
 pub node-count : (ns : List Node) (rs : List Row) (p : Place) (w : Walk)

@@ -11,8 +11,8 @@ use Rattle.machine.proofs.step.apply.Statement.{statement}
 use Rattle.machine.proofs.step.apply.Tie as tie
 use Rattle.machine.proofs.step.apply.Reads as reads
 use Rattle.machine.proofs.step.apply.Lts as lts
-use Rattle.applying.proofs.constant.apply_constant.Reads as apply-constant-reads
-use Rattle.applying.proofs.gate.apply_gate.Reads as apply-gate-reads
+use Rattle.apply_of_constant.proofs.apply_constant.Reads as apply-constant-reads
+use Rattle.apply_of_gate.proofs.apply_gate.Reads as apply-gate-reads
 use Rattle.nodes.proofs.kind_at.Reads as kind-at-reads
 use Rattle.walking.proofs.rows.row_node.Reads as row-node-reads
 

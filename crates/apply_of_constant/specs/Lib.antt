@@ -1,0 +1,4 @@
+pub mod Redexes
+pub mod Tests
+pub mod Stepping
+pub mod Outcomes

@@ -1,0 +1,3 @@
+pub mod Applying
+pub mod Tests
+pub mod Stepping
