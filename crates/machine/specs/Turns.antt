@@ -5,7 +5,7 @@ use mathlib.Core.Path.{_≡_, refl, sym, _∙_, ap, subst}
 use mathlib.Core.Logic.{_⊎_, inl, inr}
 use mathlib.Core.Bool.{Bool, true, false, _&&_}
 use mathlib.Core.List.{List, _∷_}
-use mathlib.Core.Option.{Option, none, some, Option·map, Option·none-ne-some}
+use mathlib.Core.Option.{Option, none, some, Option·map}
 use lib.Dec.{leb}
 use lib.ListN.{length}
 use borrow.Author.Tests.{le-leb, leb-true, leb-false}
@@ -16,11 +16,10 @@ use Rattle.rules.specs.Demand3.{ProgramHas}
 use Rattle.rules.specs.Next.{next}
 use Rattle.rules.specs.Runs.{fits, at-finish, still-running, does-not-fit, ended, lastTurn, turnTo, oneTurn, advanced}
 use Rattle.rules.specs.Theorems.Safety.{preservation}
-use Rattle.evaluation.specs.Walks.{Walk, walk, turnsLeft, Stop, Stopped, at-application, at-let, at-force, at-box}
-use Rattle.evaluation.specs.Walks.{at-apply, at-exit, at-end, at-variable}
-use Rattle.evaluation.specs.Walks.{stopped-end, stopped-variable, stopped-apply, holes}
+use Rattle.evaluation.specs.Walks.{walk, turnsLeft, Stop, Stopped, at-application, at-let, at-force, at-box}
+use Rattle.evaluation.specs.Walks.{at-apply, at-exit, at-end, at-variable, stopped-end}
 use Rattle.evaluation.specs.States.{State, state, decode, walkState, contract, StateFits}
-use Rattle.evaluation.specs.Theorems.Forms.{Contracts, contract-form, form-contract}
+use Rattle.evaluation.specs.Theorems.Forms.{contract-form}
 use Rattle.evaluation.specs.Theorems.Walking.{turns-keep, nodes-kept, stopped-turn}
 use Rattle.evaluation.specs.Theorems.Keeping.{contract-fits}
 use Rattle.evaluation.specs.Theorems.Counting.{total-nodes, total-gates}
@@ -315,32 +314,6 @@ module _ (types : ℕ → Ty) (positions : ℕ) (A : Ty) (allowance k n : ℕ) (
               ∙ rest;
           at-the-end = tt;
         }
-
--- There is no step at the end, and none at a variable.
-pub end-no-step : {B : Type 0} (types : ℕ → Ty) (s s′ : State)
-    → Stopped (walkOf s) at-end
-    → Contracts types s s′
-    → B
-end-no-step types (state w C Cs K) s′ stopped-end k =
-    absurd (Option·none-ne-some s′ (form-contract types (state w C Cs K) s′ k))
-
-pub variable-no-step : {B : Type 0} (types : ℕ → Ty) (s s′ : State)
-    → Stopped (walkOf s) at-variable
-    → Contracts types s s′
-    → B
-variable-no-step types (state w C Cs K) s′ (stopped-variable e) k =
-    absurd (Option·none-ne-some s′ (form-contract types (state w C Cs K) s′ k))
-
--- At an apply there is an opened node.
-apply-holes : (w : Walk) → Stopped w at-apply → 0 < length (holes w)
-apply-holes w (stopped-apply h) = omega arith
-
-pub apply-deep : {types : ℕ → Ty} {positions : ℕ} {A : Ty} {m : Memory} {r : Registers} {s : State}
-    → AtStop types positions A m r s at-apply
-    → r .place .depth ≡ 0
-    → ⊥
-apply-deep {r = r} {s = state w C Cs K} stands e =
-    omega (arith, stands .held .walk-held .stacked .deep, apply-holes w (stands .stopped))
 
 ends-apart : _≡_ {A = Bool} false true → ⊥
 ends-apart e = let z : _≡_ {A = ℕ} 0 1 = cc in omega arith

@@ -1,11 +1,9 @@
-// The circuit-building machine on a configuration in lent memory: the step at a stop of the walk, and steps one after another.
+// The circuit-building machine on a configuration in lent memory: one turn, and steps one after another.
 // The public functions have no `requires`: their contracts speak of every typed configuration that the memory holds. In any
 // other memory they end too, with an answer that says nothing.
-pub mod step;
-
 use configuration::Registers;
 use configuration::Stepped;
-use step::step;
+use steps::step;
 use walking::Stop;
 use walking::walk;
 ghost use Prim.Native.Nat.{ℕ, _≤_, _<_};

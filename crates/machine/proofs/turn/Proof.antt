@@ -16,7 +16,7 @@ use Rattle.machine.proofs.turn.Tie as tie
 use Rattle.machine.proofs.turn.Reads as reads
 use Rattle.machine.proofs.turn.Lts as lts
 use Rattle.machine.proofs.is_end.Reads as is-end-reads
-use Rattle.machine.proofs.step.step.Reads as step-reads
+use Rattle.steps.proofs.step.Reads as step-reads
 use Rattle.walking.proofs.walk.Reads as walk-reads
 
 -- src/lib.rt:94:9

@@ -1,67 +1,67 @@
--- `machine::step::apply` meets its contract: that of the one of the two which the applied node says. Assumes nothing.
+-- `steps::apply` meets its contract: that of the one of the two which the applied node says. Assumes nothing.
 use Prim.Native.Nat.{_+_}
 use mathlib.Core.Path.{sym, _∙_, ap}
 use Rattle.memory.specs.Words.{words}
 use Rattle.evaluation.specs.Trees.{kind}
 use Rattle.nodes.specs.Nodes.{nodesIn, nodeAt}
 use Rattle.circuits.specs.Layout.{rowsIn, fourResults}
-use Rattle.machine.specs.Turns.{apply-deep}
+use Rattle.steps.specs.Stops.{apply-deep}
 use borrow.Author.Needs.{needs}
-use Rattle.machine.proofs.step.apply.Statement.{statement}
-use Rattle.machine.proofs.step.apply.Tie as tie
-use Rattle.machine.proofs.step.apply.Reads as reads
-use Rattle.machine.proofs.step.apply.Lts as lts
+use Rattle.steps.proofs.apply.Statement.{statement}
+use Rattle.steps.proofs.apply.Tie as tie
+use Rattle.steps.proofs.apply.Reads as reads
+use Rattle.steps.proofs.apply.Lts as lts
 use Rattle.apply_of_constant.proofs.apply_constant.Reads as apply-constant-reads
 use Rattle.apply_of_gate.proofs.apply_gate.Reads as apply-gate-reads
 use Rattle.nodes.proofs.kind_at.Reads as kind-at-reads
 use Rattle.walking.proofs.rows.row_node.Reads as row-node-reads
 
--- src/step.rt:55:9
+-- src/lib.rt:55:9
 returns : tie.Need-returns
 returns c = λ room ws types positions A s s′ few stands sizes k.
     absurd (apply-deep stands (c .if1 .taken))
 
--- src/step.rt:57:30
+-- src/lib.rt:57:30
 sub-row-node : tie.Need-sub-row-node
 sub-row-node c = search needs
 
--- src/step.rt:57:9
+-- src/lib.rt:57:9
 row-node-requires : tie.Need-row-node-requires
 row-node-requires c κs = search needs
 
--- src/step.rt:58:23
+-- src/lib.rt:58:23
 add-kind-at : tie.Need-add-kind-at
 add-kind-at c = search needs
 
--- src/step.rt:58:8
+-- src/lib.rt:58:8
 kind-at-requires : tie.Need-kind-at-requires
 kind-at-requires c κs = search needs
 
--- src/step.rt:59:9
+-- src/lib.rt:59:9
 apply-gate-requires : tie.Need-apply-gate-requires
 apply-gate-requires c κs = search needs
 
--- src/step.rt:61:9
+-- src/lib.rt:61:9
 apply-constant-requires : tie.Need-apply-constant-requires
 apply-constant-requires c κs = search needs
 
--- src/step.rt:31:1
+-- src/lib.rt:31:1
 same-length : tie.Need-same-length
 same-length c = search needs
 
--- src/step.rt:31:1
+-- src/lib.rt:31:1
 same-length-2 : tie.Need-same-length-2
 same-length-2 c = search needs
 
--- src/step.rt:31:1
+-- src/lib.rt:31:1
 same-length-3 : tie.Need-same-length-3
 same-length-3 c = search needs
 
--- src/step.rt:31:1
+-- src/lib.rt:31:1
 same-length-4 : tie.Need-same-length-4
 same-length-4 c = search needs
 
--- src/step.rt:31:1
+-- src/lib.rt:31:1
 returns-2 : tie.Need-returns-2
 returns-2 c = λ room ws.
     let s = c .before .before .before .before .before .before .before .before .before .before .before .before .before .before .before .before .before .before .before .before .before .before .before .before .before .before .before .before .before .args in
@@ -72,23 +72,23 @@ returns-2 c = λ room ws.
     ∙ sym (c .before .before .before .before .before .before .before .before .before .before .before .before .before .before .kind-at .ensures .0)
     ∙ c .before .before .before .before .before .before .before .before .before .before .before .before .before .if2 .taken)
 
--- src/step.rt:31:1
+-- src/lib.rt:31:1
 same-length-5 : tie.Need-same-length-5
 same-length-5 c = search needs
 
--- src/step.rt:31:1
+-- src/lib.rt:31:1
 same-length-6 : tie.Need-same-length-6
 same-length-6 c = search needs
 
--- src/step.rt:31:1
+-- src/lib.rt:31:1
 same-length-7 : tie.Need-same-length-7
 same-length-7 c = search needs
 
--- src/step.rt:31:1
+-- src/lib.rt:31:1
 same-length-8 : tie.Need-same-length-8
 same-length-8 c = search needs
 
--- src/step.rt:31:1
+-- src/lib.rt:31:1
 returns-3 : tie.Need-returns-3
 returns-3 c = λ room ws.
     let s = c .before .before .before .before .before .before .before .before .before .before .before .before .before .before .before .before .before .before .before .before .before .before .before .before .before .before .before .before .before .args in

@@ -1,4 +1,4 @@
-// The step at a stop of the walk.
+// The step at a stop of the walk, on a configuration in lent memory.
 use apply_of_constant::apply_constant;
 use apply_of_gate::apply_gate;
 use box_entry::open_box;
