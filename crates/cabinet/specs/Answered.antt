@@ -9,7 +9,7 @@ use Rattle.answers.specs.declared.RunAnswer.{RunAnswer}
 use Rattle.answers.specs.declared.RunAnswer.the-variants.{Refused}
 use Rattle.answers.specs.Lengths.{tooShort}
 use Rattle.answers.specs.Answers.{runOf, answerTo, outTo, runAnswer, runOut, runWork}
-use Rattle.cabinet.specs.Parts.{Says}
+use Rattle.running.specs.Parts.{Says}
 
 module _ (lengths : List ℕ) (short : tooShort lengths ≡ true) where
   pub short-answer : (f : List ℕ) (limit : ℕ) → Refused (Run 19 0) ≡ runAnswer f limit lengths

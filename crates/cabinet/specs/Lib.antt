@@ -1,5 +1,1 @@
-pub mod Parts
-pub mod Finish
-pub mod Core
-pub mod Whole
 pub mod Answered

@@ -1,15 +1,13 @@
 // The run (01, "When each operation says no", Run).
 pub mod check;
-pub mod core;
-pub mod finish;
 pub mod read;
 
-use crate::core::run_checked;
 use answers::RunAnswer;
 use answers::packed::pack;
 use lent::clear_all;
 use lent::too_short;
 use program::Refusal;
+use running::run_checked;
 ghost use mathlib.Core.Path.{_≡_};
 ghost use mathlib.Core.List.{[], _∷_};
 ghost use lib.ListN.{length};

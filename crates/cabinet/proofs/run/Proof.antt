@@ -12,7 +12,7 @@ use Rattle.cabinet.proofs.run.Statement.{statement}
 use Rattle.cabinet.proofs.run.Tie as tie
 use Rattle.cabinet.proofs.run.Reads as reads
 use Rattle.cabinet.proofs.run.Lts as lts
-use Rattle.cabinet.proofs.core.run_checked.Reads as run-checked-reads
+use Rattle.running.proofs.run_checked.Reads as run-checked-reads
 use Rattle.lent.proofs.clear_all.Reads as clear-all-reads
 use Rattle.lent.proofs.too_short.Reads as too-short-reads
 

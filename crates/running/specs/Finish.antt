@@ -43,7 +43,7 @@ use Rattle.listing.specs.Lengths.{listing-fits, kinds-fit}
 use Rattle.answers.specs.declared.RunAnswer.{RunAnswer}
 use Rattle.answers.specs.declared.RunAnswer.the-variants.{Finished, Refused}
 use Rattle.answers.specs.Answers.{Ran, ran, declines, ranTo, ranAs, runOf, listed, listedAs, answerTo, outTo}
-use Rattle.cabinet.specs.Parts.{Ended, Says, Writes}
+use Rattle.running.specs.Parts.{Ended, Says, Writes}
 use Rattle.answers.specs.Theorems.Finishing.{FinishedRun, finished-facts, finish-listed}
 
 pub says-ran : (f : List ℕ) (limit : ℕ) (out out′ : List ℕ) (r : RunAnswer) (x : Ran)

@@ -1,4 +1,4 @@
--- `cabinet::core::run_checked` meets its contract: the check, then loading, the steps and the answer. Assumes nothing.
+-- `running::run_checked` meets its contract: the check, then loading, the steps and the answer. Assumes nothing.
 use native.Mathlib.Omega.{arith}
 use mathlib.Core.Path.{refl, sym, _∙_, ap, subst}
 use mathlib.Core.Bool.{true}
@@ -13,16 +13,16 @@ use Rattle.circuits.specs.Layout.{rowsIn, fourResults}
 use Rattle.configuration.specs.Memory.{memory}
 use Rattle.answers.specs.Lengths.{tooShort}
 use Rattle.lent.specs.LengthLaws.{long-enough}
-use Rattle.cabinet.specs.Whole.{roomy-lent, ended-run}
-use Rattle.cabinet.specs.Parts.{handedOn, Says}
-use Rattle.cabinet.specs.Core.{core-says, core-refused, core-typed, core-no-wires}
+use Rattle.running.specs.Whole.{roomy-lent, ended-run}
+use Rattle.running.specs.Parts.{handedOn, Says}
+use Rattle.running.specs.Core.{core-says, core-refused, core-typed, core-no-wires}
 use borrow.Author.Needs.{needs}
-use Rattle.cabinet.proofs.finish.finish.Reads as finish-reads
-use Rattle.cabinet.proofs.core.run_checked.Statement.{statement}
-use Rattle.cabinet.proofs.core.run_checked.Tie as tie
-use Rattle.cabinet.proofs.core.run_checked.Reads as reads
-use Rattle.cabinet.proofs.core.run_checked.Lts as lts
-use Rattle.cabinet.proofs.core.handed_on.Reads as handed-on-reads
+use Rattle.running.proofs.finish.finish.Reads as finish-reads
+use Rattle.running.proofs.run_checked.Statement.{statement}
+use Rattle.running.proofs.run_checked.Tie as tie
+use Rattle.running.proofs.run_checked.Reads as reads
+use Rattle.running.proofs.run_checked.Lts as lts
+use Rattle.running.proofs.handed_on.Reads as handed-on-reads
 use Rattle.loading.proofs.load.Reads as load-reads
 use Rattle.machine.proofs.advance.Reads as advance-reads
 use Rattle.cells.proofs.is_wire_type.Reads as is-wire-type-reads

@@ -15,7 +15,7 @@ ghost use Rattle.walking.specs.Rows.{Row as StackRow};
 ghost use Rattle.circuits.specs.Layout.{Row, rowsIn};
 ghost use Rattle.configuration.specs.Memory.{memory};
 ghost use Rattle.listing.specs.Listing.{most-bytes};
-ghost use Rattle.cabinet.specs.Parts.{Ended, Says};
+ghost use Rattle.running.specs.Parts.{Ended, Says};
 
 // At the finish the listing is written; otherwise the steps' limit is reached, or the next step exceeds a size.
 pub fn finish(

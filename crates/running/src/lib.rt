@@ -1,7 +1,9 @@
 // The run of a file with buffers that are long enough. The working memory is not cleared.
-use crate::finish::finish;
+pub mod finish;
+
 use answers::RunAnswer;
 use cells::is_wire_type;
+use finish::finish;
 use loading::load;
 use machine::advance;
 use program::Refusal;
@@ -12,7 +14,7 @@ ghost use mathlib.Core.Bool.{false};
 ghost use mathlib.Core.List.{[], _∷_};
 ghost use lib.ListN.{length};
 ghost use Rattle.answers.specs.Lengths.{tooShort};
-ghost use Rattle.cabinet.specs.Parts.{handedOn, Says};
+ghost use Rattle.running.specs.Parts.{handedOn, Says};
 
 // 01: "at most 2,048 gates".
 const MOST_GATES: usize = 2048;

@@ -25,8 +25,8 @@ use Rattle.typing.specs.Whole.{SaysCore}
 use Rattle.answers.specs.declared.RunAnswer.{RunAnswer}
 use Rattle.answers.specs.declared.RunAnswer.the-variants.{Refused}
 use Rattle.answers.specs.Answers.{ranTo, ranAs, declines, runOf, answerTo, outTo}
-use Rattle.cabinet.specs.Parts.{handedOn, Says}
-use Rattle.cabinet.specs.Finish.{says-ran}
+use Rattle.running.specs.Parts.{handedOn, Says}
+use Rattle.running.specs.Finish.{says-ran}
 
 pub not-handed-on : (core : Core) (cell : ℕ) → core ≡ Typed cell → Refused (Run 19 0) ≡ handedOn core
 not-handed-on core cell e = sym (ap handedOn e)

@@ -1,16 +1,16 @@
--- `cabinet::finish::finish` meets its contract: the listing, 21 or 22. Assumes nothing.
+-- `running::finish::finish` meets its contract: the listing, 21 or 22. Assumes nothing.
 use mathlib.Core.Path.{subst}
 use Rattle.memory.specs.Words.{words}
 use Rattle.nodes.specs.Nodes.{nodesIn}
 use Rattle.circuits.specs.Layout.{rowsIn}
 use Rattle.configuration.specs.Memory.{memory}
-use Rattle.cabinet.specs.Parts.{Writes}
-use Rattle.cabinet.specs.Finish.{says-finished, says-running, says-too-large}
+use Rattle.running.specs.Parts.{Writes}
+use Rattle.running.specs.Finish.{says-finished, says-running, says-too-large}
 use borrow.Author.Needs.{needs}
-use Rattle.cabinet.proofs.finish.finish.Statement.{statement}
-use Rattle.cabinet.proofs.finish.finish.Tie as tie
-use Rattle.cabinet.proofs.finish.finish.Reads as reads
-use Rattle.cabinet.proofs.finish.finish.Lts as lts
+use Rattle.running.proofs.finish.finish.Statement.{statement}
+use Rattle.running.proofs.finish.finish.Tie as tie
+use Rattle.running.proofs.finish.finish.Reads as reads
+use Rattle.running.proofs.finish.finish.Lts as lts
 use Rattle.circuits.proofs.rows.row_word.Reads as row-word-reads
 use Rattle.listing.proofs.write_listing.Reads as write-listing-reads
 

@@ -27,7 +27,7 @@ use Rattle.machine.specs.Advancing.{Advances}
 use Rattle.loading.specs.Trees.{treeOf, typesOf}
 use Rattle.loading.specs.Start.{least-types, Loads}
 use Rattle.answers.specs.Theorems.Finishing.{start-typed}
-use Rattle.cabinet.specs.Parts.{Ended}
+use Rattle.running.specs.Parts.{Ended}
 
 -- The buffers of gates, closed circuits, frames and results have room.
 pub roomy-lent : (ns : List Node) (rs : List StackRow) (ws g c f a b d e : List ℕ)

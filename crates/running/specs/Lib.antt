@@ -1,0 +1,4 @@
+pub mod Parts
+pub mod Finish
+pub mod Core
+pub mod Whole
