@@ -11,7 +11,7 @@ use Rattle.rules.specs.Gates.{gateTable, nth}
 use Rattle.rules.specs.Terms.{Tuple, labels, Gate, _on_}
 use Rattle.rules.specs.Circuits.{circuit, TakesEarlier, no-gate, next-gate}
 use Rattle.listing.specs.Listing.{bytesOf, inputKind, gateKind, entry-slots, slots, inputSlots, gateSlots}
-use Rattle.listing.specs.Listing.{oldestFirst, sizes, kinds, allSlots, listing, listingLength, most-bytes, KindsFit}
+use Rattle.listing.specs.Listing.{oldestFirst, sizes, kinds, allSlots, listing, listingLength, most-bytes}
 
 pub length-flat : {A B : Type 0} (f : A → List B) (n : ℕ) (xs : List A)
     → ((x : A) → length (f x) ≡ n)
@@ -88,6 +88,11 @@ nth-below : {A : Type 0} (l : List A) (n : ℕ) (x : A) → nth l n ≡ some x �
 nth-below [] n x e = let z : _≡_ {A = ℕ} 0 1 = cc in absurd (omega arith)
 nth-below (a ∷ l) zero x e = omega arith
 nth-below (a ∷ l) (suc n) x e = omega (arith, nth-below l n x e)
+
+-- Each gate's number is a byte.
+abbrev pub KindsFit : List Gate → Type 0
+KindsFit [] = Unit {0}
+KindsFit ((n on ws) ∷ gs) = (n < 256) × KindsFit gs
 
 -- The gates of a sound circuit are those of the table, whose numbers are bytes.
 pub kinds-fit : {I : List Wire} {gs : List Gate} → TakesEarlier I gs → KindsFit gs

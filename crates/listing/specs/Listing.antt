@@ -1,5 +1,5 @@
 -- The listing of a circuit with its outputs (01, "Listing").
-use Prim.Native.Nat.{ℕ, zero, suc, _+_, _*_, _/_, _%_, _<_}
+use Prim.Native.Nat.{ℕ, zero, suc, _+_, _*_, _/_, _%_}
 use mathlib.Core.List.{List, [], _∷_, _++_, map, flatMap, reverse}
 use lib.ListN.{length}
 use Rattle.rules.specs.Types.{Wire, Bit, Qubit}
@@ -67,8 +67,3 @@ listingLength L G O = 6 + 5 * (L + G) + 2 * O
 -- "at most 11,078".
 abbrev pub most-bytes : ℕ
 most-bytes = 11078
-
--- Each gate's number is a byte.
-abbrev pub KindsFit : List Gate → Type 0
-KindsFit [] = Unit {0}
-KindsFit ((n on ws) ∷ gs) = (n < 256) × KindsFit gs

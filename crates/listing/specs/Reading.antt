@@ -19,8 +19,8 @@ use Rattle.circuits.specs.Prefixes.{prefix-whole}
 use Rattle.circuits.specs.Gates.{length-gates, slot-used, slot-unused}
 use Rattle.circuits.specs.Tuples.{labelNumbers, labels-tree}
 use Rattle.listing.specs.Listing.{bytesOf, inputKind, gateKind, entry-slots, slots, inputSlots, gateSlots}
-use Rattle.listing.specs.Listing.{oldestFirst, sizes, allSlots, listing, KindsFit}
-use Rattle.listing.specs.Lengths.{length-slots}
+use Rattle.listing.specs.Listing.{oldestFirst, sizes, allSlots, listing}
+use Rattle.listing.specs.Lengths.{KindsFit, length-slots}
 use Rattle.listing.specs.Parts.{pieces, labels-from, inputByte, inputPiece, gatePiece, slotPiece, slotsPiece}
 use Rattle.listing.specs.Parts.{unusedPiece, kindsRead, slotsRead, outputsRead, listingRead}
 use Rattle.listing.specs.Pieces.{pieces-list, pieces-more, flat-append, length-pieces}

@@ -17,8 +17,8 @@ use Rattle.nodes.specs.Regions.{over, over-nil, Stands}
 use Rattle.circuits.specs.Layout.{Row, gatesIn}
 use Rattle.circuits.specs.Gates.{length-gates}
 use Rattle.circuits.specs.Tuples.{labelNumbers, labels-append, label-passed, other-passed}
-use Rattle.listing.specs.Listing.{bytesOf, entry-slots, listing, listingLength, KindsFit}
-use Rattle.listing.specs.Lengths.{length-bytes, length-listing}
+use Rattle.listing.specs.Listing.{bytesOf, entry-slots, listing, listingLength}
+use Rattle.listing.specs.Lengths.{KindsFit, length-bytes, length-listing}
 use Rattle.listing.specs.Parts.{pieces, labels-from, inputPiece, gatePiece, slotsPiece, unusedPiece, kindsRead}
 use Rattle.listing.specs.Parts.{slotsRead, outputsRead, listingRead}
 use Rattle.listing.specs.Pieces.{length-pieces, written-behind, over-start, flat-append}

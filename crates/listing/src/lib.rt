@@ -18,7 +18,8 @@ ghost use Rattle.memory.specs.Words.{words};
 ghost use Rattle.nodes.specs.Nodes.{nodesIn};
 ghost use Rattle.nodes.specs.Regions.{over, Stands};
 ghost use Rattle.circuits.specs.Layout.{rowsIn, gatesIn};
-ghost use Rattle.listing.specs.Listing.{bytesOf, entry-slots, listing, KindsFit};
+ghost use Rattle.listing.specs.Listing.{bytesOf, entry-slots, listing};
+ghost use Rattle.listing.specs.Lengths.{KindsFit};
 ghost use Rattle.listing.specs.Parts.{pieces, labels-from, inputByte, inputPiece, gatePiece, slotsPiece};
 ghost use Rattle.listing.specs.Parts.{unusedPiece, kindsRead, slotsRead, outputsRead};
 

@@ -5,15 +5,20 @@ use mathlib.Core.Path.{_≡_, sym, _∙_, ap, subst}
 use mathlib.Core.Logic.{inr}
 use mathlib.Core.List.{List, [], _∷_, _++_}
 use lib.ListN.{length, take, drop, length-append, length-drop}
+use Rattle.rules.specs.Types.{Ty}
+use Rattle.rules.specs.Terms.{Boxed}
+use Rattle.rules.specs.Circuits.{Circuit}
 use Rattle.rules.specs.Sizes.{most-nodes}
 use Rattle.evaluation.specs.Trees.{Node, Tree, one, two, preorder, substituteTree, WellKinded}
 use Rattle.evaluation.specs.Holes.{Hole, only, first, second, before, after}
 use Rattle.evaluation.specs.Walks.{evaluating, returning, Stop, at-force, at-application, at-let}
+use Rattle.evaluation.specs.States.{state}
 use Rattle.nodes.specs.Regions.{over, Stands, stands-right}
 use Rattle.nodes.specs.Copies.{Clear}
 use Rattle.nodes.specs.Spans.{span}
 use Rattle.walking.specs.Rows.{Row as StackRow, rowAt, rowNode, rowStart}
 use Rattle.walking.specs.Places.{Holds}
+use Rattle.walking.specs.declared.Place.{Place}
 use Rattle.walking.specs.Redexes.{only-redex, first-redex, second-redex, gap-wide, node-count, reduct-written}
 use Rattle.substitution.specs.Substituted.{reduct}
 use Rattle.substitution.specs.Reducts.{Ready, sizeWithin, size-known, size-refused, Wrote}
@@ -25,8 +30,8 @@ use Rattle.substitution.specs.declared.Values.{Values}
 use Rattle.substitution.specs.declared.Size.{Size}
 use Rattle.substitution.specs.declared.Size.the-variants.{Nodes, TooMany}
 use Rattle.circuits.specs.Layout.{Row}
-use Rattle.configuration.specs.Memory.{memory}
-use Rattle.configuration.specs.Outcomes.{Steps}
+use Rattle.configuration.specs.Memory.{memory, HoldsParts}
+use Rattle.configuration.specs.Outcomes.{PartsFit, Outcome, Steps}
 use Rattle.configuration.specs.declared.Registers.{Registers}
 use Rattle.configuration.specs.declared.Stepped.{Stepped}
 use Rattle.configuration.specs.declared.Stepped.the-variants.{TooLarge}
@@ -108,6 +113,77 @@ abbrev pub WritesReduct : List Node → List Node → ℕ → Region → Values 
 WritesReduct ns ns₁ words source values to most answer =
     Ready ns words to most source values → Wrote ns ns₁ source values to most answer
 
+-- What the steps at an application and at a let come to: the redex, in the hole h of its row, starts at place `at`, what is
+-- behind it at place `next`, and the reduct's code has answered for the reduct of the tree t.
+pub record Contracted (ns ns₁ : List Node) (rs : List StackRow) (p : Place) (at next most : ℕ) (answer : Size) (v : Tree)
+    (h : Hole) (hs : List Hole) (t : Tree) : Type 0 where
+  pub source : Region
+  pub values : Values
+  pub held : Holds ns rs p (returning v (h ∷ hs))
+  pub before-is : at ≡ length (before hs)
+  pub under-left : at < p .left
+  pub ahead : p .right ≤ next
+  pub inside : next ≤ length ns
+  pub behind : drop next ns ≡ after hs
+  pub wrote : Wrote ns ns₁ source values (p .left) most answer
+  pub nodes-are : reduct ns source values ≡ preorder t
+
+module _ (ns ns₁ : List Node) (rs : List StackRow) (r : Registers) (at next most : ℕ)
+    (at-is : at ≡ rowNode (rowAt rs (r .place .depth - 1)))
+    (most-is : most ≡ mostBetween ns at next)
+    (gs cs fs : List Row) (ws : List ℕ) (results : ℕ → List ℕ) (types : ℕ → Ty) (positions allowance : ℕ)
+    (v : Tree) (h : Hole) (hs : List Hole) (t : Tree) (C : Circuit) (Cs : List Circuit) (K : List Boxed) (answer : Size)
+  where
+    most-few : most ≤ most-nodes
+    most-few = omega (arith, most-is)
+
+    -- The step is refused where the reduct is too large: the next state would have too many nodes.
+    contraction-refused : answer ≡ TooMany
+        → Contracted ns ns₁ rs (r .place) at next most answer v h hs t
+        → Outcome types positions allowance r (memory ns rs gs cs fs ws results) (memory ns₁ rs gs cs fs ws results)
+        (state (evaluating t hs) C Cs K)
+        TooLarge
+    contraction-refused e c =
+        let many : most < length (preorder t)
+        = size-refused most (length (preorder t))
+        (sym e ∙ c .wrote .answer-is ∙ ap (λ x. sizeWithin most (length x)) (c .nodes-are)) in
+        let exceeding : most-nodes < length (before hs) + length (preorder t ++ after hs)
+        = omega (
+          arith,
+          most-is,
+          c .before-is,
+          ap length (c .behind),
+          length-drop next ns,
+          length-append (preorder t) (after hs),
+        ) in
+        step-refused ns ns₁ rs gs cs fs ws results types positions allowance r (evaluating t hs) C Cs K exceeding
+        (λ w held. wrote-kept ns ns₁ rs (r .place) w (c .source) (c .values) most answer held most-few (c .wrote))
+
+    -- It is taken where the reduct is not: it is copied before place `next`, and is evaluated.
+    contraction-taken : (ns′ : List Node) (count to : ℕ)
+        → answer ≡ Nodes count
+        → Contracted ns ns₁ rs (r .place) at next most answer v h hs t
+        → to ≡ next - count
+        → Copies ns₁ ns′ (r .place .left) to count
+        → HoldsParts types positions (memory ns rs gs cs fs ws results) r (returning v (h ∷ hs)) (C ∷ Cs) K
+        → PartsFit allowance (returning v (h ∷ hs)) (C ∷ Cs) K
+        → Outcome types positions allowance r (memory ns rs gs cs fs ws results) (memory ns′ rs gs cs fs ws results)
+        (state (evaluating t hs) C Cs K)
+        (takenTo r at to)
+    contraction-taken ns′ count to e c to-is copied state-held fits =
+        let few = c .held .few in
+        let under = c .under-left in
+        let ahead = c .ahead in
+        let wrote = subst (Wrote ns ns₁ (c .source) (c .values) (r .place .left) most) e (c .wrote) in
+        let small : count ≤ most = size-known most _ count (wrote .answer-is) .1 in
+        let room : at + (count + (length ns - next)) ≤ most-nodes
+        = omega (arith, most-is, node-count ns rs (r .place) (returning v (h ∷ hs)) (c .held)) in
+        step-taken ns ns′ rs gs cs fs ws results types positions allowance r (returning v (h ∷ hs)) (evaluating t hs) C Cs K at to
+        state-held
+        fits
+        (reduct-moved ns ns₁ ns′ rs (r .place) h hs v t (c .source) (c .values) at next count to most (c .held) at-is under
+        wrote (c .nodes-are) most-few ahead (c .inside) (c .behind) room to-is copied)
+
 -- At an application: its node stands at place `at`, the body of the abstraction behind both nodes, and the value from place
 -- `start` on.
 module _ (ns ns₁ : List Node) (rs : List StackRow) (r : Registers) (at start : ℕ) (source : Region) (values : Values)
@@ -121,80 +197,38 @@ module _ (ns ns₁ : List Node) (rs : List StackRow) (r : Registers) (at start :
     (enough : most-nodes < words)
     (answer : Size)
     (writes : WritesReduct ns ns₁ words source values (r .place .left) most answer) where
-  application-most : most ≤ most-nodes
-  application-most = omega (arith, most-is)
+  application-contracted : (n m : Node) (t v : Tree) (hs : List Hole) (positions closed : ℕ)
+      → Holds ns rs (r .place) (returning v (second n (one m t) ∷ hs))
+      → WellKinded positions closed t
+      → Contracted ns ns₁ rs (r .place) at (r .place .right) most answer v (second n (one m t)) hs (substituteTree (v ∷ []) t)
+  application-contracted n m t v hs positions closed held kinded =
+      let redex = second-redex ns rs (r .place) hs n (one m t) v at start held at-is start-is in
+      record {
+        source = applicationBody at start;
+        values = applicationValue start (r .place .left);
+        held = held;
+        before-is = redex .hole .at-is;
+        under-left = redex .hole .under-left;
+        ahead = omega arith;
+        inside = held .buffer .inside;
+        behind = redex .behind;
+        wrote =
+            (rw (source-is, values-is) at writes)
+            (application-ready ns rs (r .place) n m t v hs held at start at-is start-is positions closed words kinded enough
+            most
+            (omega (arith, most-is)));
+        nodes-are =
+            application-reduct ns rs (r .place) n m t v hs held at start at-is start-is positions closed words kinded enough;
+      }
 
-  module _ (n m : Node) (t v : Tree) (hs : List Hole) (positions closed : ℕ)
-      (held : Holds ns rs (r .place) (returning v (second n (one m t) ∷ hs)))
-      (kinded : WellKinded positions closed t) where
-    -- What was written is of the rules' reduct.
-    application-wrote : Wrote ns ns₁ (applicationBody at start) (applicationValue start (r .place .left)) (r .place .left) most
-        answer
-    application-wrote =
-        (rw (source-is, values-is) at writes)
-        (application-ready ns rs (r .place) n m t v hs held at start at-is start-is positions closed words kinded enough most
-        application-most)
-
-    application-nodes : reduct ns (applicationBody at start) (applicationValue start (r .place .left))
-        ≡ preorder (substituteTree (v ∷ []) t)
-    application-nodes =
-        application-reduct ns rs (r .place) n m t v hs held at start at-is start-is positions closed words kinded enough
-
-    -- Where the reduct is too large, the next state would have too many nodes.
-    application-large : answer ≡ TooMany
-        → most-nodes < length (before hs) + length (preorder (substituteTree (v ∷ []) t) ++ after hs)
-    application-large e =
-        let redex = second-redex ns rs (r .place) hs n (one m t) v at start held at-is start-is in
-        let many : most < length (preorder (substituteTree (v ∷ []) t))
-        = size-refused most (length (preorder (substituteTree (v ∷ []) t)))
-        (sym e ∙ application-wrote .answer-is ∙ ap (λ x. sizeWithin most (length x)) application-nodes) in
-        omega (
-          arith,
-          most-is,
-          redex .hole .at-is,
-          ap length (redex .behind),
-          length-drop (r .place .right) ns,
-          length-append (preorder (substituteTree (v ∷ []) t)) (after hs),
-        )
-
-    -- Where it is not, it is copied to the end of the gap, and is evaluated.
-    application-held : (ns′ : List Node) (count to : ℕ)
-        → answer ≡ Nodes count
-        → to ≡ r .place .right - count
-        → Copies ns₁ ns′ (r .place .left) to count
-        → Holds ns′ rs (placeAfter (r .place) at to) (evaluating (substituteTree (v ∷ []) t) hs)
-    application-held ns′ count to e to-is copied =
-        let redex = second-redex ns rs (r .place) hs n (one m t) v at start held at-is start-is in
-        let under = redex .hole .under-left in
-        let wrote = subst
-        (Wrote ns ns₁ (applicationBody at start) (applicationValue start (r .place .left)) (r .place .left) most) e
-        application-wrote in
-        let small : count ≤ most = size-known most _ count (wrote .answer-is) .1 in
-        reduct-moved ns ns₁ ns′ rs (r .place) (second n (one m t)) hs v (substituteTree (v ∷ []) t) (applicationBody at start)
-        (applicationValue start (r .place .left)) at (r .place .right) count to most held at-is under wrote application-nodes
-        application-most
-        (omega arith)
-        (held .buffer .inside)
-        (redex .behind)
-        (omega (arith, most-is, held .few, node-count ns rs (r .place) (returning v (second n (one m t) ∷ hs)) held))
-        to-is
-        copied
-
-  -- The step is refused where the reduct is too large.
   pub application-refused : answer ≡ TooMany → StepsNodes at-application ns ns₁ rs r TooLarge
   application-refused e gs cs fs ws results allowance =
       application-form allowance (memory ns rs gs cs fs ws results) (memory ns₁ rs gs cs fs ws results) r TooLarge
       λ types positions A n m t v hs C Cs K stop fits.
-      let held = stop .held .walk-held in
-      let kinded : WellKinded positions (length K) t = stop .fits .0 .2 .0 .2 .1 in
-      step-refused ns ns₁ rs gs cs fs ws results types positions allowance r (evaluating (substituteTree (v ∷ []) t) hs) C Cs K
-      (application-large n m t v hs positions (length K) held kinded e)
-      λ w h.
-      wrote-kept ns ns₁ rs (r .place) w (applicationBody at start) (applicationValue start (r .place .left)) most answer h
-      application-most
-      (application-wrote n m t v hs positions (length K) held kinded)
+      contraction-refused ns ns₁ rs r at (r .place .right) most at-is most-is gs cs fs ws results types positions allowance v
+      (second n (one m t)) hs (substituteTree (v ∷ []) t) C Cs K answer e
+      (application-contracted n m t v hs positions (length K) (stop .held .walk-held) (stop .fits .0 .2 .0 .2 .1))
 
-  -- It is taken where the reduct is not.
   pub application-taken : (ns′ : List Node) (count to : ℕ)
       → answer ≡ Nodes count
       → to ≡ r .place .right - count
@@ -203,10 +237,13 @@ module _ (ns ns₁ : List Node) (rs : List StackRow) (r : Registers) (at start :
   application-taken ns′ count to e to-is copied gs cs fs ws results allowance =
       application-form allowance (memory ns rs gs cs fs ws results) (memory ns′ rs gs cs fs ws results) r (takenTo r at to)
       λ types positions A n m t v hs C Cs K stop fits.
-      step-taken ns ns′ rs gs cs fs ws results types positions allowance r (returning v (second n (one m t) ∷ hs))
-      (evaluating (substituteTree (v ∷ []) t) hs) C Cs K at to (stop .held) fits
-      (application-held n m t v hs positions (length K) (stop .held .walk-held) (stop .fits .0 .2 .0 .2 .1) ns′ count to e to-is
-      copied)
+      contraction-taken ns ns₁ rs r at (r .place .right) most at-is most-is gs cs fs ws results types positions allowance v
+      (second n (one m t)) hs (substituteTree (v ∷ []) t) C Cs K answer ns′ count to e
+      (application-contracted n m t v hs positions (length K) (stop .held .walk-held) (stop .fits .0 .2 .0 .2 .1))
+      to-is
+      copied
+      (stop .held)
+      fits
 
 -- At a let: its node stands at place `at`, the halves of the pair behind both nodes, the second from place `middle` on, and
 -- the body, of k nodes, is next to be walked and ends at place `next`.
@@ -223,101 +260,47 @@ module _ (ns ns₁ : List Node) (rs : List StackRow) (r : Registers) (at middle 
     (enough : most-nodes < words)
     (answer : Size)
     (writes : WritesReduct ns ns₁ words source values (r .place .left) most answer) where
-  let-most : most ≤ most-nodes
-  let-most = omega (arith, most-is)
+  let-contracted : (n m : Node) (t t′ u : Tree) (hs : List Hole) (positions closed : ℕ)
+      → Holds ns rs (r .place) (returning (two m t t′) (first n u ∷ hs))
+      → WellKinded positions closed t
+      → WellKinded positions closed u
+      → Contracted ns ns₁ rs (r .place) at next most answer (two m t t′) (first n u) hs (substituteTree (t′ ∷ t ∷ []) u)
+  let-contracted n m t t′ u hs positions closed held kinded-first kinded-body =
+      let redex = first-redex ns rs (r .place) hs n (two m t t′) u at held at-is in
+      let middle-there : middle ≡ at + 2 + length (preorder t)
+      = middle-is ∙ first-half-ends ns rs (r .place) n m t t′ u hs held at at-is positions closed kinded-first in
+      let next-there : next ≡ r .place .right + length (preorder u)
+      = next-is ∙ body-ends ns rs (r .place) n m t t′ u hs held at at-is positions closed kinded-body in
+      let body-inside = redex .body-inside in
+      let body-whole : k ≡ length (preorder u) = omega (arith, k-is) in
+      record {
+        source = letBody (r .place .right) k;
+        values = letValues at middle (r .place .left);
+        held = held;
+        before-is = redex .hole .at-is;
+        under-left = redex .hole .under-left;
+        ahead = omega arith;
+        inside = omega arith;
+        behind = ap (λ j. drop j ns) next-there ∙ redex .behind;
+        wrote =
+            (rw (source-is, values-is) at writes)
+            (let-ready ns rs (r .place) n m t t′ u hs held at at-is middle k positions closed words middle-there body-whole
+            kinded-body enough most
+            (omega (arith, most-is)));
+        nodes-are =
+            let-reduct ns rs (r .place) n m t t′ u hs held at at-is middle k positions closed words middle-there body-whole
+            kinded-body enough;
+      }
 
-  module _ (n m : Node) (t t′ u : Tree) (hs : List Hole) (positions closed : ℕ)
-      (held : Holds ns rs (r .place) (returning (two m t t′) (first n u ∷ hs)))
-      (kinded-first : WellKinded positions closed t)
-      (kinded-body : WellKinded positions closed u) where
-    -- The ends that were found are those of the first half and of the body.
-    middle-there : middle ≡ at + 2 + length (preorder t)
-    middle-there = middle-is ∙ first-half-ends ns rs (r .place) n m t t′ u hs held at at-is positions closed kinded-first
-
-    next-there : next ≡ r .place .right + length (preorder u)
-    next-there = next-is ∙ body-ends ns rs (r .place) n m t t′ u hs held at at-is positions closed kinded-body
-
-    body-whole : k ≡ length (preorder u)
-    body-whole = omega (arith, k-is, next-there)
-
-    -- What was written is of the rules' reduct.
-    let-wrote : Wrote ns ns₁ (letBody (r .place .right) k) (letValues at middle (r .place .left)) (r .place .left) most answer
-    let-wrote =
-        (rw (source-is, values-is) at writes)
-        (let-ready ns rs (r .place) n m t t′ u hs held at at-is middle k positions closed words middle-there body-whole
-        kinded-body enough most let-most)
-
-    let-nodes : reduct ns (letBody (r .place .right) k) (letValues at middle (r .place .left))
-        ≡ preorder (substituteTree (t′ ∷ t ∷ []) u)
-    let-nodes =
-        let-reduct ns rs (r .place) n m t t′ u hs held at at-is middle k positions closed words middle-there body-whole
-        kinded-body enough
-
-    -- Where the reduct is too large, the next state would have too many nodes.
-    let-large : answer ≡ TooMany
-        → most-nodes < length (before hs) + length (preorder (substituteTree (t′ ∷ t ∷ []) u) ++ after hs)
-    let-large e =
-        let redex = first-redex ns rs (r .place) hs n (two m t t′) u at held at-is in
-        let many : most < length (preorder (substituteTree (t′ ∷ t ∷ []) u))
-        = size-refused most (length (preorder (substituteTree (t′ ∷ t ∷ []) u)))
-        (sym e ∙ let-wrote .answer-is ∙ ap (λ x. sizeWithin most (length x)) let-nodes) in
-        omega (
-          arith,
-          most-is,
-          next-there,
-          redex .hole .at-is,
-          ap length (redex .behind),
-          length-drop (r .place .right + length (preorder u)) ns,
-          length-append (preorder (substituteTree (t′ ∷ t ∷ []) u)) (after hs),
-        )
-
-    -- Where it is not, it is copied to where the body ended, and is evaluated.
-    let-held : (ns′ : List Node) (count to : ℕ)
-        → answer ≡ Nodes count
-        → to ≡ next - count
-        → Copies ns₁ ns′ (r .place .left) to count
-        → Holds ns′ rs (placeAfter (r .place) at to) (evaluating (substituteTree (t′ ∷ t ∷ []) u) hs)
-    let-held ns′ count to e to-is copied =
-        let redex = first-redex ns rs (r .place) hs n (two m t t′) u at held at-is in
-        let under = redex .hole .under-left in
-        let inside = redex .body-inside in
-        let wrote = subst
-        (Wrote ns ns₁ (letBody (r .place .right) k) (letValues at middle (r .place .left)) (r .place .left) most) e
-        let-wrote in
-        let small : count ≤ most = size-known most _ count (wrote .answer-is) .1 in
-        reduct-moved ns ns₁ ns′ rs (r .place) (first n u) hs (two m t t′) (substituteTree (t′ ∷ t ∷ []) u)
-        (letBody (r .place .right) k) (letValues at middle (r .place .left)) at next count to most held at-is under wrote
-        let-nodes
-        let-most
-        (omega (arith, next-there))
-        (omega (arith, next-there))
-        (ap (λ j. drop j ns) next-there ∙ redex .behind)
-        (omega (
-          arith,
-          most-is,
-          next-there,
-          held .few,
-          node-count ns rs (r .place) (returning (two m t t′) (first n u ∷ hs)) held,
-        ))
-        to-is
-        copied
-
-  -- The step is refused where the reduct is too large.
   pub let-refused : answer ≡ TooMany → StepsNodes at-let ns ns₁ rs r TooLarge
   let-refused e gs cs fs ws results allowance =
       let-form allowance (memory ns rs gs cs fs ws results) (memory ns₁ rs gs cs fs ws results) r TooLarge
       λ types positions A n m t t′ u hs C Cs K stop fits.
-      let held = stop .held .walk-held in
       let w = stop .fits .0 in
-      step-refused ns ns₁ rs gs cs fs ws results types positions allowance r (evaluating (substituteTree (t′ ∷ t ∷ []) u) hs) C
-      Cs K
-      (let-large n m t t′ u hs positions (length K) held (w .0 .1) (w .2 .0 .1) e)
-      λ w′ h.
-      wrote-kept ns ns₁ rs (r .place) w′ (letBody (r .place .right) k) (letValues at middle (r .place .left)) most answer h
-      let-most
-      (let-wrote n m t t′ u hs positions (length K) held (w .0 .1) (w .2 .0 .1))
+      contraction-refused ns ns₁ rs r at next most at-is most-is gs cs fs ws results types positions allowance (two m t t′)
+      (first n u) hs (substituteTree (t′ ∷ t ∷ []) u) C Cs K answer e
+      (let-contracted n m t t′ u hs positions (length K) (stop .held .walk-held) (w .0 .1) (w .2 .0 .1))
 
-  -- It is taken where the reduct is not.
   pub let-taken : (ns′ : List Node) (count to : ℕ)
       → answer ≡ Nodes count
       → to ≡ next - count
@@ -327,6 +310,10 @@ module _ (ns ns₁ : List Node) (rs : List StackRow) (r : Registers) (at middle 
       let-form allowance (memory ns rs gs cs fs ws results) (memory ns′ rs gs cs fs ws results) r (takenTo r at to)
       λ types positions A n m t t′ u hs C Cs K stop fits.
       let w = stop .fits .0 in
-      step-taken ns ns′ rs gs cs fs ws results types positions allowance r (returning (two m t t′) (first n u ∷ hs))
-      (evaluating (substituteTree (t′ ∷ t ∷ []) u) hs) C Cs K at to (stop .held) fits
-      (let-held n m t t′ u hs positions (length K) (stop .held .walk-held) (w .0 .1) (w .2 .0 .1) ns′ count to e to-is copied)
+      contraction-taken ns ns₁ rs r at next most at-is most-is gs cs fs ws results types positions allowance (two m t t′)
+      (first n u) hs (substituteTree (t′ ∷ t ∷ []) u) C Cs K answer ns′ count to e
+      (let-contracted n m t t′ u hs positions (length K) (stop .held .walk-held) (w .0 .1) (w .2 .0 .1))
+      to-is
+      copied
+      (stop .held)
+      fits

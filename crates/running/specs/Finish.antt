@@ -38,7 +38,7 @@ use Rattle.machine.specs.declared.Ending.the-variants.{Finished as AtFinish, Ru
 use Rattle.machine.specs.Advancing.{endingOf, Ready, AtTheEnd, AdvancedTo}
 use Rattle.configuration.specs.declared.Registers.{Registers}
 use Rattle.loading.specs.Trees.{treeOf, typesOf}
-use Rattle.listing.specs.Listing.{listing, KindsFit, most-bytes}
+use Rattle.listing.specs.Listing.{listing, most-bytes}
 use Rattle.listing.specs.Lengths.{listing-fits, kinds-fit}
 use Rattle.answers.specs.declared.RunAnswer.{RunAnswer}
 use Rattle.answers.specs.declared.RunAnswer.the-variants.{Finished, Refused}

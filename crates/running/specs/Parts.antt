@@ -23,7 +23,8 @@ use Rattle.configuration.specs.Memory.{Memory}
 use Rattle.machine.specs.declared.Advanced.{Advanced}
 use Rattle.machine.specs.Advancing.{AdvancedTo}
 use Rattle.loading.specs.Trees.{treeOf, typesOf}
-use Rattle.listing.specs.Listing.{listing, KindsFit}
+use Rattle.listing.specs.Lengths.{KindsFit}
+use Rattle.listing.specs.Listing.{listing}
 use Rattle.answers.specs.declared.RunAnswer.{RunAnswer}
 use Rattle.answers.specs.declared.RunAnswer.the-variants.{Refused}
 use Rattle.answers.specs.Answers.{runOf, answerTo, outTo}

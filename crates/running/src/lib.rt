@@ -19,7 +19,7 @@ ghost use Rattle.running.specs.Parts.{handedOn, Says};
 // 01: "at most 2,048 gates".
 const MOST_GATES: usize = 2048;
 
-// A refusal of the check, handed up unchanged.
+// A refusal of the check, handed up unchanged. It is not called with a type.
 fn handed_on(core: Core) -> RunAnswer
     ensures { λ r. ⌜ r ≡ handedOn core ⌝ }
 {

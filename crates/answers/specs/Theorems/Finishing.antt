@@ -13,9 +13,9 @@ use Rattle.rules.specs.Steps.{frame, Configuration, configuration, start}
 use Rattle.rules.specs.Sizes.{totalGates, most-gates, Row, no-step, one-more}
 use Rattle.rules.specs.Demand3.{frame-has, outermost, ProgramHas, program-has, Finished, finished, ClosedSound}
 use Rattle.rules.specs.Demand3.{CircuitsSound, circuits-sound, AllGone, all-gone}
-use Rattle.rules.specs.Runs.{at-finish, advanced, outermostInputs}
+use Rattle.rules.specs.Runs.{at-finish, advanced}
 use Rattle.rules.specs.Theorems.Deterministic.{tupleOf-tuple}
-use Rattle.rules.specs.Theorems.Runs.{finish-means, start-inputs-kept}
+use Rattle.rules.specs.Theorems.Runs.{outermostInputs, finish-means, start-inputs-kept}
 use Rattle.rules.specs.Theorems.Safety.{demand3}
 use Rattle.evaluation.specs.Theorems.Typed.{labels-typed}
 use Rattle.program.specs.Theorems.Accepting.{read-sound}

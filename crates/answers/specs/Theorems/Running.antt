@@ -13,10 +13,9 @@ use Rattle.rules.specs.Circuits.{circuit}
 use Rattle.rules.specs.Steps.{frame, Configuration, configuration, start}
 use Rattle.rules.specs.Sizes.{most-gates}
 use Rattle.rules.specs.Demand3.{ProgramHas, finished}
-use Rattle.rules.specs.Runs.{Ending, at-finish, still-running, does-not-fit, Reached, advanced, FinishesAt, UnfinishedAt}
-use Rattle.rules.specs.Runs.{ExceedsAt, EndingMeans}
+use Rattle.rules.specs.Runs.{Ending, at-finish, still-running, does-not-fit, Reached, advanced}
 use Rattle.rules.specs.Theorems.Deterministic.{tuple-value, tupleOf-tuple}
-use Rattle.rules.specs.Theorems.Runs.{finish-means, running-means, not-fitting-means}
+use Rattle.rules.specs.Theorems.Runs.{FinishesAt, UnfinishedAt, ExceedsAt, EndingMeans, finish-means, running-means, not-fitting-means}
 use Rattle.program.specs.Refusals.{refusalNumber}
 use Rattle.program.specs.declared.Refusal.{Refusal}
 use Rattle.program.specs.declared.Refusal.the-variants.{Run}

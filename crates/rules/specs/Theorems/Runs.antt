@@ -4,23 +4,56 @@ use native.Mathlib.Omega.{arith}
 use mathlib.Core.Path.{_≡_, refl, sym, _∙_, ap, ap₂, subst}
 use mathlib.Core.Logic.{_⊎_, inl, inr}
 use mathlib.Core.Bool.{Bool, true, false, _&&_}
-use mathlib.Core.List.{List}
+use mathlib.Core.List.{List, [], _∷_}
 use mathlib.Core.Option.{Option, none, some, Option·none-ne-some}
 use lib.Dec.{T as IsTrue, leb, leb→le, le→leb}
 use Rattle.rules.specs.Types.{Wire, Ty}
 use Rattle.rules.specs.Terms.{boxed, Term}
 use Rattle.rules.specs.Circuits.{circuit}
-use Rattle.rules.specs.Steps.{Configuration, start, _⟶_, β-reduction, let-step, force-step, apply-gate}
-use Rattle.rules.specs.Steps.{apply-constant, box-entry, box-exit}
+use Rattle.rules.specs.Steps.{Frame, frame, Configuration, configuration, start, _⟶_}
+use Rattle.rules.specs.Steps.{β-reduction, let-step, force-step, apply-gate, apply-constant, box-entry, box-exit}
 use Rattle.rules.specs.Sizes.{totalNodes, totalGates, boxesClosed, most-nodes, most-boxes, Fits, Row, no-step}
 use Rattle.rules.specs.Sizes.{one-more}
 use Rattle.rules.specs.Demand3.{ProgramHas, Finished}
 use Rattle.rules.specs.Next.{next}
 use Rattle.rules.specs.Runs.{fits, Ending, at-finish, still-running, does-not-fit, Reached, ended, lastTurn}
-use Rattle.rules.specs.Runs.{turnTo, oneTurn, advanced, FinishesAt, UnfinishedAt, ExceedsAt, EndingMeans}
-use Rattle.rules.specs.Runs.{outermostInputs}
+use Rattle.rules.specs.Runs.{turnTo, oneTurn, advanced}
 use Rattle.rules.specs.Theorems.Deterministic.{step→next, next→step}
 use Rattle.rules.specs.Theorems.Safety.{progress, row-keeps, finished-stops}
+
+-- The same endings by the rules, for at most k steps from c: after a row of n steps that fit, to d.
+-- 01: "Else finished": at a finish, which at most k steps reach.
+pub record FinishesAt (allowance k : ℕ) (c : Configuration) (n : ℕ) (d : Configuration) : Type 0 where
+  pub row : Row allowance c n d
+  pub in-time : n ≤ k
+  pub at-end : Finished d
+
+-- 01: "21: the limit's steps are done and it is unfinished, even if the next would not fit."
+pub record UnfinishedAt (allowance k : ℕ) (c : Configuration) (n : ℕ) (d : Configuration) : Type 0 where
+  pub row : Row allowance c n d
+  pub all-done : n ≡ k
+  pub unfinished : Finished d → ⊥
+
+-- 01: "22: earlier than that, the next step exceeds a size."
+pub record ExceedsAt (allowance k : ℕ) (c : Configuration) (n : ℕ) (d : Configuration) : Type 0 where
+  pub row : Row allowance c n d
+  pub earlier : n < k
+  pub following : Configuration
+  pub step : d ⟶ following
+  pub exceeds : Fits allowance following → ⊥
+
+-- What came of the steps ended so exactly if the rules say so, and nowhere but where they say it.
+pub record EndingMeans (r : Reached) (e : Ending) (At : ℕ → Configuration → Type 0) : Type 0 where
+  pub says : r .ending ≡ e → At (r .steps) (r .reached)
+  pub only : (n : ℕ) (d : Configuration) → At n d → r ≡ ended e n d
+
+-- The inputs of the outermost circuit: of the last frame below, or I if there is none.
+abbrev pub inputsBelow : List Wire → List Frame → List Wire
+inputsBelow I [] = I
+inputsBelow I (frame (circuit J gs) M ∷ X) = inputsBelow J X
+
+abbrev pub outermostInputs : Configuration → List Wire
+outermostInputs (configuration (frame (circuit I gs) M) X K) = inputsBelow I X
 
 -- Three tests together are passed if each is, and the other way round.
 three-true : (a b c : Bool) → IsTrue (a && (b && c)) → IsTrue a × IsTrue b × IsTrue c
