@@ -9,27 +9,11 @@
 
 #define LIMIT 1000000
 
-/* A buffer as the operations take it. */
-#define LENT(buffer) (buffer), sizeof(buffer)
-
 static uint8_t file[GAWIPSOL_LONGEST_FILE + 1]; /* one byte more shows that a file is too long */
 
+static struct gawipsol_machine machine;
 static uint8_t type[GAWIPSOL_CHECK_OUT];
-static uint8_t work[GAWIPSOL_CHECK_WORK];
-
 static uint8_t listing[GAWIPSOL_RUN_OUT];
-static uint8_t nodes[GAWIPSOL_RUN_NODES];
-static uint8_t stack[GAWIPSOL_RUN_STACK];
-static uint8_t waiting[GAWIPSOL_RUN_WAITING];
-static uint8_t labels[GAWIPSOL_RUN_LABELS];
-static uint8_t types[GAWIPSOL_RUN_TYPES];
-static uint8_t frames[GAWIPSOL_RUN_FRAMES];
-static uint8_t gates[GAWIPSOL_RUN_GATES];
-static uint8_t closed[GAWIPSOL_RUN_CLOSED];
-static uint8_t first[GAWIPSOL_RUN_RESULT];
-static uint8_t second[GAWIPSOL_RUN_RESULT];
-static uint8_t third[GAWIPSOL_RUN_RESULT];
-static uint8_t fourth[GAWIPSOL_RUN_RESULT];
 
 static const char *const type_names[] = {"Bit", "Qubit", "pair", "function", "reusable", "circuit"};
 
@@ -89,19 +73,14 @@ static void print_listing(uint32_t steps)
 /* Checks the file and prints its type, then runs it and prints its listing; whether it finished. */
 static int check_and_run(size_t length)
 {
-    uint64_t answer = check_packed(file, length, LENT(type), LENT(work));
+    uint64_t answer = gawipsol_check_in(&machine, file, length, type, sizeof type);
 
-    if (gawipsol_check_number(answer) != GAWIPSOL_ACCEPTED) {
-        printf("refused %u %u\n", gawipsol_check_number(answer), gawipsol_check_place(answer));
-        return 0;
+    if (gawipsol_number(answer) == GAWIPSOL_ACCEPTED) {
+        print_type(gawipsol_check_length(answer));
+        answer = gawipsol_run_in(&machine, file, length, LIMIT, listing, sizeof listing);
     }
-    print_type(gawipsol_check_length(answer));
-
-    answer = run_packed(file, length, LIMIT, LENT(listing), LENT(nodes), LENT(stack), LENT(waiting), LENT(labels),
-                        LENT(types), LENT(frames), LENT(gates), LENT(closed), LENT(first), LENT(second), LENT(third),
-                        LENT(fourth));
-    if (gawipsol_run_number(answer) != GAWIPSOL_ACCEPTED) {
-        printf("refused %u %u\n", gawipsol_run_number(answer), gawipsol_run_place(answer));
+    if (gawipsol_number(answer) != GAWIPSOL_ACCEPTED) {
+        printf("refused %u %u\n", gawipsol_number(answer), gawipsol_place(answer));
         return 0;
     }
     print_listing(gawipsol_run_steps(answer));

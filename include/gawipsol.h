@@ -3,7 +3,8 @@
  * All are in target/staticlib/libcabinet.a; docs/FORMATS.md has the layout of files and buffers.
  *
  * What the host owes: each pointer with its length is one buffer, readable and, all but the file, writable; no pointer is
- * null, even with length 0; no two buffers overlap; nothing else writes them meanwhile; 1 MiB of stack is free.
+ * null, even with length 0; no two buffers overlap; nothing else writes them meanwhile; 1 MiB of stack is free (measured;
+ * docs/FORMATS.md, "Stack").
  * Nothing is kept between calls, so calls with buffers of their own may run at the same time.
  *
  * What is promised, for every file and every length of buffer:
@@ -29,17 +30,8 @@ extern "C" {
 #define GAWIPSOL_CHECK_OUT 512
 #define GAWIPSOL_CHECK_WORK 54880
 
-/* The least lengths of the buffers of a run, in bytes. */
+/* The least length of the output buffer of a run, in bytes. */
 #define GAWIPSOL_RUN_OUT 11078
-#define GAWIPSOL_RUN_NODES 65536
-#define GAWIPSOL_RUN_STACK 32768
-#define GAWIPSOL_RUN_WAITING 8194
-#define GAWIPSOL_RUN_LABELS 1024
-#define GAWIPSOL_RUN_TYPES 1152
-#define GAWIPSOL_RUN_FRAMES 32776
-#define GAWIPSOL_RUN_GATES 32768
-#define GAWIPSOL_RUN_CLOSED 2048
-#define GAWIPSOL_RUN_RESULT 65536 /* each of first, second, third and fourth */
 
 /* The number of an answer: 0, or that of the refusal. A place is an entry number where one is named here, else 0. */
 enum gawipsol_number {
@@ -70,43 +62,46 @@ enum gawipsol_number {
     GAWIPSOL_SIZE_EXCEEDED = 22    /* earlier than that, the next step exceeds a size */
 };
 
-/* The reading alone: the form of the file. No buffer is lent. */
-uint64_t read_packed(const uint8_t *file, size_t file_length);
-
-/* An answer of read_packed: its number. */
-static inline unsigned gawipsol_read_number(uint64_t answer)
+/*
+ * An answer is one number. Bits 0 to 5: 0, or the refusal's number. Refused: bits 6 to 21 its place. Else from bit 6 on what
+ * the operation answers. crates/packed proves that this gives back every answer.
+ */
+static inline unsigned gawipsol_number(uint64_t answer)
 {
-    return (unsigned)(answer & 0xFF);
+    return (unsigned)(answer & 0x3F);
 }
 
 /* Refused: the place. */
-static inline unsigned gawipsol_read_place(uint64_t answer)
+static inline unsigned gawipsol_place(uint64_t answer)
 {
-    return (unsigned)(answer >> 8 & 0xFFFF);
+    return (unsigned)(answer >> 6 & 0xFFFF);
 }
+
+/* The reading alone: the form of the file. No buffer is lent. */
+uint64_t gawipsol_read(const uint8_t *file, size_t file_length);
 
 /* Accepted: the number of labels. */
 static inline unsigned gawipsol_read_labels(uint64_t answer)
 {
-    return (unsigned)(answer >> 24 & 0xFF);
+    return (unsigned)(answer >> 6 & 0x7F);
 }
 
 /* Accepted: the number of type entries. */
 static inline unsigned gawipsol_read_types(uint64_t answer)
 {
-    return (unsigned)(answer >> 32 & 0xFFFF);
+    return (unsigned)(answer >> 13 & 0x3FF);
 }
 
 /* Accepted: the number of term entries. */
 static inline unsigned gawipsol_read_terms(uint64_t answer)
 {
-    return (unsigned)(answer >> 48 & 0xFFFF);
+    return (unsigned)(answer >> 23 & 0xFFF);
 }
 
-/* The check. Accepted: `out` has the program's type in preorder, one kind byte an entry. */
-uint64_t check_packed(const uint8_t *file, size_t file_length,
-                      uint8_t *out, size_t out_length,
-                      uint8_t *work, size_t work_length);
+/* The check. Accepted: `out` has the program's type in preorder, one kind byte an entry. `work` is working memory. */
+uint64_t gawipsol_check(const uint8_t *file, size_t file_length,
+                        uint8_t *out, size_t out_length,
+                        uint8_t *work, size_t work_length);
 
 /* The kind bytes of a type. */
 enum gawipsol_type {
@@ -118,77 +113,97 @@ enum gawipsol_type {
     GAWIPSOL_CIRCUIT = 5   /* two parts */
 };
 
-/* An answer of check_packed: its number. */
-static inline unsigned gawipsol_check_number(uint64_t answer)
-{
-    return (unsigned)(answer & 0xFF);
-}
-
-/* Refused: the place. */
-static inline unsigned gawipsol_check_place(uint64_t answer)
-{
-    return (unsigned)(answer >> 8 & 0xFFFF);
-}
-
 /* Accepted: the length of the type, in bytes. */
 static inline size_t gawipsol_check_length(uint64_t answer)
 {
-    return (size_t)(answer >> 32 & 0xFFFF);
+    return (size_t)(answer >> 6 & 0xFFFF);
 }
 
 /*
  * The run: the check, then at most `limit` steps. Finished: `out` has the listing. All buffers after `out` are working
- * memory.
+ * memory; their least lengths are those of the arrays below.
  */
-uint64_t run_packed(const uint8_t *file, size_t file_length,
-                    uint32_t limit,
-                    uint8_t *out, size_t out_length,
-                    uint8_t *nodes, size_t nodes_length,
-                    uint8_t *stack, size_t stack_length,
-                    uint8_t *waiting, size_t waiting_length,
-                    uint8_t *labels, size_t labels_length,
-                    uint8_t *types, size_t types_length,
-                    uint8_t *frames, size_t frames_length,
-                    uint8_t *gates, size_t gates_length,
-                    uint8_t *closed, size_t closed_length,
-                    uint8_t *first, size_t first_length,
-                    uint8_t *second, size_t second_length,
-                    uint8_t *third, size_t third_length,
-                    uint8_t *fourth, size_t fourth_length);
+uint64_t gawipsol_run(const uint8_t *file, size_t file_length,
+                      uint32_t limit,
+                      uint8_t *out, size_t out_length,
+                      uint8_t *nodes, size_t nodes_length,
+                      uint8_t *stack, size_t stack_length,
+                      uint8_t *types, size_t types_length,
+                      uint8_t *frames, size_t frames_length,
+                      uint8_t *gates, size_t gates_length,
+                      uint8_t *closed, size_t closed_length,
+                      uint8_t *first, size_t first_length,
+                      uint8_t *second, size_t second_length,
+                      uint8_t *third, size_t third_length,
+                      uint8_t *fourth, size_t fourth_length);
+
+/* Finished: the number of gates. */
+static inline unsigned gawipsol_run_gates(uint64_t answer)
+{
+    return (unsigned)(answer >> 6 & 0xFFF);
+}
+
+/* Finished: the length of the listing, in bytes. */
+static inline size_t gawipsol_run_length(uint64_t answer)
+{
+    return (size_t)(answer >> 18 & 0x3FFF);
+}
+
+/* Finished: the number of steps. */
+static inline uint32_t gawipsol_run_steps(uint64_t answer)
+{
+    return (uint32_t)(answer >> 32);
+}
 
 /* The kind byte of an input in a listing, and the slot that holds no wire. */
 #define GAWIPSOL_BIT_INPUT 128
 #define GAWIPSOL_QUBIT_INPUT 129
 #define GAWIPSOL_NO_WIRE 65535
 
-/* An answer of run_packed: its number. */
-static inline unsigned gawipsol_run_number(uint64_t answer)
+/*
+ * The working memory of a run as one object, with each buffer in its least length, in the order in which they are lent. Its
+ * bytes need not be set before a call.
+ */
+struct gawipsol_machine {
+    uint8_t nodes[65536];
+    uint8_t stack[32768];
+    uint8_t types[1152];
+    uint8_t frames[32776];
+    uint8_t gates[32768];
+    uint8_t closed[2048];
+    uint8_t first[65536];
+    uint8_t second[65536];
+    uint8_t third[65536];
+    uint8_t fourth[65536];
+};
+
+/* The run in the memory of a machine. */
+static inline uint64_t gawipsol_run_in(struct gawipsol_machine *machine,
+                                       const uint8_t *file, size_t file_length,
+                                       uint32_t limit,
+                                       uint8_t *out, size_t out_length)
 {
-    return (unsigned)(answer & 0x1F);
+    return gawipsol_run(file, file_length,
+                        limit,
+                        out, out_length,
+                        machine->nodes, sizeof machine->nodes,
+                        machine->stack, sizeof machine->stack,
+                        machine->types, sizeof machine->types,
+                        machine->frames, sizeof machine->frames,
+                        machine->gates, sizeof machine->gates,
+                        machine->closed, sizeof machine->closed,
+                        machine->first, sizeof machine->first,
+                        machine->second, sizeof machine->second,
+                        machine->third, sizeof machine->third,
+                        machine->fourth, sizeof machine->fourth);
 }
 
-/* Refused: the place. */
-static inline unsigned gawipsol_run_place(uint64_t answer)
+/* The check in the memory of a machine, whose nodes are longer than its working memory has to be. */
+static inline uint64_t gawipsol_check_in(struct gawipsol_machine *machine,
+                                         const uint8_t *file, size_t file_length,
+                                         uint8_t *out, size_t out_length)
 {
-    return (unsigned)(answer >> 5 & 0xFFFF);
-}
-
-/* Finished: the number of gates. */
-static inline unsigned gawipsol_run_gates(uint64_t answer)
-{
-    return (unsigned)(answer >> 5 & 0xFFF);
-}
-
-/* Finished: the length of the listing, in bytes. */
-static inline size_t gawipsol_run_length(uint64_t answer)
-{
-    return (size_t)(answer >> 17 & 0x3FFF);
-}
-
-/* Finished: the number of steps. */
-static inline uint32_t gawipsol_run_steps(uint64_t answer)
-{
-    return (uint32_t)(answer >> 31);
+    return gawipsol_check(file, file_length, out, out_length, machine->nodes, sizeof machine->nodes);
 }
 
 #ifdef __cplusplus

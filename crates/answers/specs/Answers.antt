@@ -4,7 +4,7 @@ use Prim.Native.Nat.{ℕ}
 use mathlib.Core.Bool.{cond}
 use mathlib.Core.List.{List, _++_}
 use mathlib.Core.Option.{Option, none, some}
-use lib.ListN.{length, drop, replicate}
+use lib.ListN.{length, drop}
 use Rattle.rules.specs.Types.{Wire, isWireType}
 use Rattle.rules.specs.Terms.{Tuple, Gate}
 use Rattle.rules.specs.Circuits.{circuit}
@@ -12,13 +12,14 @@ use Rattle.rules.specs.Steps.{frame, Configuration, configuration, start}
 use Rattle.rules.specs.Sizes.{most-gates}
 use Rattle.rules.specs.Next.{tupleOf}
 use Rattle.rules.specs.Runs.{Ending, at-finish, still-running, does-not-fit, Reached, advanced}
-use Rattle.program.specs.declared.Refusal.{Refusal}
-use Rattle.program.specs.declared.Refusal.the-variants.{Run}
+use Rattle.lent.specs.Lent.{tooShort, bytesLeft}
+use Rattle.refusals.specs.declared.Refusal.{Refusal}
+use Rattle.refusals.specs.declared.Refusal.the-variants.{Run}
 use Rattle.typing.specs.Answers.{labelsOf, termOf, Judged, accepts, refuses, checkOf}
 use Rattle.listing.specs.Listing.{listing}
 use Rattle.answers.specs.declared.RunAnswer.{RunAnswer}
 use Rattle.answers.specs.declared.RunAnswer.the-variants.{Finished, Refused}
-use Rattle.answers.specs.Lengths.{tooShort}
+use Rattle.answers.specs.Lengths.{run-lengths}
 
 -- What a run whose buffers are long enough comes to: steps, gates and the bytes of the listing; or a refusal.
 pub data Ran : Type 0 where
@@ -63,14 +64,11 @@ abbrev pub outTo : List ℕ → Ran → List ℕ
 outTo out (ran steps gates bytes) = bytes ++ drop (length bytes) out
 outTo out (declines r) = out
 
--- The answer, and the final bytes of the buffers, with the lengths of all that were lent. "19, before all else: ... no buffer
--- is touched."
-unfoldable pub runAnswer : List ℕ → ℕ → List ℕ → RunAnswer
-runAnswer f limit lengths = let later = answerTo (runOf f limit) in cond (tooShort lengths) (Refused (Run 19 0)) later
+-- The answer, with the buffers that were lent: the output buffer, then the working memory. "19, before all else".
+unfoldable pub runAnswer : List ℕ → ℕ → List (List ℕ) → RunAnswer
+runAnswer f limit buffers =
+    let later = answerTo (runOf f limit) in cond (tooShort run-lengths buffers) (Refused (Run 19 0)) later
 
-unfoldable pub runOut : List ℕ → ℕ → List ℕ → List ℕ → List ℕ
-runOut f limit lengths out = let later = outTo out (runOf f limit) in cond (tooShort lengths) out later
-
--- "After any answer but 19, working memory is zero."
-unfoldable pub runWork : List ℕ → List ℕ → List ℕ
-runWork lengths work = cond (tooShort lengths) work (replicate (length work) 0)
+-- The final bytes of these buffers.
+abbrev pub runBytes : List ℕ → ℕ → List (List ℕ) → List (List ℕ)
+runBytes f limit buffers = bytesLeft run-lengths (λ out. outTo out (runOf f limit)) buffers

@@ -12,8 +12,8 @@ use Rattle.rules.specs.Circuits.{circuit}
 use Rattle.rules.specs.Steps.{frame, Configuration, configuration, start, _⟶_}
 use Rattle.rules.specs.Sizes.{most-gates, Fits, Row}
 use Rattle.rules.specs.Demand3.{Finished}
-use Rattle.program.specs.declared.Refusal.{Refusal}
-use Rattle.program.specs.declared.Refusal.the-variants.{Form, Typing, Run}
+use Rattle.refusals.specs.declared.Refusal.{Refusal}
+use Rattle.refusals.specs.declared.Refusal.the-variants.{Form, Typing, Run}
 use Rattle.typing.specs.Answers.{labelsOf, termOf, accepts, refuses, checkOf}
 use Rattle.listing.specs.Listing.{listing}
 use Rattle.answers.specs.Answers.{ran, declines, runOf}
@@ -64,17 +64,24 @@ pub record SizeExceeded (f : List ℕ) (limit : ℕ) : Type 0 where
   pub next-step : reached ⟶ following
   pub exceeds : Fits most-gates following → ⊥
 
--- "A refusal belongs to one of three families: form, typing or run". Those of the check are of the first two.
+-- 01: "A refusal belongs to one of three families: form, typing or run (1 to 9, 16 to 18, the rest)." Those of a reading are of
+-- the first.
+abbrev pub OfRead : Refusal → Type 0
+OfRead (Form number place) = (1 ≤ number) × (number ≤ 9)
+OfRead (Typing number place) = ⊥
+OfRead (Run number place) = ⊥
+
+-- Those of a check are of the first two: "a check first reads".
 abbrev pub OfCheck : Refusal → Type 0
-OfCheck (Form number place) = Unit {0}
-OfCheck (Typing number place) = Unit {0}
+OfCheck (Form number place) = OfRead (Form number place)
+OfCheck (Typing number place) = (16 ≤ number) × (number ≤ 18)
 OfCheck (Run number place) = ⊥
 
 -- Demand 2 of a run of the file with this limit: it gives each answer exactly where the rules say so, and no other answer.
 pub record RunMeans (f : List ℕ) (limit : ℕ) : Type 0 where
   pub finishes : (steps gates : ℕ) (bytes : List ℕ)
       → (runOf f limit ≡ ran steps gates bytes) ↔ Finishes f limit steps gates bytes
-  pub refused : (x : Refusal) → OfCheck x → (runOf f limit ≡ declines x) ↔ (checkOf f ≡ refuses x)
+  pub refused : (x : Refusal) → (checkOf f ≡ refuses x) ↔ ((runOf f limit ≡ declines x) × OfCheck x)
   pub twenty : (runOf f limit ≡ declines (Run 20 0)) ↔ NoWireType f
   pub twenty-one : (runOf f limit ≡ declines (Run 21 0)) ↔ LimitDone f limit
   pub twenty-two : (runOf f limit ≡ declines (Run 22 0)) ↔ SizeExceeded f limit

@@ -1,6 +1,5 @@
 pub mod Lengths
 pub mod Answers
 pub mod Demand2
-pub mod Packed
 pub mod Safe
 pub mod Theorems

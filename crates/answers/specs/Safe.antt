@@ -3,7 +3,7 @@ use Prim.Native.Nat.{ℕ}
 use mathlib.Core.Path.{_≡_}
 use mathlib.Core.List.{List, []}
 use lib.ListN.{length}
-use Rattle.rules.specs.Terms.{Tuple, Gate, Boxed, tuple}
+use Rattle.rules.specs.Terms.{Tuple, labels, Gate, Boxed, tuple}
 use Rattle.rules.specs.Circuits.{circuit, Sound, GoneOnce}
 use Rattle.rules.specs.Steps.{frame, configuration, start}
 use Rattle.rules.specs.Sizes.{most-gates, Row}
@@ -22,7 +22,7 @@ pub record ListedSound (f : List ℕ) (steps gates : ℕ) (bytes : List ℕ) : T
   pub bytes-are : bytes ≡ listing (circuit (labelsOf f) listed-gates) outputs
   pub gates-are : gates ≡ length listed-gates
   pub sound : Sound (labelsOf f) listed-gates
-  pub gone-once : GoneOnce (labelsOf f) listed-gates outputs
+  pub gone-once : GoneOnce (labelsOf f) listed-gates (labels outputs)
   pub closed-sound : ClosedSound closed
   pub by-the-rules : Row most-gates (start (labelsOf f) (termOf f)) steps
       (configuration (frame (circuit (labelsOf f) listed-gates) (tuple outputs)) [] closed)

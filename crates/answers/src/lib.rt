@@ -1,7 +1,5 @@
 // What a run has to answer (01, "When each operation says no", Run): the answer, its definitions and the theorems about them.
-pub mod packed;
-
-use program::Refusal;
+use refusals::Refusal;
 
 // What a run answers: steps, gates and the length of the listing that it wrote, or a refusal.
 pub enum RunAnswer {

@@ -85,12 +85,12 @@ pub record ConstantTyped (v : Tree) (k : Tuple) (T : Ty) (copied : List Gate) (y
   pub bounded : entries T ≤ most-entries
 
 -- What is known at the stop: the redex, the closed circuit with its number of earlier gates, the row of the frame, and bounds.
-pub record ConstantKnown (types : ℕ → Ty) (m : Memory) (x : Redex) (r : Registers) (n l : Node) (v : Tree) (hs : List Hole)
+pub record ConstantKnown (types : ℕ → Ty) (positions : ℕ) (m : Memory) (x : Redex) (r : Registers) (n l : Node) (v : Tree) (hs : List Hole)
     (I : List Wire) (gs : List Gate) (Cs : List Circuit) (K : List Boxed) (T : Ty) (copied : List Gate) (y : Tuple)
     (earlier : ℕ) : Type 0 where
   pub redex : SecondRedex (m .nodes) (m .stack) (r .place) (second n (leaf l)) (leaf l) v hs (x .at) (x .start)
   pub few-earlier : earlier + length copied ≤ closedGates K
-  pub held : HoldsBoxed types (m .gates) (m .closed) (m .results) (x .index) earlier T copied y
+  pub held : HoldsBoxed types positions (m .gates) (m .closed) (m .results) (x .index) earlier T copied y
   pub next-is : x .next ≡ wireCount (circuit I gs)
   pub base-is : x .base ≡ openGates Cs
   pub inputs-are : x .inputs ≡ length I

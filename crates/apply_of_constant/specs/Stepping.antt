@@ -55,7 +55,7 @@ module _ (types : ℕ → Ty) (positions : ℕ) (m : Memory) (x : Redex) (r : Re
       → length Cs ≡ openBoxes hs
       → circuitAt K (argument l) ≡ boxed T copied y
       → RedexRead (m .nodes) (m .stack) (m .gates) (m .closed) (m .frames) (r .place .depth - 1) (r .counts .frames - 1) x
-      → (earlier : ℕ) × ConstantKnown types m x r n l v hs I gs Cs K T copied y earlier
+      → (earlier : ℕ) × ConstantKnown types positions m x r n l v hs I gs Cs K T copied y earlier
   constant-known below boxes e read =
       let b = h .built in
       let redex : SecondRedex (m .nodes) (m .stack) (r .place) (second n (leaf l)) (leaf l) v hs (x .at) (x .start)
@@ -63,15 +63,15 @@ module _ (types : ℕ → Ty) (positions : ℕ) (m : Memory) (x : Redex) (r : Re
       (read .start-is) in
       let index : x .index ≡ argument l
       = read .index-is ∙ ap argument (first-leaf (m .nodes) (m .stack) (r .place) hs n l v (x .at) (h .walk-held) (read .at-is)) in
-      let found : ClosedAt types (m .gates) (m .closed) (m .results) (closedGates K) (x .index) (boxed T copied y)
+      let found : ClosedAt types positions (m .gates) (m .closed) (m .results) (closedGates K) (x .index) (boxed T copied y)
       = subst
-      (λ i. ClosedAt types (m .gates) (m .closed) (m .results) (closedGates K) i (boxed T copied y))
+      (λ i. ClosedAt types positions (m .gates) (m .closed) (m .results) (closedGates K) i (boxed T copied y))
       (sym index)
       (subst
-      (ClosedAt types (m .gates) (m .closed) (m .results) (closedGates K) (argument l))
+      (ClosedAt types positions (m .gates) (m .closed) (m .results) (closedGates K) (argument l))
       e
-      (closed-at types (m .gates) (m .closed) (m .results) K (argument l) (b .circuits-held .closed-held) below)) in
-      let held : HoldsBoxed types (m .gates) (m .closed) (m .results) (x .index) (found .0) T copied y = found .2 in
+      (closed-at types positions (m .gates) (m .closed) (m .results) K (argument l) (b .circuits-held .closed-held) below)) in
+      let held : HoldsBoxed types positions (m .gates) (m .closed) (m .results) (x .index) (found .0) T copied y = found .2 in
       let frame : r .counts .frames - 1 ≡ length Cs = omega (arith, b .counted .frames-are) in
       let top : rowAt (m .frames) (r .counts .frames - 1) ≡ row (openGates Cs) (wireCount (circuit I gs)) (length I) 0
       = ap (rowAt (m .frames)) frame ∙ b .frames-held .0 in
@@ -106,7 +106,7 @@ module _ (types : ℕ → Ty) (positions : ℕ) (m : Memory) (x : Redex) (r : Re
         },
       )
 
-  module _ (k : Tuple) (earlier : ℕ) (d : ConstantKnown types m x r n l v hs I gs Cs K T copied y earlier) where
+  module _ (k : Tuple) (earlier : ℕ) (d : ConstantKnown types positions m x r n l v hs I gs Cs K T copied y earlier) where
     -- The reduct has as many nodes as the result has words.
     reduct-size : length (preorder (tupleTree (returned (circuit I gs) k (boxed T copied y)))) ≡ x .nodes
     reduct-size = renamed-size (labels k) (wireCount (circuit I gs)) y ∙ sym (d .nodes-are)
@@ -224,7 +224,7 @@ module _ (types : ℕ → Ty) (positions : ℕ) (m : Memory) (x : Redex) (r : Re
       gates-copied =
           let fits : CopyFits (m .gates) (rowWord (rowAt (m .closed) (x .index)) 1) (rowWord (rowAt (m .closed) (x .index)) 2)
           (r .counts .gates) (length ls) found (x .next) (length (wires T ++ outputs copied))
-          = closed-copy-fits types (m .gates) (m .closed) (m .results) (x .index) earlier T copied y (r .counts .gates)
+          = closed-copy-fits types positions (m .gates) (m .closed) (m .results) (x .index) earlier T copied y (r .counts .gates)
           (length ls) found (x .next) (d .held) (typed .takes)
           (omega (arith, d .gates-are, room .gates-fit))
           (omega (arith, d .few-earlier, h .built .few-gates, h .built .roomy .gate-rows))
@@ -244,9 +244,9 @@ module _ (types : ℕ → Ty) (positions : ℕ) (m : Memory) (x : Redex) (r : Re
           (h .built .counted .gates-are)
           (subst (GatesCopied (m .gates) gs′ (x .first) (x .gates) (r .counts .gates) (take found ls)) (d .next-is) done)))
 
-      circuits-after : HoldsCircuits types gs′ (m .closed) (m .results) (appended (circuit I gs) k (boxed T copied y) ∷ Cs) K
+      circuits-after : HoldsCircuits types positions gs′ (m .closed) (m .results) (appended (circuit I gs) k (boxed T copied y) ∷ Cs) K
       circuits-after =
-          constant-applied types (m .gates) gs′ (m .closed) (m .results) I gs copied Cs K k y T (x .index) earlier ls found
+          constant-applied types positions (m .gates) gs′ (m .closed) (m .results) I gs copied Cs K k y T (x .index) earlier ls found
           (h .built .circuits-held)
           (d .held)
           labels-found
@@ -260,7 +260,7 @@ module _ (types : ℕ → Ty) (positions : ℕ) (m : Memory) (x : Redex) (r : Re
           let to = r .place .right - x .nodes in
           let fits : ResultFits y (length (wires T ++ outputs copied)) (m .results (x .index / slots-each))
           (slot-words * (x .index % slots-each)) (rowWord (rowAt (m .closed) (x .index)) 3) (length (m .nodes)) to (length ls) found (x .next)
-          = closed-result-fits types (m .gates) (m .closed) (m .results) (x .index) earlier T copied y
+          = closed-result-fits types positions (m .gates) (m .closed) (m .results) (x .index) earlier T copied y
           (length (wires T ++ outputs copied)) (length (m .nodes)) to (length ls) found (x .next) (d .held) (typed .below)
           (omega (arith, d .nodes-are, room .gap, room .inside))
           labels-enough

@@ -306,9 +306,9 @@ module _ {types : ℕ → Ty} {positions allowance : ℕ} {m : Memory} {r : Regi
         number-is-gate
 
     -- The circuits, with the gate in the innermost.
-    circuits-after : HoldsCircuits types gs′ (m .closed) (m .results) (grown ∷ Cs) K
+    circuits-after : HoldsCircuits types positions gs′ (m .closed) (m .results) (grown ∷ Cs) K
     circuits-after =
-        gate-applied types (m .gates) gs′ (m .closed) (m .results) I gs Cs K k (argument g) T U (put .0) (put .1)
+        gate-applied types positions (m .gates) gs′ (m .closed) (m .results) I gs Cs K k (argument g) T U (put .0) (put .1)
         (a .held .built .circuits-held)
         (a .gate-typed)
         (a .labels-many)

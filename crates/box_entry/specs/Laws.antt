@@ -8,8 +8,7 @@ use mathlib.Core.List.{List, [], _∷_, _++_}
 use lib.Dec.{T as IsTrue, leb}
 use lib.ListN.{length, set, take, drop, length-append}
 use borrow.Author.Tests.{leb-true, leb-false}
-use Rattle.rules.specs.Types.{Ty, isWireType, wires, entries, most-entries}
-use Rattle.rules.specs.GateCodes.{typeCodes}
+use Rattle.rules.specs.Types.{Ty, isWireType, wires, entries, most-entries, typeCodes}
 use Rattle.rules.specs.Terms.{tupleFrom, Boxed}
 use Rattle.rules.specs.Circuits.{Circuit}
 use Rattle.rules.specs.Sizes.{most-nodes}

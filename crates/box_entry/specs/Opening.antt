@@ -5,8 +5,7 @@ use mathlib.Core.Bool.{Bool, true, false}
 use mathlib.Core.List.{List, [], _∷_}
 use lib.Dec.{T as IsTrue}
 use lib.ListN.{length, drop}
-use Rattle.rules.specs.Types.{Ty, isWireType, wires, entries, most-entries}
-use Rattle.rules.specs.GateCodes.{typeCodes}
+use Rattle.rules.specs.Types.{Ty, isWireType, wires, entries, most-entries, typeCodes}
 use Rattle.rules.specs.Terms.{tupleFrom, Boxed}
 use Rattle.rules.specs.Circuits.{Circuit, circuit}
 use Rattle.rules.specs.Sizes.{most-nodes}

@@ -141,7 +141,7 @@ built-entered : (types : ℕ → Ty) (positions allowance : ℕ) (ns ns′ : Lis
     → wide ≡ length (wires (types (argument n)))
     → fs′
     ≡ set fs (r .counts .frames) (row (r .counts .gates % 65536) (wide % 65536) (wide % 65536) 0)
-    → HoldsBuilt types (memory ns′ rs′ gs cs fs′ ws results) (entered (r .place) (r .counts) e .counts)
+    → HoldsBuilt types positions (memory ns′ rs′ gs cs fs′ ws results) (entered (r .place) (r .counts) e .counts)
     (circuit (wires (types (argument n))) [] ∷ C ∷ Cs)
     K
 built-entered types positions allowance ns ns′ rs rs′ gs cs fs fs′ ws results r n k t hs C Cs K e wide b wide-is put =
@@ -153,7 +153,7 @@ built-entered types positions allowance ns ns′ rs rs′ gs cs fs fs′ ws resu
     (b .boxes) in
     let gates-are : r .counts .gates ≡ openGates (C ∷ Cs) = old .counted .gates-are in
     record {
-      circuits-held = box-entered types gs cs results (wires T) (C ∷ Cs) K (old .circuits-held);
+      circuits-held = box-entered types positions gs cs results (wires T) (C ∷ Cs) K (old .circuits-held);
       frames-held =
           frame-put fs fs′ (r .counts .frames) C Cs T (r .counts .gates) wide put (old .counted .frames-are) room gates-are
           (omega (arith, old .few-gates))

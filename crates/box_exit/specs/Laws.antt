@@ -11,7 +11,7 @@ use Rattle.rules.specs.Types.{Wire, Ty, most-entries}
 use Rattle.rules.specs.Terms.{Tuple, Gate, Boxed, boxed}
 use Rattle.rules.specs.Circuits.{Circuit, circuit}
 use Rattle.rules.specs.Sizes.{closedGates, most-nodes, most-gates, most-boxes}
-use Rattle.evaluation.specs.Trees.{Node, node, argument, Tree, leaf, preorder, tupleOfTree}
+use Rattle.evaluation.specs.Trees.{Node, node, argument, PositionFits, Tree, leaf, preorder, tupleOfTree}
 use Rattle.evaluation.specs.Holes.{Hole, opened, before, after}
 use Rattle.evaluation.specs.Walks.{evaluating, returning, at-exit, Stopped}
 use Rattle.evaluation.specs.States.{State, state, openGates}
@@ -115,12 +115,12 @@ walk-after ns ns′ rs p n b v hs at start number held redex at-is put =
     (omega arith))
 
 -- What the frame's row and the counts say of the innermost frame's circuit.
-innermost : (types : ℕ → Ty) (m : Memory) (r : Registers) (e : Exit) (I : List Wire) (gs : List Gate) (C : Circuit)
+innermost : (types : ℕ → Ty) (positions : ℕ) (m : Memory) (r : Registers) (e : Exit) (I : List Wire) (gs : List Gate) (C : Circuit)
     (Cs : List Circuit) (K : List Boxed)
-    → HoldsBuilt types m (r .counts) (circuit I gs ∷ C ∷ Cs) K
+    → HoldsBuilt types positions m (r .counts) (circuit I gs ∷ C ∷ Cs) K
     → ExitAt (m .stack) (m .frames) r e
     → Innermost e (r .counts) gs (C ∷ Cs) K
-innermost types m r e I gs C Cs K held x =
+innermost types positions m r e I gs C Cs K held x =
     let n = held .counted in
     let top : r .counts .frames - 1 ≡ length (C ∷ Cs) = omega (arith, n .frames-are) in
     let base : e .base ≡ openGates (C ∷ Cs)
@@ -133,17 +133,18 @@ innermost types m r e I gs C Cs K held x =
     }
 
 -- The circuit is closed: its gates, its row and its result stand where they are to stand.
-circuit-closed : (types : ℕ → Ty) (gs gs′ cs cs′ : List Row) (results results′ : ℕ → List ℕ) (e : Exit) (n : Counts)
+circuit-closed : (types : ℕ → Ty) (positions : ℕ) (gs gs′ cs cs′ : List Row) (results results′ : ℕ → List ℕ) (e : Exit) (n : Counts)
     (I : List Wire) (hs : List Gate) (Cs : List Circuit) (K : List Boxed) (position : ℕ) (k : Tuple)
-    → HoldsCircuits types gs cs results (circuit I hs ∷ Cs) K
+    → position < positions
+    → HoldsCircuits types positions gs cs results (circuit I hs ∷ Cs) K
     → Innermost e n hs Cs K
     → CircuitPut gs gs′ cs cs′ e n position
     → InSlot results results′ (length K) k (e .nodes)
     → openGates (circuit I hs ∷ Cs) + closedGates K ≤ most-gates
     → closed-from + most-gates ≤ length gs
     → length K < length cs
-    → HoldsCircuits types gs′ cs′ results′ Cs (boxed (types position) hs k ∷ K)
-circuit-closed types gs gs′ cs cs′ results results′ e n I hs Cs K position k held x put slot few rows room =
+    → HoldsCircuits types positions gs′ cs′ results′ Cs (boxed (types position) hs k ∷ K)
+circuit-closed types positions gs gs′ cs cs′ results results′ e n I hs Cs K position k real held x put slot few rows room =
     let base : e .base ≡ openGates Cs = x .base-is in
     let gates : e .gates ≡ length hs = x .gates-are in
     let to : closed-from + n .closed ≡ closed-from + closedGates K = ap (λ i. closed-from + i) (x .closed-are) in
@@ -158,7 +159,7 @@ circuit-closed types gs gs′ cs cs′ results results′ e n I hs Cs K position
     let low-nodes : e .nodes % 65536 ≡ length (tupleWords k) = omega arith in
     let row-is : cs′ ≡ set cs (length K) (row position (closed-from + closedGates K) (length hs) (length (tupleWords k)))
     = cc (put .row-put) in
-    box-left types gs gs′ cs cs′ results results′ I hs Cs K position k held
+    box-left types positions gs gs′ cs cs′ results results′ I hs Cs K position k real held
     (subst (λ i. GatesMoved gs gs′ i (length hs) (closed-from + closedGates K)) base
     (subst (λ i. GatesMoved gs gs′ (e .base) i (closed-from + closedGates K)) gates
     (subst (λ i. GatesMoved gs gs′ (e .base) (e .gates) i) to moved)))
@@ -197,18 +198,19 @@ slot-room results i size long few small =
     omega (arith, long (i / slots-each) buffer)
 
 -- The circuits and frames after box exit.
-built-after : (types : ℕ → Ty) (ns ns′ : List Node) (rs : List StackRow) (gs gs′ cs cs′ fs : List Row) (ws : List ℕ)
+built-after : (types : ℕ → Ty) (positions : ℕ) (ns ns′ : List Node) (rs : List StackRow) (gs gs′ cs cs′ fs : List Row) (ws : List ℕ)
     (results results′ : ℕ → List ℕ) (r : Registers) (e : Exit) (I : List Wire) (hs : List Gate) (C : Circuit)
     (Cs : List Circuit) (K : List Boxed) (position : ℕ) (k : Tuple)
-    → HoldsBuilt types (memory ns rs gs cs fs ws results) (r .counts) (circuit I hs ∷ C ∷ Cs) K
+    → position < positions
+    → HoldsBuilt types positions (memory ns rs gs cs fs ws results) (r .counts) (circuit I hs ∷ C ∷ Cs) K
     → ExitAt rs fs r e
     → CircuitPut gs gs′ cs cs′ e (r .counts) position
     → InSlot results results′ (length K) k (e .nodes)
     → length K < most-boxes
-    → HoldsBuilt types (memory ns′ rs gs′ cs′ fs ws results′) (afterExit r e .counts) (C ∷ Cs)
+    → HoldsBuilt types positions (memory ns′ rs gs′ cs′ fs ws results′) (afterExit r e .counts) (C ∷ Cs)
     (boxed (types position) hs k ∷ K)
-built-after types ns ns′ rs gs gs′ cs cs′ fs ws results results′ r e I hs C Cs K position k held exit-at put slot few =
-    let x = innermost types (memory ns rs gs cs fs ws results) r e I hs C Cs K held exit-at in
+built-after types positions ns ns′ rs gs gs′ cs cs′ fs ws results results′ r e I hs C Cs K position k real held exit-at put slot few =
+    let x = innermost types positions (memory ns rs gs cs fs ws results) r e I hs C Cs K held exit-at in
     let gates : openGates (circuit I hs ∷ C ∷ Cs) + closedGates K ≤ most-gates = held .few-gates in
     let gate-rows : 4096 ≤ length gs = held .roomy .gate-rows in
     let closed-rows : 256 ≤ length cs = held .roomy .closed-rows in
@@ -216,7 +218,7 @@ built-after types ns ns′ rs gs gs′ cs cs′ fs ws results results′ r e I h
     let same = saved-lengths results results′ (length K) k (slot .saved) (slot .inside) in
     record {
       circuits-held =
-          circuit-closed types gs gs′ cs cs′ results results′ e (r .counts) I hs (C ∷ Cs) K position k
+          circuit-closed types positions gs gs′ cs cs′ results results′ e (r .counts) I hs (C ∷ Cs) K position k real
           (held .circuits-held) x put slot gates (omega arith) (omega arith);
       frames-held = held .frames-held .2;
       counted = counts-after r e I hs C Cs K (types position) k (held .counted) x;
@@ -280,6 +282,8 @@ module _ (ns ns′ : List Node) (rs : List StackRow) (gs gs′ cs cs′ fs : Lis
       walk-after ns ns′ rs (r .place) n b v hs (e .at) (e .start) (length K) held redex (exit-at .at-is)
       (constant-put ∙ ap (λ i. set ns (r .place .right - 1) (node 32 i)) low) in
       let input : argument (nodeAt ns (e .at)) ≡ argument n = ap argument (redex .hole .node-is) in
+      let box-fits = stop .fits .0 .2 .0 in
+      let real : argument n < positions = subst (λ c. PositionFits c positions (argument n)) (box-fits .1) (box-fits .0 .1) in
       let slot = in-slot types positions A n b v hs (circuit I gates) (C ∷ Cs) K k stop redex q in (
         record {
           nodes-fit = omega (arith, walk .few, length-append (before hs) (node 32 (length K) ∷ after hs));
@@ -289,7 +293,7 @@ module _ (ns ns′ : List Node) (rs : List StackRow) (gs gs′ cs cs′ fs : Lis
         record {
           walk-held = walk;
           built =
-              built-after types ns ns′ rs gs gs′ cs cs′ fs ws results results′ r e I gates C Cs K (argument n) k
+              built-after types positions ns ns′ rs gs gs′ cs cs′ fs ws results results′ r e I gates C Cs K (argument n) k real
               (stop .held .built) exit-at (subst (CircuitPut gs gs′ cs cs′ e (r .counts)) input put) slot (omega arith);
           types-held = stop .held .types-held;
         },

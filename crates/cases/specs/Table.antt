@@ -4,21 +4,19 @@ use Prim.Native.Nat.{ℕ}
 use mathlib.Core.Path.{_≡_}
 use mathlib.Core.List.{List, [], _∷_}
 use mathlib.Core.Option.{Option, none, some}
-use Rattle.rules.specs.Types.{Wire}
-use Rattle.rules.specs.GateCodes.{typeCodes}
+use Rattle.rules.specs.Types.{Wire, typeCodes}
 use Rattle.rules.specs.Terms.{Term}
-use Rattle.rules.specs.Cases.{one-label, two-labels, c1 as c1-term, c2 as c2-term, c3 as c3-term, c4 as c4-term}
-use Rattle.rules.specs.Cases.{c5 as c5-term, c6 as c6-term, c7 as c7-term, c8 as c8-term, c9 as c9-term}
-use Rattle.rules.specs.Cases.{c10 as c10-term, c11 as c11-term, c12 as c12-term}
+use Rattle.rules.specs.CaseTerms.{one-label, two-labels, c1 as c1-term, c2 as c2-term, c3 as c3-term, c4 as c4-term}
+use Rattle.rules.specs.CaseTerms.{c5 as c5-term, c6 as c6-term, c7 as c7-term, c8 as c8-term, c9 as c9-term}
+use Rattle.rules.specs.CaseTerms.{c10 as c10-term, c11 as c11-term, c12 as c12-term}
 use Rattle.program.specs.Reading.{readOf}
-use Rattle.program.specs.Examples.{c1-file, sizes-file}
-use Rattle.program.specs.declared.Refusal.{Refusal}
-use Rattle.program.specs.declared.Refusal.the-variants.{Form, Typing, Run}
+use Rattle.program.specs.CaseFiles.{c1-file, c2-file, c3-file, c4-file, c5-file, c6-file, c7-file, c8-file, c9-file}
+use Rattle.program.specs.CaseFiles.{c10-file, c11-file, c12-file, sizes-file}
+use Rattle.refusals.specs.declared.Refusal.{Refusal}
+use Rattle.refusals.specs.declared.Refusal.the-variants.{Form, Typing, Run}
 use Rattle.program.specs.declared.ReadAnswer.{ReadAnswer}
 use Rattle.program.specs.declared.ReadAnswer.the-variants.{Accepted as Read, Refused as NotRead}
 use Rattle.typing.specs.Answers.{labelsOf, termOf, Judged, accepts, refuses, checkOf}
-use Rattle.typing.specs.Files.{c2-file, c3-file, c4-file, c5-file, c6-file, c7-file, c8-file, c9-file, c10-file}
-use Rattle.typing.specs.Files.{c11-file, c12-file}
 use Rattle.answers.specs.Answers.{Ran, ran, declines, runOf}
 
 -- What the check gives: "the type in preorder, one kind byte an entry"; or a refusal, with its number and place.

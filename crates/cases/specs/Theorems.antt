@@ -2,19 +2,21 @@
 use Prim.Native.Nat.{ℕ}
 use mathlib.Core.Path.{_≡_, refl, sym, _∙_, ap, ap₂}
 use mathlib.Core.Bool.{false, cond}
-use mathlib.Core.List.{List, [], _∷_, _++_, flatMap}
+use mathlib.Core.List.{List, [], _∷_, _++_, map, flatMap}
 use lib.ListN.{length, drop}
-use Rattle.rules.specs.GateCodes.{typeCodes, typeCodes-entries}
-use Rattle.program.specs.declared.Refusal.the-variants.{Run}
+use Rattle.rules.specs.Types.{typeCodes}
+use Rattle.rules.specs.Theorems.TypeCodes.{typeCodes-entries}
+use Rattle.lent.specs.Lent.{anyBelow, tooShort, zeroed, answered, bytesLeft}
+use Rattle.refusals.specs.declared.Refusal.the-variants.{Run}
 use Rattle.typing.specs.declared.CheckAnswer.the-variants.{Accepted, Refused}
-use Rattle.typing.specs.Answers.{Judged, accepts, refuses, checkOf, checkAnswer, checkOut, least-out}
-use Rattle.typing.specs.Answers.{tooShort as checkTooShort, answerTo as judgedAnswer, outTo as judgedOut}
-use Rattle.typing.specs.Layout.{least-work}
+use Rattle.typing.specs.Answers.{Judged, accepts, refuses, checkOf, checkAnswer, checkBytes}
+use Rattle.typing.specs.Answers.{answerTo as judgedAnswer, outTo as judgedOut}
+use Rattle.typing.specs.Lengths.{check-lengths}
 use Rattle.typing.specs.Files.{opened as check-opened}
 use Rattle.listing.specs.Listing.{listing}
 use Rattle.answers.specs.declared.RunAnswer.the-variants.{Refused as RunRefused}
-use Rattle.answers.specs.Lengths.{tooShort, least-lengths}
-use Rattle.answers.specs.Answers.{Ran, runOf, answerTo, outTo, runAnswer, runOut}
+use Rattle.answers.specs.Lengths.{run-lengths}
+use Rattle.answers.specs.Answers.{Ran, runOf, answerTo, outTo, runAnswer, runBytes}
 use Rattle.cases.specs.Table.{CheckResult, LimitedRun, limit_gives_, Case, checkedAs, RunsHold, Holds, AllHold}
 use Rattle.cases.specs.Table.{table, c1, c2, c3, c4, c5, c6, c7, c8, c9, c10, c11, c12, empty-file, sizes-alone}
 use Rattle.cases.specs.Answers.{checkAnswerTo, checkOutTo, RunsAnswer, Answers, AllAnswer}
@@ -102,52 +104,59 @@ same-out : (out : List ℕ) (j : Judged) → judgedOut out j ≡ checkOutTo out 
 same-out out (accepts A) = ap (λ n. typeCodes A ++ drop n out) (sym (typeCodes-entries A))
 same-out out (refuses r) = refl
 
-module _ (check-out : List ℕ) (check-work : ℕ) (run-out lengths : List ℕ)
-    (check-long : checkTooShort (length check-out) check-work ≡ false) (run-long : tooShort lengths ≡ false)
+module _ (check-buffers run-buffers : List (List ℕ))
+    (check-long : tooShort check-lengths check-buffers ≡ false) (run-long : tooShort run-lengths run-buffers ≡ false)
   where
-    -- The answer and the output buffer of a run, and of a check.
+    -- The answer and the buffers of a run, and of a check.
     run-answers : (f : List ℕ) (n : ℕ) (r : Ran)
         → runOf f n ≡ r
-        → (runAnswer f n lengths ≡ answerTo r) × (runOut f n lengths run-out ≡ outTo run-out r)
-    unfolding runAnswer runOut
+        → (runAnswer f n run-buffers ≡ answerTo r)
+        × (runBytes f n run-buffers ≡ answered (λ out. outTo out r) run-buffers)
+    unfolding runAnswer bytesLeft
     run-answers f n r e = (
       ap₂ (λ short x. cond short (RunRefused (Run 19 0)) (answerTo x)) run-long e,
-      ap₂ (λ short x. cond short run-out (outTo run-out x)) run-long e,
+      ap₂ (λ short x. cond short run-buffers (answered (λ out. outTo out x) run-buffers)) run-long e,
     )
+
+    -- What is written by a judgement, by what the table has of it, whatever the buffers.
+    same-buffers : (j : Judged) (buffers : List (List ℕ))
+        → answered (λ out. judgedOut out j) buffers ≡ answered (λ out. checkOutTo out (checkedAs j)) buffers
+    same-buffers j [] = refl
+    same-buffers j (out ∷ work) = ap (λ o. o ∷ map zeroed work) (same-out out j)
 
     check-answers : (f : List ℕ) (g : CheckResult)
         → checkedAs (checkOf f) ≡ g
-        → (checkAnswer f (length check-out) check-work ≡ checkAnswerTo g)
-        × (checkOut f check-out check-work ≡ checkOutTo check-out g)
-    unfolding checkAnswer checkOut
+        → (checkAnswer f check-buffers ≡ checkAnswerTo g)
+        × (checkBytes f check-buffers ≡ answered (λ out. checkOutTo out g) check-buffers)
+    unfolding checkAnswer bytesLeft
     check-answers f g e = (
       ap₂ (λ short x. cond short (Refused (Run 19 0)) x) check-long (same-answer (checkOf f) ∙ ap checkAnswerTo e),
-      ap₂ (λ short x. cond short check-out x) check-long (same-out check-out (checkOf f) ∙ ap (checkOutTo check-out) e),
+      ap₂ (λ short x. cond short check-buffers x) check-long
+          (same-buffers (checkOf f) check-buffers ∙ ap (λ g. answered (λ out. checkOutTo out g) check-buffers) e),
     )
 
     -- One case after the other.
-    runs-answer : (f : List ℕ) (rs : List LimitedRun)
-        → RunsHold f rs
-        → RunsAnswer check-out check-work run-out lengths f rs
+    runs-answer : (f : List ℕ) (rs : List LimitedRun) → RunsHold f rs → RunsAnswer check-buffers run-buffers f rs
     runs-answer f [] h = tt
     runs-answer f ((limit n gives r) ∷ more) h =
         let a = run-answers f n r (h .0) in (a .0, a .1, runs-answer f more (h .1))
 
-    answers : (c : Case) → Holds c → Answers check-out check-work run-out lengths c
+    answers : (c : Case) → Holds c → Answers check-buffers run-buffers c
     answers c h =
         let a = check-answers (c .file) (c .check) (h .1) in (a .0, a .1, runs-answer (c .file) (c .runs) (h .2))
 
-    all-answer : (cs : List Case) → AllHold cs → AllAnswer check-out check-work run-out lengths cs
+    all-answer : (cs : List Case) → AllHold cs → AllAnswer check-buffers run-buffers cs
     all-answer [] h = tt
     all-answer (c ∷ more) h = (answers c (h .0), all-answer more (h .1))
 
-    -- With buffers that are long enough every check and run of the table answers and writes what the table says.
-    pub table-answers : AllAnswer check-out check-work run-out lengths table
+    -- With buffers that are long enough every check and run of the table answers and leaves what the table says.
+    pub table-answers : AllAnswer check-buffers run-buffers table
     table-answers = all-answer table all-hold
 
--- With buffers of the least lengths.
-pub least-answers : (check-out run-out : List ℕ)
-    → length check-out ≡ least-out
-    → AllAnswer check-out least-work run-out least-lengths table
-least-answers check-out run-out e =
-    table-answers check-out least-work run-out least-lengths (ap (λ n. checkTooShort n least-work) e) refl
+-- With buffers of the least lengths, whatever they hold.
+pub least-answers : (check-buffers run-buffers : List (List ℕ))
+    → map length check-buffers ≡ check-lengths
+    → map length run-buffers ≡ run-lengths
+    → AllAnswer check-buffers run-buffers table
+least-answers check-buffers run-buffers e g =
+    table-answers check-buffers run-buffers (ap (anyBelow check-lengths) e) (ap (anyBelow run-lengths) g)

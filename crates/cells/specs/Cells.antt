@@ -2,11 +2,11 @@
 -- the cell of its second part, and the number of entries of the type.
 use Prim.Native.Nat.{ℕ, _+_, _*_, _≤_, _<_}
 use mathlib.Core.Path.{_≡_}
-use mathlib.Core.List.{List}
+use mathlib.Core.List.{List, [], _∷_}
 use mathlib.Core.Option.{Option, none, some}
 use lib.ListN.{length, getD}
-use Rattle.rules.specs.Types.{Wire, Ty, wire, _⊗_, _⊸_, !_, Circ, entries, most-entries}
-use Rattle.rules.specs.GateCodes.{wireCode}
+use Rattle.rules.specs.Types.{Wire, Ty, wire, _⊗_, _⊸_, !_, Circ, entries, most-entries, wireCode}
+use Rattle.memory.specs.Words.{putWords}
 use Rattle.cells.specs.declared.Ruled.{Ruled}
 use Rattle.cells.specs.declared.Ruled.the-variants.{Gives, Fails}
 use Rattle.cells.specs.declared.Parts.{Parts}
@@ -100,6 +100,23 @@ MeetsOne rule w w′ n a r = Room w n → (A : Ty) → Denotes w n a A → Given
 abbrev pub MeetsTwo : (Ty → Ty → Option Ty) → List ℕ → List ℕ → ℕ → ℕ → ℕ → Ruled → Type 0
 MeetsTwo rule w w′ n a b r =
     Room w n → (A B : Ty) → Denotes w n a A → Denotes w n b B → Given w w′ n (rule A B) r
+
+-- The words of a cell of this kind with two parts, and of a reusable type.
+abbrev pub cellOfTwo : List ℕ → ℕ → ℕ → ℕ → List ℕ
+cellOfTwo w kind a b = kind ∷ a ∷ b ∷ (1 + cellSize w a + cellSize w b) ∷ []
+
+abbrev pub cellOfReusable : List ℕ → ℕ → List ℕ
+cellOfReusable w a = 4 ∷ a ∷ 0 ∷ (1 + cellSize w a) ∷ []
+
+-- The bytes after a rule's function with this answer: cell n has these words where the rule gives it; else nothing changes.
+abbrev pub afterRule : Ruled → List ℕ → ℕ → List ℕ → List ℕ
+afterRule (Gives cell cells) m n vs = putWords 4 m n vs
+afterRule Fails m n vs = m
+
+-- The parts that were found, if there are any.
+abbrev pub PartsAre : ℕ → ℕ → Parts → Type 0
+PartsAre a b (Both first second) = (first ≡ a) × (second ≡ b)
+PartsAre a b Neither = Unit {0}
 
 -- The answer of the function that looks for the parts of a pair: their cells denote them.
 pub record BothGiven (w : List ℕ) (n : ℕ) (A B : Ty) (r : Parts) : Type 0 where

@@ -5,10 +5,9 @@ use mathlib.Core.Path.{_≡_, refl, sym, _∙_, ap, subst}
 use mathlib.Core.Bool.{Bool, true, false, _&&_}
 use mathlib.Core.List.{List}
 use Rattle.rules.specs.Types.{Wire, Ty, wire, !_, entries, isWireType, copyable}
-use Rattle.rules.specs.Types.{Wire-discrete, Ty-discrete}
-use Rattle.rules.specs.GateCodes.{wireCode}
+use Rattle.rules.specs.Types.{Wire-discrete, Ty-discrete, wireCode}
 use Rattle.rules.specs.Inference.{same, isYes}
-use Rattle.cells.specs.Cells.{cellKind, cellFirst, cellSecond, kindOf}
+use Rattle.cells.specs.Cells.{cellKind, cellFirst, cellSecond, cellSize, kindOf}
 use Rattle.cells.specs.Cells.{Denotes, wire-cell, pair-cell, function-cell, reusable-cell, circuit-cell}
 use Rattle.cells.specs.Cells.{Made, made-pair, made-function, made-circuit}
 use Rattle.cells.specs.Laws.{row-of, made-entries, made-kind}
@@ -105,6 +104,10 @@ denotes-one (reusable-cell r x) e = one-one (r .kind) (view e) (λ A′ x′. de
 denotes-one (circuit-cell r x y) e =
     two-one made-circuit (r .kind) (view e) (λ A′ x′. denotes-one x x′) (λ B′ y′. denotes-one y y′)
 
+-- How many of the entries that are left a cell may have: as many as its row says, at most all.
+abbrev pub shareOf : List ℕ → ℕ → ℕ → ℕ
+shareOf w i left = cellSize w i - (cellSize w i - left)
+
 -- The answer of comparing cells i and j, for types of at most so many entries.
 abbrev pub SaysSame : List ℕ → ℕ → ℕ → ℕ → Bool → Type 0
 SaysSame w most i j r =
@@ -142,21 +145,21 @@ module _ (w : List ℕ) (most i j : ℕ) where
   none-left r e n A B d d′ b = absurd (omega (arith, entries-positive A))
 
   pub first-differs : cellKind w i ≡ cellKind w j → 2 ≤ cellKind w i
-      → SaysSame w (most - 1) (cellFirst w i) (cellFirst w j) false
+      → SaysSame w (shareOf w (cellFirst w i) (most - 1)) (cellFirst w i) (cellFirst w j) false
       → SaysSame w most i j false
   first-differs e h first n A B d d′ b = go (alike e (view d) (view d′)) b
     where
       go : {A B : Ty} → Alike w n i j A B → entries A ≤ most → false ≡ same A B
       go (alike-wires α k) b = absurd (omega (arith, wire-kind α))
       go (alike-two {A = A} {C = C} {A′ = A′} {C′ = C′} m m′ k x y x′ y′) b =
-          let f = first n A A′ x x′ (omega (arith, made-entries m)) in
+          let f = first n A A′ x x′ (omega (arith, made-entries m, row-of x .size)) in
           different-same C C′ λ q. same-different A A′ f (made-first m m′ q)
       go (alike-one {A = A} {A′ = A′} k x x′) b =
-          let f = first n A A′ x x′ (omega arith) in
+          let f = first n A A′ x x′ (omega (arith, row-of x .size)) in
           different-same (! A) (! A′) λ q. same-different A A′ f (cc)
 
   pub first-alone : cellKind w i ≡ cellKind w j → cellKind w i ≡ 4
-      → SaysSame w (most - 1) (cellFirst w i) (cellFirst w j) true
+      → SaysSame w (shareOf w (cellFirst w i) (most - 1)) (cellFirst w i) (cellFirst w j) true
       → SaysSame w most i j true
   first-alone e h first n A B d d′ b = go (alike e (view d) (view d′)) b
     where
@@ -164,20 +167,20 @@ module _ (w : List ℕ) (most i j : ℕ) where
       go (alike-wires α k) b = absurd (omega (arith, wire-kind α))
       go (alike-two m m′ k x y x′ y′) b = absurd (made-not-reusable m (sym k ∙ h))
       go (alike-one {A = A} {A′ = A′} k x x′) b =
-          let f = first n A A′ x x′ (omega arith) in
+          let f = first n A A′ x x′ (omega (arith, row-of x .size)) in
           equal-same (! A) (! A′) (ap !_ (same-equal A A′ f))
 
   pub then-second : (r : Bool) → cellKind w i ≡ cellKind w j → 2 ≤ cellKind w i → (cellKind w i ≡ 4 → ⊥)
-      → SaysSame w (most - 1) (cellFirst w i) (cellFirst w j) true
-      → SaysSame w (most - 1) (cellSecond w i) (cellSecond w j) r
+      → SaysSame w (shareOf w (cellFirst w i) (most - 1)) (cellFirst w i) (cellFirst w j) true
+      → SaysSame w (most - 1 - shareOf w (cellFirst w i) (most - 1)) (cellSecond w i) (cellSecond w j) r
       → SaysSame w most i j r
   then-second r e h h′ first second n A B d d′ b = go (alike e (view d) (view d′)) b
     where
       go : {A B : Ty} → Alike w n i j A B → entries A ≤ most → r ≡ same A B
       go (alike-wires α k) b = absurd (omega (arith, wire-kind α))
       go (alike-two {A = A} {B = B} {C = C} {A′ = A′} {B′ = B′} {C′ = C′} m m′ k x y x′ y′) b =
-          let f = first n A A′ x x′ (omega (arith, made-entries m)) in
-          let s = second n B B′ y y′ (omega (arith, made-entries m)) in
+          let f = first n A A′ x x′ (omega (arith, made-entries m, row-of x .size)) in
+          let s = second n B B′ y y′ (omega (arith, made-entries m, row-of x .size)) in
           as-second m m′ r (same-equal A A′ f) s
       go (alike-one {A = A} {A′ = A′} k x x′) b = absurd (h′ k)
 
@@ -208,7 +211,7 @@ module _ (w : List ℕ) (most i : ℕ) where
   no-wire-entries r e n A d b = absurd (omega (arith, entries-positive A))
 
   pub first-no-wire : cellKind w i ≡ 2
-      → SaysWireType w (most - 1) (cellFirst w i) false
+      → SaysWireType w (shareOf w (cellFirst w i) (most - 1)) (cellFirst w i) false
       → SaysWireType w most i false
   first-no-wire e first n A d b = go (view d) b
     where
@@ -219,13 +222,13 @@ module _ (w : List ℕ) (most i : ℕ) where
 
       go : {A : Ty} → View w n i A → entries A ≤ most → false ≡ isWireType A
       go (no-part α k) b = absurd (omega (arith, wire-kind α))
-      go (two-parts {A = A} m k x y) b = made m (sym k ∙ e) (first n A x (omega (arith, made-entries m)))
+      go (two-parts {A = A} m k x y) b = made m (sym k ∙ e) (first n A x (omega (arith, made-entries m, row-of x .size)))
       go (one-part k x) b = refl
 
   pub then-second-wire : (r : Bool)
       → cellKind w i ≡ 2
-      → SaysWireType w (most - 1) (cellFirst w i) true
-      → SaysWireType w (most - 1) (cellSecond w i) r
+      → SaysWireType w (shareOf w (cellFirst w i) (most - 1)) (cellFirst w i) true
+      → SaysWireType w (most - 1 - shareOf w (cellFirst w i) (most - 1)) (cellSecond w i) r
       → SaysWireType w most i r
   then-second-wire r e first second n A d b = go (view d) b
     where
@@ -238,8 +241,8 @@ module _ (w : List ℕ) (most i : ℕ) where
       go (no-part α k) b = absurd (omega (arith, wire-kind α))
       go (two-parts {A = A} {B = B} m k x y) b =
           made m (sym k ∙ e)
-          (first n A x (omega (arith, made-entries m)))
-          (second n B y (omega (arith, made-entries m)))
+          (first n A x (omega (arith, made-entries m, row-of x .size)))
+          (second n B y (omega (arith, made-entries m, row-of x .size)))
       go (one-part k x) b = absurd (omega arith)
 
 -- The test for a type that may be copied, by the kind.

@@ -8,9 +8,10 @@ use mathlib.Core.List.{List, [], _∷_}
 use mathlib.Core.Option.{none, some}
 use lib.ListN.{length, getD}
 use lib.Dec.{leb, leb→le}
-use Rattle.rules.specs.Types.{Bit, Qubit, Ty, wire, Circ, entries}
-use Rattle.rules.specs.Gates.{GateType, _to_, nth, gateTable, gateType}
-use Rattle.rules.specs.GateCodes.{typeCodes, codeAt, circCodes, isGate, isSome, typeEntries, typeCode, typeCodes-entries, most-type}
+use Rattle.rules.specs.Types.{Bit, Qubit, Ty, wire, Circ, entries, typeCodes}
+use Rattle.rules.specs.Gates.{GateType, _to_, nth, gateTable, gateType, isGate, isSome}
+use Rattle.rules.specs.GateCodes.{codeAt, circCodes, typeEntries, typeCode, most-type}
+use Rattle.rules.specs.Theorems.TypeCodes.{typeCodes-entries}
 use Rattle.rules.proofs.GateTable.{at-each}
 use Rattle.cells.specs.Cells.{Denotes}
 use Rattle.cells.specs.Laws.{denotes-kept, entries-positive}

@@ -3,8 +3,7 @@ use Prim.Native.Nat.{ℕ, _+_, _*_, _≤_, _<_}
 use native.Mathlib.Omega.{arith}
 use mathlib.Core.Path.{_≡_, refl, sym, _∙_, subst}
 use mathlib.Core.List.{List}
-use Rattle.rules.specs.Types.{Wire, Bit, Qubit, Ty, wire, _⊗_, _⊸_, !_, Circ, entries}
-use Rattle.rules.specs.GateCodes.{wireCode}
+use Rattle.rules.specs.Types.{Wire, Bit, Qubit, Ty, wire, _⊗_, _⊸_, !_, Circ, entries, wireCode}
 use Rattle.rules.specs.Inference.{same}
 use Rattle.cells.specs.Cells.{cellKind, cellFirst, cellSecond, Row, Agree}
 use Rattle.cells.specs.Cells.{Denotes, wire-cell, pair-cell, function-cell, reusable-cell, circuit-cell}

@@ -10,7 +10,9 @@ use lib.Seq.{getD-append-add}
 use lib.Dec.{ltb, eqb}
 use borrow.Author.Tests.{lt-ltb, le-ltb, ne-eqb}
 use Rattle.rules.specs.Types.{Wire, Bit, Qubit, Ty, wire, _⊗_, _⊸_, !_, Circ, entries, most-entries}
-use Rattle.rules.specs.GateCodes.{wireCode, typeCodes, codeAt, typeCodes-entries}
+use Rattle.rules.specs.Types.{wireCode, typeCodes}
+use Rattle.rules.specs.GateCodes.{codeAt}
+use Rattle.rules.specs.Theorems.TypeCodes.{typeCodes-entries}
 use Rattle.cells.specs.Cells.{cellSize, Denotes, Agree, Room, Made, made-pair, made-function, made-circuit}
 use Rattle.cells.specs.Laws.{row-of, agree-refl, agree-less, agree-trans, denotes-kept, made-entries}
 use Rattle.cells.specs.Laws.{entries-positive}

@@ -1,44 +1,59 @@
 -- A cell that is written: row n of four words.
-use Prim.Native.Nat.{ℕ, _+_, _*_, _%_, _≤_, _<_}
+use Prim.Native.Nat.{ℕ, suc, _+_, _*_, _/_, _%_, _≤_, _<_}
 use native.Mathlib.Omega.{arith}
-use mathlib.Core.Path.{_≡_, refl, sym, _∙_, subst}
+use native.Mathlib.Decide.{decLt}
+use mathlib.Core.Path.{_≡_, refl, sym, _∙_, ap, subst}
 use mathlib.Core.Logic.{_≢_}
-use mathlib.Core.List.{List}
+use mathlib.Core.List.{List, [], _∷_}
 use lib.ListN.{length, getD, set, length-set}
-use lib.Seq.{getD-set-same, getD-set-other, set-out}
-use Rattle.rules.specs.Types.{Wire, Bit, Qubit, Ty, wire, _⊗_, _⊸_, !_, Circ, entries, most-entries}
-use Rattle.rules.specs.GateCodes.{wireCode}
+use lib.Seq.{getD-set-same, getD-set-other}
+use Rattle.memory.specs.Words.{words, putWords, setWords}
+use Rattle.memory.specs.Laws.{put-view, set-within, set-past, length-set-words}
+use Rattle.rules.specs.Types.{Wire, Bit, Qubit, Ty, wire, _⊗_, _⊸_, !_, Circ, entries, most-entries, wireCode}
 use Rattle.cells.specs.Cells.{cellKind, cellFirst, cellSecond, cellSize, kindOf, Row, Agree, Room}
 use Rattle.cells.specs.Cells.{Denotes, wire-cell, pair-cell, function-cell, reusable-cell, circuit-cell}
 use Rattle.cells.specs.Cells.{Made, made-pair, made-function, made-circuit}
 use Rattle.cells.specs.Laws.{row-of, denotes-kept}
 
-abbrev pub withOne : List ℕ → ℕ → ℕ → List ℕ
-withOne w n kind = set w (4 * n) (kind % 65536)
-
-abbrev pub withTwo : List ℕ → ℕ → ℕ → ℕ → List ℕ
-withTwo w n kind first = set (withOne w n kind) (4 * n + 1) (first % 65536)
-
-abbrev pub withThree : List ℕ → ℕ → ℕ → ℕ → ℕ → List ℕ
-withThree w n kind first second = set (withTwo w n kind first) (4 * n + 2) (second % 65536)
-
 -- The words with row n written; a word has 16 bits.
 unfoldable pub withCell : List ℕ → ℕ → ℕ → ℕ → ℕ → ℕ → List ℕ
-withCell w n kind first second size = set (withThree w n kind first second) (4 * n + 3) (size % 65536)
+withCell w n kind first second size = setWords 4 w n (kind ∷ first ∷ second ∷ size ∷ [])
+
+-- Where the four words of a cell are put, the words are these.
+pub cell-put : (m m′ : List ℕ) (n kind first second size : ℕ)
+    → m′ ≡ putWords 4 m n (kind ∷ first ∷ second ∷ size ∷ [])
+    → words m′ ≡ withCell (words m) n kind first second size
+unfolding withCell
+cell-put m m′ n kind first second size e =
+    ap words e ∙ put-view 4 m n (kind ∷ first ∷ second ∷ size ∷ []) (omega arith)
+
+-- The four words, one after another.
+abbrev withOne : List ℕ → ℕ → ℕ → List ℕ
+withOne w n kind = set w (4 * n) (kind % 65536)
+
+abbrev withTwo : List ℕ → ℕ → ℕ → ℕ → List ℕ
+withTwo w n kind first = set (withOne w n kind) (4 * n + 1) (first % 65536)
+
+abbrev withThree : List ℕ → ℕ → ℕ → ℕ → ℕ → List ℕ
+withThree w n kind first second = set (withTwo w n kind first) (4 * n + 2) (second % 65536)
 
 module _ (w : List ℕ) (n kind first second size : ℕ) where
   pub length-withCell : length (withCell w n kind first second size) ≡ length w
   unfolding withCell
-  length-withCell = simp length-set
+  length-withCell = length-set-words 4 w n (kind ∷ first ∷ second ∷ size ∷ [])
 
-  -- Past the end of the buffer nothing changes.
-  pub past-the-end : length w ≤ 4 * n → withCell w n kind first second size ≡ w
+  cell-there : n < length w / 4
+      → withCell w n kind first second size ≡ set (withThree w n kind first second) (4 * n + 3) (size % 65536)
   unfolding withCell
-  past-the-end h =
-      set-out (withThree w n kind first second) (4 * n + 3) (size % 65536) (simp length-set (omega arith))
-      ∙ set-out (withTwo w n kind first) (4 * n + 2) (second % 65536) (simp length-set (omega arith))
-      ∙ set-out (withOne w n kind) (4 * n + 1) (first % 65536) (simp length-set (omega arith))
-      ∙ set-out w (4 * n) (kind % 65536) (omega arith)
+  cell-there h =
+      let one : 4 * n + 1 ≡ suc (4 * n) = omega arith in
+      let two : 4 * n + 2 ≡ suc (suc (4 * n)) = omega arith in
+      let three : 4 * n + 3 ≡ suc (suc (suc (4 * n))) = omega arith in
+      rw (three, two, one) (set-within 4 w n (kind ∷ first ∷ second ∷ size ∷ []) h)
+
+  cell-past : length w / 4 ≤ n → withCell w n kind first second size ≡ w
+  unfolding withCell
+  cell-past h = set-past 4 w n (kind ∷ first ∷ second ∷ size ∷ []) h
 
   -- No word of another row changes.
   other-word : (k : ℕ)
@@ -47,12 +62,16 @@ module _ (w : List ℕ) (n kind first second size : ℕ) where
       → k ≢ 4 * n + 2
       → k ≢ 4 * n + 3
       → getD (withCell w n kind first second size) k 0 ≡ getD w k 0
-  unfolding withCell
-  other-word k h0 h1 h2 h3 =
-      getD-set-other (withThree w n kind first second) (4 * n + 3) k (size % 65536) 0 h3
-      ∙ getD-set-other (withTwo w n kind first) (4 * n + 2) k (second % 65536) 0 h2
-      ∙ getD-set-other (withOne w n kind) (4 * n + 1) k (first % 65536) 0 h1
-      ∙ getD-set-other w (4 * n) k (kind % 65536) 0 h0
+  other-word k h0 h1 h2 h3 = of (decLt n (length w / 4))
+    where
+      of : Dec (n < length w / 4) → getD (withCell w n kind first second size) k 0 ≡ getD w k 0
+      of (yes h) =
+          ap (λ l. getD l k 0) (cell-there h)
+          ∙ getD-set-other (withThree w n kind first second) (4 * n + 3) k (size % 65536) 0 h3
+          ∙ getD-set-other (withTwo w n kind first) (4 * n + 2) k (second % 65536) 0 h2
+          ∙ getD-set-other (withOne w n kind) (4 * n + 1) k (first % 65536) 0 h1
+          ∙ getD-set-other w (4 * n) k (kind % 65536) 0 h0
+      of (no h) = ap (λ l. getD l k 0) (cell-past (omega arith))
 
   pub word-above-row : (k : ℕ) → 4 * n + 4 ≤ k → getD (withCell w n kind first second size) k 0 ≡ getD w k 0
   word-above-row k h = other-word k (omega arith) (omega arith) (omega arith) (omega arith)
@@ -64,34 +83,37 @@ module _ (w : List ℕ) (n kind first second size : ℕ) where
 
   -- The row that was written.
   module _ (room : 4 * n + 4 ≤ length w) where
+    there : withCell w n kind first second size ≡ set (withThree w n kind first second) (4 * n + 3) (size % 65536)
+    there = cell-there (omega arith)
+
     pub kind-written : kind < 65536 → cellKind (withCell w n kind first second size) n ≡ kind
-    unfolding withCell
     kind-written h =
-        getD-set-other (withThree w n kind first second) (4 * n + 3) (4 * n) (size % 65536) 0 (omega arith)
+        ap (λ l. getD l (4 * n) 0) there
+        ∙ getD-set-other (withThree w n kind first second) (4 * n + 3) (4 * n) (size % 65536) 0 (omega arith)
         ∙ getD-set-other (withTwo w n kind first) (4 * n + 2) (4 * n) (second % 65536) 0 (omega arith)
         ∙ getD-set-other (withOne w n kind) (4 * n + 1) (4 * n) (first % 65536) 0 (omega arith)
         ∙ getD-set-same w (4 * n) (kind % 65536) 0 (omega arith)
         ∙ omega arith
 
     pub first-written : first < 65536 → cellFirst (withCell w n kind first second size) n ≡ first
-    unfolding withCell
     first-written h =
-        getD-set-other (withThree w n kind first second) (4 * n + 3) (4 * n + 1) (size % 65536) 0 (omega arith)
+        ap (λ l. getD l (4 * n + 1) 0) there
+        ∙ getD-set-other (withThree w n kind first second) (4 * n + 3) (4 * n + 1) (size % 65536) 0 (omega arith)
         ∙ getD-set-other (withTwo w n kind first) (4 * n + 2) (4 * n + 1) (second % 65536) 0 (omega arith)
         ∙ getD-set-same (withOne w n kind) (4 * n + 1) (first % 65536) 0 (simp length-set (omega arith))
         ∙ omega arith
 
     pub second-written : second < 65536 → cellSecond (withCell w n kind first second size) n ≡ second
-    unfolding withCell
     second-written h =
-        getD-set-other (withThree w n kind first second) (4 * n + 3) (4 * n + 2) (size % 65536) 0 (omega arith)
+        ap (λ l. getD l (4 * n + 2) 0) there
+        ∙ getD-set-other (withThree w n kind first second) (4 * n + 3) (4 * n + 2) (size % 65536) 0 (omega arith)
         ∙ getD-set-same (withTwo w n kind first) (4 * n + 2) (second % 65536) 0 (simp length-set (omega arith))
         ∙ omega arith
 
     pub size-written : size < 65536 → cellSize (withCell w n kind first second size) n ≡ size
-    unfolding withCell
     size-written h =
-        getD-set-same (withThree w n kind first second) (4 * n + 3) (size % 65536) 0 (simp length-set (omega arith))
+        ap (λ l. getD l (4 * n + 3) 0) there
+        ∙ getD-set-same (withThree w n kind first second) (4 * n + 3) (size % 65536) 0 (simp length-set (omega arith))
         ∙ omega arith
 
     -- It is the row of a type of this kind and size.

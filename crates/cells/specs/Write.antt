@@ -5,11 +5,12 @@ use mathlib.Core.Path.{_≡_, refl, sym, _∙_, ap, ap₂}
 use mathlib.Core.List.{List, [], _∷_, _++_}
 use lib.ListN.{length, set, drop, length-set}
 use lib.Seq.{sets, sets-eq}
-use Rattle.rules.specs.Types.{Ty, entries}
-use Rattle.rules.specs.GateCodes.{wireCode, typeCodes, typeCodes-entries}
+use Rattle.rules.specs.Types.{Ty, entries, wireCode, typeCodes}
+use Rattle.rules.specs.Theorems.TypeCodes.{typeCodes-entries}
 use Rattle.cells.specs.Cells.{cellKind, cellFirst, cellSecond, Denotes, Made, made-pair, made-function, made-circuit}
 use Rattle.cells.specs.Laws.{View, no-part, one-part, two-parts, view, wire-kind, made-entries, made-kind}
-use Rattle.cells.specs.Laws.{made-not-reusable, entries-positive}
+use Rattle.cells.specs.Laws.{row-of, made-not-reusable, entries-positive}
+use Rattle.cells.specs.Compare.{shareOf}
 
 -- The codes of A stand in front, what was behind them is as it was, and the answer is how many they are.
 pub record Wrote (out out′ : List ℕ) (A : Ty) (r : ℕ) : Type 0 where
@@ -67,7 +68,7 @@ module _ (w : List ℕ) (most i at : ℕ) (out : List ℕ) where
   headed = set out at (cellKind w i % 256)
 
   pub wrote-one : (out′ : List ℕ) (r : ℕ) → cellKind w i ≡ 4
-      → SaysWroteAt w (most - 1) (cellFirst w i) (at + 1) headed out′ r
+      → SaysWroteAt w (shareOf w (cellFirst w i) (most - 1)) (cellFirst w i) (at + 1) headed out′ r
       → SaysWroteAt w most i at out out′ r
   wrote-one out′ r h first n A d f b = go (view d) f b
     where
@@ -77,16 +78,16 @@ module _ (w : List ℕ) (most i at : ℕ) (out : List ℕ) where
       go (one-part {A = A} k x) f b =
           let e : cellKind w i % 256 ≡ 4 = omega arith in
           let p : at + 1 ≡ suc at = omega arith in
-          let z = first n A x (omega arith) (omega (arith, length-set out at (cellKind w i % 256))) in
+          let z = first n A x (omega (arith, row-of x .size)) (omega (arith, length-set out at (cellKind w i % 256))) in
           record {
             codes = z .codes ∙ ap₂ (λ q j. sets (set out at q) j (typeCodes A)) e p;
             next = z .next ∙ omega arith;
           }
 
   pub wrote-two : (out₁ out₂ : List ℕ) (next r : ℕ) → 2 ≤ cellKind w i → (cellKind w i ≡ 4 → ⊥)
-      → SaysWroteAt w (most - 1) (cellFirst w i) (at + 1) headed out₁ next
+      → SaysWroteAt w (shareOf w (cellFirst w i) (most - 1)) (cellFirst w i) (at + 1) headed out₁ next
       → length out₁ ≡ length out
-      → SaysWroteAt w (most - 1) (cellSecond w i) next out₁ out₂ r
+      → SaysWroteAt w (most - 1 - shareOf w (cellFirst w i) (most - 1)) (cellSecond w i) next out₁ out₂ r
       → SaysWroteAt w most i at out out₂ r
   wrote-two out₁ out₂ next r h h′ first l second n A d f b = go (view d) f b
     where
@@ -95,8 +96,8 @@ module _ (w : List ℕ) (most i at : ℕ) (out : List ℕ) where
       go (one-part k x) f b = absurd (h′ k)
       go (two-parts {k = kind} {A = A} {B = B} {C = C} m k x y) f b =
           let s = made-entries m in
-          let z = first n A x (omega arith) (omega (arith, length-set out at (cellKind w i % 256))) in
-          let v = second n B y (omega arith) (omega (arith, z .next)) in
+          let z = first n A x (omega (arith, row-of x .size)) (omega (arith, length-set out at (cellKind w i % 256))) in
+          let v = second n B y (omega (arith, row-of x .size)) (omega (arith, z .next)) in
           let e : cellKind w i % 256 ≡ kind = omega (arith, made-byte m) in
           let p : at + 1 ≡ suc at = omega arith in
           let q : next ≡ suc at + length (typeCodes A) = omega (arith, z .next, typeCodes-entries A) in

@@ -4,14 +4,14 @@
 ghost use Prim.Native.Nat.{ℕ, _+_, _*_, _-_, _≤_, _<_};
 ghost use mathlib.Core.Path.{_≡_};
 ghost use lib.ListN.{length, getD};
-ghost use Rattle.memory.specs.Words.{words};
+ghost use mathlib.Core.List.{[], _∷_};
+ghost use Rattle.memory.specs.Words.{words, putWords};
 ghost use Rattle.rules.specs.Types.{Ty, copyable};
 ghost use Rattle.rules.specs.Inference.{asPair, asReusable};
 ghost use Rattle.rules.specs.Inference.{abstractionType, applicationType, pairType, liftType, boxType, applyType};
 ghost use Rattle.cells.specs.Cells.{cellKind, cellFirst, cellSecond, cellSize, Denotes};
-ghost use Rattle.cells.specs.Cells.{MeetsOne, MeetsTwo, PartsGiven};
-ghost use Rattle.cells.specs.Compare.{SaysSame, SaysWireType};
-ghost use Rattle.cells.specs.Rows.{withCell};
+ghost use Rattle.cells.specs.Cells.{MeetsOne, MeetsTwo, PartsGiven, PartsAre, cellOfTwo, cellOfReusable, afterRule};
+ghost use Rattle.cells.specs.Compare.{shareOf, SaysSame, SaysWireType};
 ghost use Rattle.cells.specs.Rules.{SaysSameType, SaysIsWireType, MakesTwo, GivesResult, SaysBox};
 ghost use Rattle.rules.specs.GateCodes.{typeEntries, typeCode};
 ghost use Rattle.cells.specs.Load.{entrySize, loadEntry, loadCodes, TypesLoaded};
@@ -77,20 +77,19 @@ pub fn cell_second(work: &[u8], i: usize) -> usize
     column(work, i, 2)
 }
 
-pub fn cell_size(work: &[u8], i: usize) -> usize
+fn cell_size(work: &[u8], i: usize) -> usize
     ensures { λ r. ⌜ r ≡ cellSize (words (now (work .entry))) i ⌝ }
     ensures { λ r. ⌜ r < 65536 ⌝ }
 {
     column(work, i, 3)
 }
 
-// Row n becomes this cell; where the buffer has no such row, nothing changes. What the cell then denotes: wire-written,
-// one-part-written and two-parts-written of specs/Rows.antt.
+// Row n becomes this cell; where the buffer has no such row, nothing changes. The words then: cell-put of specs/Rows.antt.
+// What the cell then denotes: wire-written, one-part-written and two-parts-written there.
 pub fn new_cell(work: &mut [u8], n: usize, kind: usize, first: usize, second: usize, size: usize)
-    ensures { λ r. ⌜ words (now (work .exit)) ≡ withCell (words (now (work .entry))) n kind first second size ⌝ }
-    ensures { λ r. ⌜ length (now (work .exit)) ≡ length (now (work .entry)) ⌝ }
+    ensures { λ r. ⌜ now (work .exit) ≡ putWords 4 (now (work .entry)) n (kind ∷ first ∷ second ∷ size ∷ []) ⌝ }
 {
-    if work.len() / 8 < n {
+    if work.len() / 8 <= n {
         return;
     }
     memory::put(work, 4 * n, kind);
@@ -99,7 +98,19 @@ pub fn new_cell(work: &mut [u8], n: usize, kind: usize, first: usize, second: us
     memory::put(work, 4 * n + 3, size);
 }
 
-// Are the types of two cells the same, of at most so many entries?
+// How many of the entries that are left a cell may have: as many as its row says, at most all.
+fn share(work: &[u8], i: usize, left: usize) -> usize
+    ensures { λ r. ⌜ r ≡ shareOf (words (now (work .entry))) i left ⌝ }
+{
+    let size = cell_size(work, i);
+    if size < left {
+        return size;
+    }
+    left
+}
+
+// Are the types of two cells the same, of at most so many entries? A call with n entries gives its first part s of the
+// n - 1 that are left and its second part n - 1 - s, so there are at most 2 * n + 1 calls, whatever the buffer holds.
 fn same_within(work: &[u8], i: usize, j: usize, most: usize) -> bool
     ensures { λ r. ⌜ SaysSame (words (now (work .entry))) most i j r ⌝ }
 {
@@ -116,23 +127,30 @@ fn same_within(work: &[u8], i: usize, j: usize, most: usize) -> bool
     if most == 0 {
         return true;
     }
-    if !same_within(work, cell_first(work, i), cell_first(work, j), most - 1) {
+    let first = cell_first(work, i);
+    let size = share(work, first, most - 1);
+    if !same_within(work, first, cell_first(work, j), size) {
         return false;
     }
     if kind == REUSABLE {
         return true;
     }
-    same_within(work, cell_second(work, i), cell_second(work, j), most - 1)
+    same_within(
+        work,
+        cell_second(work, i),
+        cell_second(work, j),
+        most - 1 - size,
+    )
 }
 
 // Are the types of two cells the same?
-pub fn same_type(work: &[u8], i: usize, j: usize) -> bool
+fn same_type(work: &[u8], i: usize, j: usize) -> bool
     ensures { λ r. ⌜ SaysSameType (words (now (work .entry))) i j r ⌝ }
 {
     same_within(work, i, j, MOST_ENTRIES)
 }
 
-// Is the type of a cell, of at most so many entries, a wire type?
+// Is the type of a cell, of at most so many entries, a wire type? There are at most as many calls as of same_within.
 fn wire_type_within(work: &[u8], i: usize, most: usize) -> bool
     ensures { λ r. ⌜ SaysWireType (words (now (work .entry))) most i r ⌝ }
 {
@@ -146,10 +164,12 @@ fn wire_type_within(work: &[u8], i: usize, most: usize) -> bool
     if most == 0 {
         return false;
     }
-    if !wire_type_within(work, cell_first(work, i), most - 1) {
+    let first = cell_first(work, i);
+    let size = share(work, first, most - 1);
+    if !wire_type_within(work, first, size) {
         return false;
     }
-    wire_type_within(work, cell_second(work, i), most - 1)
+    wire_type_within(work, cell_second(work, i), most - 1 - size)
 }
 
 // 01: "Wire types are Bit, Qubit and pairs of wire types".
@@ -189,7 +209,7 @@ pub fn pair_parts(work: &[u8], i: usize) -> Parts
 // The type of this kind with two parts, as cell n, if it has at most 512 entries; this is tested before anything is written.
 fn two_parts(work: &mut [u8], n: usize, kind: usize, a: usize, b: usize) -> Ruled
     ensures { λ r. ⌜ MakesTwo kind (words (now (work .entry))) (words (now (work .exit))) n a b r ⌝ }
-    ensures { λ r. ⌜ length (now (work .exit)) ≡ length (now (work .entry)) ⌝ }
+    ensures { λ r. ⌜ now (work .exit) ≡ afterRule r (now (work .entry)) n (cellOfTwo (words (now (work .entry))) kind a b) ⌝ }
 {
     let size = 1 + cell_size(work, a) + cell_size(work, b);
     if MOST_ENTRIES < size {
@@ -209,21 +229,21 @@ fn two_parts(work: &mut [u8], n: usize, kind: usize, a: usize, b: usize) -> Rule
 // becomes cell n.
 pub fn abstraction_type(work: &mut [u8], n: usize, a: usize, b: usize) -> Ruled
     ensures { λ r. ⌜ MeetsTwo abstractionType (words (now (work .entry))) (words (now (work .exit))) n a b r ⌝ }
-    ensures { λ r. ⌜ length (now (work .exit)) ≡ length (now (work .entry)) ⌝ }
+    ensures { λ r. ⌜ now (work .exit) ≡ afterRule r (now (work .entry)) n (cellOfTwo (words (now (work .entry))) 3 a b) ⌝ }
 {
     two_parts(work, n, FUNCTION, a, b)
 }
 
 pub fn pair_type(work: &mut [u8], n: usize, a: usize, b: usize) -> Ruled
     ensures { λ r. ⌜ MeetsTwo pairType (words (now (work .entry))) (words (now (work .exit))) n a b r ⌝ }
-    ensures { λ r. ⌜ length (now (work .exit)) ≡ length (now (work .entry)) ⌝ }
+    ensures { λ r. ⌜ now (work .exit) ≡ afterRule r (now (work .entry)) n (cellOfTwo (words (now (work .entry))) 2 a b) ⌝ }
 {
     two_parts(work, n, PAIR, a, b)
 }
 
 pub fn lift_type(work: &mut [u8], n: usize, a: usize) -> Ruled
     ensures { λ r. ⌜ MeetsOne liftType (words (now (work .entry))) (words (now (work .exit))) n a r ⌝ }
-    ensures { λ r. ⌜ length (now (work .exit)) ≡ length (now (work .entry)) ⌝ }
+    ensures { λ r. ⌜ now (work .exit) ≡ afterRule r (now (work .entry)) n (cellOfReusable (words (now (work .entry))) a) ⌝ }
 {
     let size = 1 + cell_size(work, a);
     if MOST_ENTRIES < size {
@@ -282,6 +302,7 @@ pub fn force_type(work: &[u8], n: usize, a: usize) -> Ruled
 // The parts of the circuit type that box gives for the type t and a function of type a, if its rule applies.
 fn box_parts(work: &[u8], t: usize, a: usize) -> Parts
     ensures { λ r. ⌜ SaysBox (words (now (work .entry))) t a r ⌝ }
+    ensures { λ r. ⌜ PartsAre t (cellSecond (words (now (work .entry))) (cellFirst (words (now (work .entry))) a)) r ⌝ }
 {
     if cell_kind(work, a) != REUSABLE {
         return Parts::Neither;
@@ -308,7 +329,8 @@ fn box_parts(work: &[u8], t: usize, a: usize) -> Parts
 
 pub fn box_type(work: &mut [u8], n: usize, t: usize, a: usize) -> Ruled
     ensures { λ r. ⌜ MeetsTwo boxType (words (now (work .entry))) (words (now (work .exit))) n t a r ⌝ }
-    ensures { λ r. ⌜ length (now (work .exit)) ≡ length (now (work .entry)) ⌝ }
+    ensures { λ r. ⌜ now (work .exit) ≡ afterRule r (now (work .entry)) n
+        (cellOfTwo (words (now (work .entry))) 5 t (cellSecond (words (now (work .entry))) (cellFirst (words (now (work .entry))) a))) ⌝ }
 {
     let parts = box_parts(work, t, a);
     let Parts::Both { first, second } = parts else {
@@ -346,7 +368,7 @@ fn entry_size(work: &[u8], n: usize, kind: usize) -> usize
 }
 
 // Loads an entry of a preorder as cell n. The cell before it is that of the next entry, its first part, if it has parts.
-pub fn load_entry(work: &mut [u8], n: usize, kind: usize)
+fn load_entry(work: &mut [u8], n: usize, kind: usize)
     ensures { λ r. ⌜ words (now (work .exit)) ≡ loadEntry (words (now (work .entry))) n kind ⌝ }
     ensures { λ r. ⌜ length (now (work .exit)) ≡ length (now (work .entry)) ⌝ }
 {
@@ -427,7 +449,8 @@ pub fn gate_cell(g: usize) -> usize
     n + rules::type_entries(g) - 1
 }
 
-// Writes the entries of cell i's type, of at most so many entries, from a place on. The answer is the next place.
+// Writes the entries of cell i's type, of at most so many entries, from a place on. The answer is the next place. There are
+// at most as many calls as of same_within.
 fn write_at(work: &[u8], i: usize, out: &mut [u8], at: usize, most: usize) -> usize
     ensures { λ r. ⌜ SaysWroteAt (words (now (work .entry))) most i at (now (out .entry)) (now (out .exit)) r ⌝ }
     ensures { λ r. ⌜ length (now (out .exit)) ≡ length (now (out .entry)) ⌝ }
@@ -443,11 +466,13 @@ fn write_at(work: &[u8], i: usize, out: &mut [u8], at: usize, most: usize) -> us
     if most == 0 {
         return at + 1;
     }
-    let next = write_at(work, cell_first(work, i), out, at + 1, most - 1);
+    let first = cell_first(work, i);
+    let size = share(work, first, most - 1);
+    let next = write_at(work, first, out, at + 1, size);
     if kind == REUSABLE {
         return next;
     }
-    write_at(work, cell_second(work, i), out, next, most - 1)
+    write_at(work, cell_second(work, i), out, next, most - 1 - size)
 }
 
 // Writes the entries of cell i's type in preorder to the front of out, and answers how many they are.

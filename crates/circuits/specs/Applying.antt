@@ -27,48 +27,48 @@ use Rattle.circuits.specs.Held.{open-kept, open-more, closed-kept, Close
 
 -- The open circuits, the innermost first, and the closed ones, the latest first, stand in the buffers: rows of gates, rows of
 -- closed circuits, results. The gates of the open circuits end before those of the closed ones.
-pub record HoldsCircuits (types : ℕ → Ty) (gs cs : List Row) (results : ℕ → List ℕ) (Cs : List Circuit) (K : List Boxed)
+pub record HoldsCircuits (types : ℕ → Ty) (positions : ℕ) (gs cs : List Row) (results : ℕ → List ℕ) (Cs : List Circuit) (K : List Boxed)
     : Type 0 where
   pub open-held : HoldsOpen gs Cs
-  pub closed-held : HoldsClosed types gs cs results K
+  pub closed-held : HoldsClosed types positions gs cs results K
   pub fewer : openGates Cs ≤ closed-from
 
 -- At the start the buffers hold the outermost circuit without gates.
-pub nothing-built : (types : ℕ → Ty) (gs cs : List Row) (results : ℕ → List ℕ) (L : List Wire)
-    → HoldsCircuits types gs cs results (circuit L [] ∷ []) []
-nothing-built types gs cs results L = record { open-held = (refl, tt); closed-held = tt; fewer = omega arith }
+pub nothing-built : (types : ℕ → Ty) (positions : ℕ) (gs cs : List Row) (results : ℕ → List ℕ) (L : List Wire)
+    → HoldsCircuits types positions gs cs results (circuit L [] ∷ []) []
+nothing-built types positions gs cs results L = record { open-held = (refl, tt); closed-held = tt; fewer = omega arith }
 
 -- New gates behind those of the innermost circuit, and no other row changed.
-gates-added : (types : ℕ → Ty) (gs gs′ cs : List Row) (results : ℕ → List ℕ) (I : List Wire) (hs new : List Gate)
+gates-added : (types : ℕ → Ty) (positions : ℕ) (gs gs′ cs : List Row) (results : ℕ → List ℕ) (I : List Wire) (hs new : List Gate)
     (Cs : List Circuit) (K : List Boxed)
-    → HoldsCircuits types gs cs results (circuit I hs ∷ Cs) K
+    → HoldsCircuits types positions gs cs results (circuit I hs ∷ Cs) K
     → gatesIn gs′ (openGates (circuit I hs ∷ Cs)) (length new) ≡ new
     → ((i : ℕ) → (i < openGates (circuit I hs ∷ Cs)) ⊎ (openGates (circuit I hs ∷ Cs) + length new ≤ i)
     → rowAt gs′ i ≡ rowAt gs i)
     → length new + openGates (circuit I hs ∷ Cs) ≤ closed-from
-    → HoldsCircuits types gs′ cs results (circuit I (new ++ hs) ∷ Cs) K
-gates-added types gs gs′ cs results I hs new Cs K held made kept room =
+    → HoldsCircuits types positions gs′ cs results (circuit I (new ++ hs) ∷ Cs) K
+gates-added types positions gs gs′ cs results I hs new Cs K held made kept room =
     record {
       open-held = open-more gs gs′ I hs new Cs (held .open-held) (λ i h. kept i (inl h)) made;
       closed-held =
-          closed-kept types gs gs′ cs results K (λ i from below. kept i (inr (omega arith))) (held .closed-held);
+          closed-kept types positions gs gs′ cs results K (λ i from below. kept i (inr (omega arith))) (held .closed-held);
       fewer = omega (arith, length-append new hs);
     }
 
 -- The gates of a closed circuit are copied behind those of the innermost circuit: this is the circuit that append gives.
-copied-behind : (types : ℕ → Ty) (gs gs′ cs : List Row) (results : ℕ → List ℕ) (I : List Wire) (hs copied : List Gate)
+copied-behind : (types : ℕ → Ty) (positions : ℕ) (gs gs′ cs : List Row) (results : ℕ → List ℕ) (I : List Wire) (hs copied : List Gate)
     (Cs : List Circuit) (K : List Boxed) (k r : Tuple) (T : Ty) (from : ℕ)
-    → HoldsCircuits types gs cs results (circuit I hs ∷ Cs) K
+    → HoldsCircuits types positions gs cs results (circuit I hs ∷ Cs) K
     → gatesIn gs from (length copied) ≡ copied
     → GatesCopied gs gs′ from (length copied) (openGates (circuit I hs ∷ Cs)) (labels k) (wireCount (circuit I hs))
     → length copied + openGates (circuit I hs ∷ Cs) ≤ closed-from
-    → HoldsCircuits types gs′ cs results (appended (circuit I hs) k (boxed T copied r) ∷ Cs) K
-copied-behind types gs gs′ cs results I hs copied Cs K k r T from held stands done room =
+    → HoldsCircuits types positions gs′ cs results (appended (circuit I hs) k (boxed T copied r) ∷ Cs) K
+copied-behind types positions gs gs′ cs results I hs copied Cs K k r T from held stands done room =
     let next = wireCount (circuit I hs) in
     let new = map (renameGate (labels k) next) copied in
     let long : length new ≡ length copied = length-map copied (renameGate (labels k) next) in
     let top = openGates (circuit I hs ∷ Cs) in
-    gates-added types gs gs′ cs results I hs new Cs K held
+    gates-added types positions gs gs′ cs results I hs new Cs K held
     (ap (gatesIn gs′ top) long ∙ done .copied ∙ ap (map (renameGate (labels k) next)) stands)
     (λ i. at i)
     (omega arith)
@@ -83,17 +83,17 @@ copied-behind types gs gs′ cs results I hs copied Cs K k r T from held stands 
 
 -- Apply of closed circuit i to the labels of k: after its gates are copied behind those of the innermost circuit, that is the
 -- circuit which append gives.
-pub constant-applied : (types : ℕ → Ty) (gs gs′ cs : List Row) (results : ℕ → List ℕ) (I : List Wire) (hs copied : List Gate)
+pub constant-applied : (types : ℕ → Ty) (positions : ℕ) (gs gs′ cs : List Row) (results : ℕ → List ℕ) (I : List Wire) (hs copied : List Gate)
     (Cs : List Circuit) (K : List Boxed) (k r : Tuple) (T : Ty) (i before : ℕ) (ws : List ℕ) (n : ℕ)
-    → HoldsCircuits types gs cs results (circuit I hs ∷ Cs) K
-    → HoldsBoxed types gs cs results i before T copied r
+    → HoldsCircuits types positions gs cs results (circuit I hs ∷ Cs) K
+    → HoldsBoxed types positions gs cs results i before T copied r
     → LabelsCollected k ws n
     → GatesCopied gs gs′ (rowWord (rowAt cs i) 1) (rowWord (rowAt cs i) 2) (openGates (circuit I hs ∷ Cs)) (take n ws)
     (wireCount (circuit I hs))
     → length copied + openGates (circuit I hs ∷ Cs) ≤ closed-from
-    → HoldsCircuits types gs′ cs results (appended (circuit I hs) k (boxed T copied r) ∷ Cs) K
-constant-applied types gs gs′ cs results I hs copied Cs K k r T i before ws n held h collected done room =
-    copied-behind types gs gs′ cs results I hs copied Cs K k r T (closed-from + before) held (h .gates)
+    → HoldsCircuits types positions gs′ cs results (appended (circuit I hs) k (boxed T copied r) ∷ Cs) K
+constant-applied types positions gs gs′ cs results I hs copied Cs K k r T i before ws n held h collected done room =
+    copied-behind types positions gs gs′ cs results I hs copied Cs K k r T (closed-from + before) held (h .gates)
     (subst
     (λ ks. GatesCopied gs gs′ (closed-from + before) (length copied) top ks next)
     (collected .collected)
@@ -210,19 +210,19 @@ next-after-gate C k n T U =
     next-appended C k (tupleFrom (length (wires T)) U) T ((n on numbers 0 (length (wires T))) ∷ [])
 
 -- Apply of a gate: after its row is put behind those of the innermost circuit, this is the circuit that append gives.
-pub gate-applied : (types : ℕ → Ty) (gs gs′ cs : List Row) (results : ℕ → List ℕ) (I : List Wire) (hs : List Gate)
+pub gate-applied : (types : ℕ → Ty) (positions : ℕ) (gs gs′ cs : List Row) (results : ℕ → List ℕ) (I : List Wire) (hs : List Gate)
     (Cs : List Circuit) (K : List Boxed) (k : Tuple) (n : ℕ) (T U : Ty) (ws : List ℕ) (found : ℕ)
-    → HoldsCircuits types gs cs results (circuit I hs ∷ Cs) K
+    → HoldsCircuits types positions gs cs results (circuit I hs ∷ Cs) K
     → gateType n ≡ some (T to U)
     → length (labels k) ≡ length (wires T)
     → LabelsCollected k ws found
     → gs′ ≡ set gs (openGates (circuit I hs ∷ Cs)) (gateRow ((n % 65536) on take (wiresIn n) ws))
     → openGates (circuit I hs ∷ Cs) < closed-from
     → closed-from ≤ length gs
-    → HoldsCircuits types gs′ cs results (appended (circuit I hs) k (gateBoxed n T U) ∷ Cs) K
-gate-applied types gs gs′ cs results I hs Cs K k n T U ws found held e fits collected put room inside =
-    subst (λ C. HoldsCircuits types gs′ cs results (C ∷ Cs) K) (sym (gate-appended I hs k n T U fits))
-    (gates-added types gs gs′ cs results I hs ((n on labels k) ∷ []) Cs K held
+    → HoldsCircuits types positions gs′ cs results (appended (circuit I hs) k (gateBoxed n T U) ∷ Cs) K
+gate-applied types positions gs gs′ cs results I hs Cs K k n T U ws found held e fits collected put room inside =
+    subst (λ C. HoldsCircuits types positions gs′ cs results (C ∷ Cs) K) (sym (gate-appended I hs k n T U fits))
+    (gates-added types positions gs gs′ cs results I hs ((n on labels k) ∷ []) Cs K held
     (ap (λ g. g ∷ []) (ap (λ j. gateOf (rowAt gs′ j)) first ∙ ap gateOf at-top ∙ read-back n (labels k) counted))
     (λ i. at i)
     (omega arith))
@@ -256,30 +256,31 @@ gate-applied types gs gs′ cs results I hs Cs K k n T U ws found held e fits co
     at i (inr h) = other i (λ p. omega arith)
 
 -- Box entry: the new circuit has no gate yet.
-pub box-entered : (types : ℕ → Ty) (gs cs : List Row) (results : ℕ → List ℕ) (I : List Wire) (Cs : List Circuit)
+pub box-entered : (types : ℕ → Ty) (positions : ℕ) (gs cs : List Row) (results : ℕ → List ℕ) (I : List Wire) (Cs : List Circuit)
     (K : List Boxed)
-    → HoldsCircuits types gs cs results Cs K
-    → HoldsCircuits types gs cs results (circuit I [] ∷ Cs) K
-box-entered types gs cs results I Cs K held =
+    → HoldsCircuits types positions gs cs results Cs K
+    → HoldsCircuits types positions gs cs results (circuit I [] ∷ Cs) K
+box-entered types positions gs cs results I Cs K held =
     record { open-held = (refl, held .open-held); closed-held = held .closed-held; fewer = omega (arith, held .fewer) }
 
 -- Box exit: after the innermost circuit's gates are moved behind those of the closed circuits, and its row and its result
 -- are put, it is the latest closed circuit.
-pub box-left : (types : ℕ → Ty) (gs gs′ cs cs′ : List Row) (results results′ : ℕ → List ℕ) (I : List Wire) (hs : List Gate)
+pub box-left : (types : ℕ → Ty) (positions : ℕ) (gs gs′ cs cs′ : List Row) (results results′ : ℕ → List ℕ) (I : List Wire) (hs : List Gate)
     (Cs : List Circuit) (K : List Boxed) (position : ℕ) (k : Tuple)
-    → HoldsCircuits types gs cs results (circuit I hs ∷ Cs) K
+    → position < positions
+    → HoldsCircuits types positions gs cs results (circuit I hs ∷ Cs) K
     → GatesMoved gs gs′ (openGates Cs) (length hs) (closed-from + closedGates K)
     → length (tupleWords k) ≤ slot-words
     → Closes cs cs′ results results′ (length K)
     (row position (closed-from + closedGates K) (length hs) (length (tupleWords k)))
     k
-    → HoldsCircuits types gs′ cs′ results′ Cs (boxed (types position) hs k ∷ K)
-box-left types gs gs′ cs cs′ results results′ I hs Cs K position k held moved short closes =
+    → HoldsCircuits types positions gs′ cs′ results′ Cs (boxed (types position) hs k ∷ K)
+box-left types positions gs gs′ cs cs′ results results′ I hs Cs K position k real held moved short closes =
     record {
       open-held =
           open-kept gs gs′ Cs (λ i h. moved .kept i (inl (omega (arith, held .fewer)))) (held .open-held .1);
       closed-held =
-          one-more-closed types gs gs′ cs cs′ results results′ K position hs k (held .closed-held)
+          one-more-closed types positions gs gs′ cs cs′ results results′ K position hs k real (held .closed-held)
           (λ i from below. moved .kept i (inl below))
           (moved .moved ∙ held .open-held .0)
           short

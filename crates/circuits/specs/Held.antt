@@ -58,14 +58,15 @@ open-more gs gs′ I hs new Cs held same made =
     )
 
 -- Closed circuits stay where the rows of their gates do.
-pub closed-kept : (types : ℕ → Ty) (gs gs′ cs : List Row) (results : ℕ → List ℕ) (K : List Boxed)
+pub closed-kept : (types : ℕ → Ty) (positions : ℕ) (gs gs′ cs : List Row) (results : ℕ → List ℕ) (K : List Boxed)
     → ((i : ℕ) → closed-from ≤ i → i < closed-from + closedGates K → rowAt gs′ i ≡ rowAt gs i)
-    → HoldsClosed types gs cs results K
-    → HoldsClosed types gs′ cs results K
-closed-kept types gs gs′ cs results [] same held = tt
-closed-kept types gs gs′ cs results (boxed T hs k ∷ K) same held =
+    → HoldsClosed types positions gs cs results K
+    → HoldsClosed types positions gs′ cs results K
+closed-kept types positions gs gs′ cs results [] same held = tt
+closed-kept types positions gs gs′ cs results (boxed T hs k ∷ K) same held =
     let h = held .0 in (
       record {
+        position = h .position;
         typed = h .typed;
         first = h .first;
         many = h .many;
@@ -77,7 +78,7 @@ closed-kept types gs gs′ cs results (boxed T hs k ∷ K) same held =
         result = h .result;
         short = h .short;
       },
-      closed-kept types gs gs′ cs results K (λ i from below. same i from (omega arith)) (held .1),
+      closed-kept types positions gs gs′ cs results K (λ i from below. same i from (omega arith)) (held .1),
     )
 
 -- What the rows and results of the circuits closed so far are after another is closed: its row, its result, nothing else.
@@ -141,19 +142,20 @@ result-kept cs cs′ results results′ i r k j xs closes less short stands =
         (closes .slot-inside) (omega arith) old))
 
 -- The circuits closed before stay when another is closed.
-pub earlier-kept : (types : ℕ → Ty) (gs cs cs′ : List Row) (results results′ : ℕ → List ℕ) (i : ℕ) (r : Row) (k : Tuple)
+pub earlier-kept : (types : ℕ → Ty) (positions : ℕ) (gs cs cs′ : List Row) (results results′ : ℕ → List ℕ) (i : ℕ) (r : Row) (k : Tuple)
     (K : List Boxed)
     → Closes cs cs′ results results′ i r k
     → length K ≤ i
-    → HoldsClosed types gs cs results K
-    → HoldsClosed types gs cs′ results′ K
-earlier-kept types gs cs cs′ results results′ i r k [] closes few held = tt
-earlier-kept types gs cs cs′ results results′ i r k (boxed T hs l ∷ K) closes few held =
+    → HoldsClosed types positions gs cs results K
+    → HoldsClosed types positions gs cs′ results′ K
+earlier-kept types positions gs cs cs′ results results′ i r k [] closes few held = tt
+earlier-kept types positions gs cs cs′ results results′ i r k (boxed T hs l ∷ K) closes few held =
     let h = held .0 in
     let same : rowAt cs′ (length K) ≡ rowAt cs (length K)
     = ap (λ rs. rowAt rs (length K)) (closes .row-put)
     ∙ getD-set-other cs i (length K) r (row 0 0 0 0) (omega arith) in (
       record {
+        position = subst (λ x. rowWord x 0 < positions) (sym same) (h .position);
         typed = ap (λ x. types (rowWord x 0)) same ∙ h .typed;
         first = ap (λ x. rowWord x 1) same ∙ h .first;
         many = ap (λ x. rowWord x 2) same ∙ h .many;
@@ -164,26 +166,28 @@ earlier-kept types gs cs cs′ results results′ i r k (boxed T hs l ∷ K) clo
             (h .result);
         short = h .short;
       },
-      earlier-kept types gs cs cs′ results results′ i r k K closes (omega arith) (held .1),
+      earlier-kept types positions gs cs cs′ results results′ i r k K closes (omega arith) (held .1),
     )
 
 -- Another circuit is closed: its gates stand behind those of the others, its row and its result are put.
-pub one-more-closed : (types : ℕ → Ty) (gs gs′ cs cs′ : List Row) (results results′ : ℕ → List ℕ) (K : List Boxed)
+pub one-more-closed : (types : ℕ → Ty) (positions : ℕ) (gs gs′ cs cs′ : List Row) (results results′ : ℕ → List ℕ) (K : List Boxed)
     (position : ℕ) (hs : List Gate) (k : Tuple)
-    → HoldsClosed types gs cs results K
+    → position < positions
+    → HoldsClosed types positions gs cs results K
     → ((i : ℕ) → closed-from ≤ i → i < closed-from + closedGates K → rowAt gs′ i ≡ rowAt gs i)
     → gatesIn gs′ (closed-from + closedGates K) (length hs) ≡ hs
     → length (tupleWords k) ≤ slot-words
     → Closes cs cs′ results results′ (length K)
     (row position (closed-from + closedGates K) (length hs) (length (tupleWords k)))
     k
-    → HoldsClosed types gs′ cs′ results′ (boxed (types position) hs k ∷ K)
-one-more-closed types gs gs′ cs cs′ results results′ K position hs k held same made short closes =
+    → HoldsClosed types positions gs′ cs′ results′ (boxed (types position) hs k ∷ K)
+one-more-closed types positions gs gs′ cs cs′ results results′ K position hs k real held same made short closes =
     let r = row position (closed-from + closedGates K) (length hs) (length (tupleWords k)) in
     let put : rowAt cs′ (length K) ≡ r
     = ap (λ rs. rowAt rs (length K)) (closes .row-put)
     ∙ getD-set-same cs (length K) r (row 0 0 0 0) (closes .room) in (
       record {
+        position = subst (λ x. rowWord x 0 < positions) (sym put) real;
         typed = ap (λ x. types (rowWord x 0)) put;
         first = ap (λ x. rowWord x 1) put;
         many = ap (λ x. rowWord x 2) put;
@@ -198,8 +202,8 @@ one-more-closed types gs gs′ cs cs′ results results′ K position hs k held 
             (closes .slot-inside));
         short = short;
       },
-      earlier-kept types gs′ cs cs′ results results′ (length K) r k K closes (omega arith)
-          (closed-kept types gs gs′ cs results K same held),
+      earlier-kept types positions gs′ cs cs′ results results′ (length K) r k K closes (omega arith)
+          (closed-kept types positions gs gs′ cs results K same held),
     )
 
 -- The gates of a boxed circuit.
@@ -207,40 +211,40 @@ abbrev pub gatesOf : Boxed → List Gate
 gatesOf (boxed T hs k) = hs
 
 -- Closed circuit i is b, and so many gates were closed before it, of a total.
-abbrev pub ClosedAt : (ℕ → Ty) → List Row → List Row → (ℕ → List ℕ) → ℕ → ℕ → Boxed → Type 0
-ClosedAt types gs cs results total i b =
-    (before : ℕ) × (before + length (gatesOf b) ≤ total) × HoldsCircuit types gs cs results i before b
+abbrev pub ClosedAt : (ℕ → Ty) → ℕ → List Row → List Row → (ℕ → List ℕ) → ℕ → ℕ → Boxed → Type 0
+ClosedAt types positions gs cs results total i b =
+    (before : ℕ) × (before + length (gatesOf b) ≤ total) × HoldsCircuit types positions gs cs results i before b
 
 -- The circuit that a constant's number stands for is held.
-pub closed-at : (types : ℕ → Ty) (gs cs : List Row) (results : ℕ → List ℕ) (K : List Boxed) (i : ℕ)
-    → HoldsClosed types gs cs results K
+pub closed-at : (types : ℕ → Ty) (positions : ℕ) (gs cs : List Row) (results : ℕ → List ℕ) (K : List Boxed) (i : ℕ)
+    → HoldsClosed types positions gs cs results K
     → i < length K
-    → ClosedAt types gs cs results (closedGates K) i (circuitAt K i)
-closed-at types gs cs results [] i held h = absurd (omega arith)
-closed-at types gs cs results (boxed T hs k ∷ K) i held h =
+    → ClosedAt types positions gs cs results (closedGates K) i (circuitAt K i)
+closed-at types positions gs cs results [] i held h = absurd (omega arith)
+closed-at types positions gs cs results (boxed T hs k ∷ K) i held h =
     ⊎-elim
     (λ (e : i ≡ length K).
-    subst (λ t. ClosedAt types gs cs results (length hs + closedGates K) i (cond t (boxed T hs k) (circuitAt K i)))
+    subst (λ t. ClosedAt types positions gs cs results (length hs + closedGates K) i (cond t (boxed T hs k) (circuitAt K i)))
     (sym (eq-eqb i (length K) e))
-    (subst (λ j. ClosedAt types gs cs results (length hs + closedGates K) j (boxed T hs k)) (sym e)
+    (subst (λ j. ClosedAt types positions gs cs results (length hs + closedGates K) j (boxed T hs k)) (sym e)
     (closedGates K, omega arith, held .0)))
     (λ (l : i < length K).
-    subst (λ t. ClosedAt types gs cs results (length hs + closedGates K) i (cond t (boxed T hs k) (circuitAt K i)))
+    subst (λ t. ClosedAt types positions gs cs results (length hs + closedGates K) i (cond t (boxed T hs k) (circuitAt K i)))
     (sym (ne-eqb i (length K) (λ e. omega arith)))
-    (let r = closed-at types gs cs results K i (held .1) l in (r .0, omega (arith, r .1), r .2)))
+    (let r = closed-at types positions gs cs results K i (held .1) l in (r .0, omega (arith, r .1), r .2)))
     (eq-or-lt-of-le (le-pred-of-lt h))
 
 -- The gates of a closed circuit can be copied behind those of the open ones, its wires being below m.
-pub closed-copy-fits : (types : ℕ → Ty) (gs cs : List Row) (results : ℕ → List ℕ) (i before : ℕ) (T : Ty) (hs : List Gate)
+pub closed-copy-fits : (types : ℕ → Ty) (positions : ℕ) (gs cs : List Row) (results : ℕ → List ℕ) (i before : ℕ) (T : Ty) (hs : List Gate)
     (k : Tuple) (to available n next : ℕ)
-    → HoldsBoxed types gs cs results i before T hs k
+    → HoldsBoxed types positions gs cs results i before T hs k
     → TakesEarlier (wires T) hs
     → to + length hs ≤ closed-from
     → closed-from + before + length hs ≤ length gs
     → n ≤ available
     → next + length (wires T ++ outputs hs) ≤ no-wire
     → CopyFits gs (rowWord (rowAt cs i) 1) (rowWord (rowAt cs i) 2) to available n next (length (wires T ++ outputs hs))
-closed-copy-fits types gs cs results i before T hs k to available n next h sound open-room inside enough room =
+closed-copy-fits types positions gs cs results i before T hs k to available n next h sound open-room inside enough room =
     rw (h .first, h .many)
     record {
       inside = omega arith;
@@ -251,16 +255,16 @@ closed-copy-fits types gs cs results i before T hs k to available n next h sound
     }
 
 -- The result of a closed circuit can be loaded, its labels being below m.
-pub closed-result-fits : (types : ℕ → Ty) (gs cs : List Row) (results : ℕ → List ℕ) (i before : ℕ) (T : Ty)
+pub closed-result-fits : (types : ℕ → Ty) (positions : ℕ) (gs cs : List Row) (results : ℕ → List ℕ) (i before : ℕ) (T : Ty)
     (hs : List Gate) (k : Tuple) (m size to available n next : ℕ)
-    → HoldsBoxed types gs cs results i before T hs k
+    → HoldsBoxed types positions gs cs results i before T hs k
     → AllBelow m (labels k)
     → to + length (tupleWords k) ≤ size
     → n ≤ available
     → next + m ≤ no-wire
     → ResultFits k m (results (i / slots-each)) (slot-words * (i % slots-each)) (rowWord (rowAt cs i) 3) size to available n
     next
-closed-result-fits types gs cs results i before T hs k m size to available n next h below inside enough room =
+closed-result-fits types positions gs cs results i before T hs k m size to available n next h below inside enough room =
     record {
       stands = h .result;
       whole = h .size;

@@ -1,5 +1,5 @@
 -- How the circuits of a run stand in lent memory (docs/FORMATS.md).
-use Prim.Native.Nat.{ℕ, zero, suc, _+_, _*_, _/_, _%_, _≤_}
+use Prim.Native.Nat.{ℕ, zero, suc, _+_, _*_, _/_, _%_, _≤_, _<_}
 use mathlib.Core.Path.{_≡_}
 use mathlib.Core.List.{List, [], _∷_, _++_}
 use lib.ListN.{length, getD, take}
@@ -8,6 +8,7 @@ use Rattle.rules.specs.GateCodes.{wiresIn}
 use Rattle.rules.specs.Terms.{Tuple, single, both, Gate, _on_, Boxed, boxed}
 use Rattle.rules.specs.Circuits.{Circuit, circuit}
 use Rattle.rules.specs.Sizes.{closedGates}
+pub use Rattle.rules.specs.Slots.{no-wire, gate-slots}
 use Rattle.evaluation.specs.States.{openGates}
 use Rattle.memory.specs.Words.{words}
 use Rattle.nodes.specs.Regions.{Stands}
@@ -15,6 +16,9 @@ use Rattle.nodes.specs.Regions.{Stands}
 -- A row: four words.
 pub data Row : Type 0 where
   row : ℕ → ℕ → ℕ → ℕ → Row
+
+abbrev pub rowWords : Row → List ℕ
+rowWords (row a b c d) = a ∷ b ∷ c ∷ d ∷ []
 
 abbrev pub rowWord : Row → ℕ → ℕ
 rowWord (row a b c d) k = getD (a ∷ b ∷ c ∷ d ∷ []) k 0
@@ -35,19 +39,11 @@ rowsIn m = rowsOf (words m)
 abbrev pub rowAt : List Row → ℕ → Row
 rowAt rs i = getD rs i (row 0 0 0 0)
 
--- The word that stands where there is no wire: in an unused slot of a gate, and for a pair in a result.
-abbrev pub no-wire : ℕ
-no-wire = 65535
-
--- How many slots for wires a row has.
-abbrev pub gate-slots : ℕ
-gate-slots = 3
-
--- The gate in a row: its number, then the wires that it takes, as many as a gate of that number takes.
+-- The gate in a row, in its `gate-slots` slots: its number, then the wires that it takes, as many as a gate of that number takes.
 abbrev pub gateOf : Row → Gate
 gateOf (row n u v w) = n on take (wiresIn n) (u ∷ v ∷ w ∷ [])
 
--- The wire in a slot of a gate.
+-- The wire in a slot of a gate; `no-wire` in one that is not used.
 abbrev pub slotOf : Gate → ℕ → ℕ
 slotOf (n on ws) slot = getD ws slot no-wire
 
@@ -60,7 +56,7 @@ abbrev pub gatesIn : List Row → ℕ → ℕ → List Gate
 gatesIn rs from zero = []
 gatesIn rs from (suc k) = gateOf (rowAt rs (from + k)) ∷ gatesIn rs from k
 
--- A result, one word a node of its tuple in preorder: no-wire for a pair, else the label.
+-- A result, one word a node of its tuple in preorder: `no-wire` for a pair, else the label.
 abbrev pub tupleWords : Tuple → List ℕ
 tupleWords (single ℓ) = ℓ ∷ []
 tupleWords (both k l) = no-wire ∷ (tupleWords k ++ tupleWords l)
@@ -82,10 +78,11 @@ slot-words = 512
 abbrev pub slots-each : ℕ
 slots-each = 64
 
--- A closed circuit's row: the type position of its input, its first gate's row, the number of its gates, the number of
--- nodes of its result. So many gates were closed before.
-pub record HoldsBoxed (types : ℕ → Ty) (gs cs : List Row) (results : ℕ → List ℕ) (i before : ℕ) (T : Ty) (hs : List Gate)
+-- A closed circuit's row: the type position of its input, one of the positions of the program's type section, its first
+-- gate's row, the number of its gates, the number of nodes of its result. So many gates were closed before.
+pub record HoldsBoxed (types : ℕ → Ty) (positions : ℕ) (gs cs : List Row) (results : ℕ → List ℕ) (i before : ℕ) (T : Ty) (hs : List Gate)
     (k : Tuple) : Type 0 where
+  pub position : rowWord (rowAt cs i) 0 < positions
   pub typed : types (rowWord (rowAt cs i) 0) ≡ T
   pub first : rowWord (rowAt cs i) 1 ≡ closed-from + before
   pub many : rowWord (rowAt cs i) 2 ≡ length hs
@@ -94,14 +91,14 @@ pub record HoldsBoxed (types : ℕ → Ty) (gs cs : List Row) (results : ℕ →
   pub result : Stands (results (i / slots-each)) (slot-words * (i % slots-each)) (tupleWords k)
   pub short : length (tupleWords k) ≤ slot-words
 
-abbrev pub HoldsCircuit : (ℕ → Ty) → List Row → List Row → (ℕ → List ℕ) → ℕ → ℕ → Boxed → Type 0
-HoldsCircuit types gs cs results i before (boxed T hs k) = HoldsBoxed types gs cs results i before T hs k
+abbrev pub HoldsCircuit : (ℕ → Ty) → ℕ → List Row → List Row → (ℕ → List ℕ) → ℕ → ℕ → Boxed → Type 0
+HoldsCircuit types positions gs cs results i before (boxed T hs k) = HoldsBoxed types positions gs cs results i before T hs k
 
 -- The closed circuits, the latest first as in a configuration; circuit i is the one closed after i others.
-abbrev pub HoldsClosed : (ℕ → Ty) → List Row → List Row → (ℕ → List ℕ) → List Boxed → Type 0
-HoldsClosed types gs cs results [] = Unit {0}
-HoldsClosed types gs cs results (b ∷ K) =
-    HoldsCircuit types gs cs results (length K) (closedGates K) b × HoldsClosed types gs cs results K
+abbrev pub HoldsClosed : (ℕ → Ty) → ℕ → List Row → List Row → (ℕ → List ℕ) → List Boxed → Type 0
+HoldsClosed types positions gs cs results [] = Unit {0}
+HoldsClosed types positions gs cs results (b ∷ K) =
+    HoldsCircuit types positions gs cs results (length K) (closedGates K) b × HoldsClosed types positions gs cs results K
 
 -- The words of the four result buffers, by number; there is no other buffer.
 abbrev pub fourResults : List ℕ → List ℕ → List ℕ → List ℕ → ℕ → List ℕ

@@ -8,9 +8,10 @@ use mathlib.Core.Option.{some}
 use lib.Dec.{T as IsTrue}
 use lib.ListN.{length, getD, drop, length-append}
 use lib.Seq.{drop-at}
-use Rattle.rules.specs.Types.{Ty, isWireType, entries}
+use Rattle.rules.specs.Types.{Ty, isWireType, entries, typeCodes}
 use Rattle.rules.specs.Gates.{GateType, _to_, gateTable, gateType}
-use Rattle.rules.specs.GateCodes.{typeCodes, circCodes, typeCode, typeEntries, typeCodes-entries}
+use Rattle.rules.specs.GateCodes.{circCodes, typeCode, typeEntries}
+use Rattle.rules.specs.Theorems.TypeCodes.{typeCodes-entries}
 use Rattle.rules.specs.Theorems.Wires.{every-nth, and-left, and-right}
 use Rattle.nodes.specs.Regions.{Stands, stands-first}
 use Rattle.circuits.specs.Tuples.{codeSpan, span-none, span-type}

@@ -1,5 +1,5 @@
 -- Laws of the rows of a buffer: four words a row.
-use Prim.Native.Nat.{ℕ, zero, suc, _+_, _-_, _*_, _≤_, _<_, _/_}
+use Prim.Native.Nat.{ℕ, zero, suc, _+_, _-_, _*_, _≤_, _<_, _/_, _%_}
 use native.Mathlib.Omega.{arith}
 use native.Mathlib.Decide.{decLt}
 use mathlib.Core.Path.{_≡_, refl, sym, _∙_, ap}
@@ -8,9 +8,9 @@ use mathlib.Core.List.{List, [], _∷_}
 use lib.Dec.{ltb}
 use borrow.Author.Tests.{ltb-true, ltb-false, lt-ltb, le-ltb}
 use lib.ListN.{length, getD, set, List·getD-eq-default}
-use lib.Seq.{set-out}
-use Rattle.memory.specs.Words.{words}
-use Rattle.memory.specs.Laws.{length-words, word-below}
+use lib.Seq.{sets, set-out}
+use Rattle.memory.specs.Words.{words, putWords, setWords}
+use Rattle.memory.specs.Laws.{length-words, word-below, put-view, set-within, set-past}
 use Rattle.circuits.specs.Layout.{Row, row, rowWord, rowsOf, rowsIn, rowAt}
 
 -- There are a quarter as many rows as words, and an eighth as many as bytes.
@@ -73,9 +73,9 @@ zero-row (suc (suc (suc zero))) = refl
 zero-row (suc (suc (suc (suc k)))) = refl
 
 -- Setting the four words of row i sets the row.
-pub set-row : (w : List ℕ) (i a b c d : ℕ)
+set-row : (w : List ℕ) (i a b c d : ℕ)
     → i < length w / 4
-    → rowsOf (set (set (set (set w (4 * i) a) (4 * i + 1) b) (4 * i + 2) c) (4 * i + 3) d) ≡ set (rowsOf w) i (row a b c d)
+    → rowsOf (sets w (4 * i) (a ∷ b ∷ c ∷ d ∷ [])) ≡ set (rowsOf w) i (row a b c d)
 unfolding rowsOf
 set-row [] i a b c d h = absurd (omega arith)
 set-row (x ∷ []) i a b c d h = absurd (omega arith)
@@ -83,29 +83,28 @@ set-row (x ∷ y ∷ []) i a b c d h = absurd (omega arith)
 set-row (x ∷ y ∷ z ∷ []) i a b c d h = absurd (omega arith)
 set-row (x ∷ y ∷ z ∷ t ∷ w) zero a b c d h = refl
 set-row (x ∷ y ∷ z ∷ t ∷ w) (suc i) a b c d h =
-    let e0 : 4 * suc i ≡ suc (suc (suc (suc (4 * i)))) = omega arith in
-    let e1 : 4 * suc i + 1 ≡ suc (suc (suc (suc (4 * i + 1)))) = omega arith in
-    let e2 : 4 * suc i + 2 ≡ suc (suc (suc (suc (4 * i + 2)))) = omega arith in
-    let e3 : 4 * suc i + 3 ≡ suc (suc (suc (suc (4 * i + 3)))) = omega arith in
-    rw (e1, e2, e3, e0) (ap (λ r. row x y z t ∷ r) (set-row w i a b c d (omega arith)))
+    let next : 4 * suc i ≡ suc (suc (suc (suc (4 * i)))) = omega arith in
+    rw next (ap (λ r. row x y z t ∷ r) (set-row w i a b c d (omega arith)))
 
-pub set-row-past : (w : List ℕ) (i : ℕ) (r : Row) → length w / 4 ≤ i → set (rowsOf w) i r ≡ rowsOf w
-set-row-past w i r h = set-out (rowsOf w) i r (omega (arith, length-rowsOf w))
+-- Where the four words of a row are put, that is the row; past the end nothing changes.
+pub row-put : (m m′ : List ℕ) (i a b c d : ℕ)
+    → m′ ≡ putWords 4 m i (a ∷ b ∷ c ∷ d ∷ [])
+    → rowsIn m′ ≡ set (rowsIn m) i (row (a % 65536) (b % 65536) (c % 65536) (d % 65536))
+row-put m m′ i a b c d e =
+    ap rowsIn e
+    ∙ ap rowsOf (put-view 4 m i (a ∷ b ∷ c ∷ d ∷ []) (omega arith))
+    ∙ of (decLt i (length (words m) / 4))
+  where
+    low : Row
+    low = row (a % 65536) (b % 65536) (c % 65536) (d % 65536)
 
--- The four words of row i, put one after another.
-pub put-four : (w w₁ w₂ w₃ w₄ : List ℕ) (i a b c d : ℕ)
-    → i < length w / 4
-    → w₁ ≡ set w (4 * i) a
-    → w₂ ≡ set w₁ (4 * i + 1) b
-    → w₃ ≡ set w₂ (4 * i + 2) c
-    → w₄ ≡ set w₃ (4 * i + 3) d
-    → rowsOf w₄ ≡ set (rowsOf w) i (row a b c d)
-put-four w w₁ w₂ w₃ w₄ i a b c d h e₁ e₂ e₃ e₄ =
-    ap rowsOf (
-    e₄
-    ∙ ap (λ x. set x (4 * i + 3) d) (e₃ ∙ ap (λ x. set x (4 * i + 2) c) (e₂ ∙ ap (λ x. set x (4 * i + 1) b) e₁))
-    )
-    ∙ set-row w i a b c d h
+    of : Dec (i < length (words m) / 4) → rowsOf (setWords 4 (words m) i (a ∷ b ∷ c ∷ d ∷ [])) ≡ set (rowsIn m) i low
+    of (yes h) =
+        ap rowsOf (set-within 4 (words m) i (a ∷ b ∷ c ∷ d ∷ []) h)
+        ∙ set-row (words m) i (a % 65536) (b % 65536) (c % 65536) (d % 65536) h
+    of (no h) =
+        ap rowsOf (set-past 4 (words m) i (a ∷ b ∷ c ∷ d ∷ []) (omega arith))
+        ∙ sym (set-out (rowsIn m) i low (omega (arith, length-rowsOf (words m))))
 
 -- A row is its four words.
 pub row-whole : (r : Row) → row (rowWord r 0) (rowWord r 1) (rowWord r 2) (rowWord r 3) ≡ r

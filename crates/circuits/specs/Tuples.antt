@@ -8,7 +8,7 @@ use lib.Dec.{T as IsTrue, eqb}
 use lib.ListN.{length, take, drop, length-append}
 use borrow.Author.Tests.{eq-eqb, ne-eqb}
 use Rattle.rules.specs.Types.{Wire, Bit, Qubit, Ty, wire, _⊗_, _⊸_, !_, Circ, isWireType, wires, entries}
-use Rattle.rules.specs.GateCodes.{wireCode, typeCodes}
+use Rattle.rules.specs.Types.{wireCode, typeCodes}
 use Rattle.rules.specs.Terms.{Tuple, single, both, labels, tupleFrom}
 use Rattle.rules.specs.Circuits.{rename, renameTuple}
 use Rattle.rules.specs.Theorems.Wires.{and-left, and-right}

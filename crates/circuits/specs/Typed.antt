@@ -9,7 +9,7 @@ use Rattle.rules.specs.Types.{Wire, Ty, Circ, wires, entries, most-entries}
 use Rattle.rules.specs.Gates.{nth, gateOutputs}
 use Rattle.rules.specs.GateCodes.{wiresOut}
 use Rattle.rules.specs.Terms.{Tuple, single, both, labels, Gate, _on_, boxed, constant, tuple}
-use Rattle.rules.specs.Circuits.{outputs, count, taken, OfTypes, no-wire, next-wire, TakesEarlier, no-gate, next-gate}
+use Rattle.rules.specs.Circuits.{outputs, count, taken, OfTypes, wires-end, next-wire, TakesEarlier, no-gate, next-gate}
 use Rattle.rules.specs.Circuits.{if-none, loose}
 use Rattle.rules.specs.Typing.{Shares, nowhere, left, right, copied, Never, LabelContext, split-end, _∣_⊢_∶_, by-label}
 use Rattle.rules.specs.Typing.{by-circ, by-tuple}
@@ -31,7 +31,7 @@ wires-below-more m m′ ((n on ws) ∷ gs) h below =
     (all-below-more m m′ ws h (below .0), wires-below-more m m′ gs h (below .1))
 
 of-types-below : {types : List Wire} {ws : List ℕ} {αs : List Wire} → OfTypes types ws αs → AllBelow (length types) ws
-of-types-below no-wire = tt
+of-types-below wires-end = tt
 of-types-below {types} (next-wire {w = w} p d) = (nth-some-within types w p, of-types-below d)
 
 -- The gates of a sound circuit take only wires that it has made.

@@ -8,8 +8,8 @@ use lib.Dec.{T as IsTrue, eqb}
 use lib.ListN.{length, getD, set, take, drop, length-drop, length-map}
 use lib.Seq.{take-suc-set, drop-cons}
 use borrow.Author.Tests.{eq-eqb, ne-eqb}
-use Rattle.rules.specs.Types.{Ty, isWireType, wires, entries}
-use Rattle.rules.specs.GateCodes.{typeCodes, typeCodes-entries}
+use Rattle.rules.specs.Types.{Ty, isWireType, wires, entries, typeCodes}
+use Rattle.rules.specs.Theorems.TypeCodes.{typeCodes-entries}
 use Rattle.rules.specs.Terms.{Tuple, single, both, labels}
 use mathlib.Core.Option.{some}
 use Rattle.evaluation.specs.Trees.{Node, node, Tree, leaf, one, two, preorder, tupleOfTree}

@@ -9,9 +9,9 @@ ghost use Rattle.circuits.specs.Layout.{rowsIn, rowAt, rowWord, slot-wor
 pub const CLOSED_ROWS: usize = 256;
 
 // A result has a slot of 512 words, one word a node; a result buffer has 64 slots.
-pub const SLOT_WORDS: usize = 512;
+const SLOT_WORDS: usize = 512;
 
-pub const SLOTS_EACH: usize = 64;
+const SLOTS_EACH: usize = 64;
 
 // The row of a closed circuit.
 pub struct ClosedRow {

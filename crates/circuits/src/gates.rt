@@ -8,18 +8,14 @@ ghost use lib.ListN.{length, getD, set, take};
 ghost use Rattle.rules.specs.GateCodes.{wiresIn};
 ghost use Rattle.rules.specs.Terms.{_on_};
 ghost use Rattle.rules.specs.Circuits.{outputs, rename, renameGate};
-ghost use Rattle.memory.specs.Words.{words};
-ghost use Rattle.circuits.specs.Layout.{rowsIn, rowAt, no-wire, gateOf, slotOf, gateRow, gatesIn};
+ghost use Rattle.memory.specs.Words.{words, putWords};
+ghost use Rattle.circuits.specs.Layout.{rowsIn, rowAt, rowWords, no-wire, gateOf, slotOf, gateRow, gatesIn};
 ghost use Rattle.circuits.specs.Copies.{lowRow, CopyFits, GatesCopied, GatesMoved};
 
 // Rows 0 to 2,047 have the gates of the open circuits, rows 2,048 to 4,095 those of the closed ones.
 pub const CLOSED_FROM: usize = 2048;
 
-pub const GATE_ROWS: usize = 4096;
-
-// How many slots a row has, at least as many as a gate has wires, and what stands in one that is not used.
-pub const GATE_SLOTS: usize = 3;
-
+// What stands in a slot that is not used.
 pub const NO_WIRE: usize = 65535;
 
 // The wire in a slot of the gate in a row; NO_WIRE where it has no such slot.
@@ -47,8 +43,9 @@ fn label_at(labels: &[u8], n: usize, k: usize) -> usize
     memory::get(labels, k)
 }
 
-// A gate that takes the first labels stands in a row.
+// A gate that takes the first labels stands in a row. The second clause says it of the rows: no label is cut to 16 bits.
 pub fn append_gate(gates: &mut [u8], row: usize, number: usize, labels: &[u8])
+    ensures { λ r. ⌜ now (gates .exit) ≡ putWords 4 (now (gates .entry)) row (rowWords (gateRow (number on take (wiresIn number) (words (now (labels .entry)))))) ⌝ }
     ensures { λ r. ⌜ rowsIn (now (gates .exit)) ≡ set (rowsIn (now (gates .entry))) row (gateRow ((number % 65536) on take (wiresIn number) (words (now (labels .entry))))) ⌝ }
 {
     let n = rules::wires_in(number);

@@ -1,9 +1,10 @@
 // Rows in a lent buffer: four words a row.
-ghost use Prim.Native.Nat.{_+_, _%_, _<_};
+ghost use Prim.Native.Nat.{_+_, _<_};
 ghost use mathlib.Core.Path.{_≡_};
+ghost use mathlib.Core.List.{[], _∷_};
 ghost use lib.Dec.{ltb};
-ghost use lib.ListN.{set};
-ghost use Rattle.circuits.specs.Layout.{row, rowWord, rowsIn, rowAt};
+ghost use Rattle.memory.specs.Words.{putWords};
+ghost use Rattle.circuits.specs.Layout.{rowWord, rowsIn, rowAt};
 
 // Do so many places from one on run past an end?
 pub(crate) fn runs_past(end: usize, from: usize, count: usize) -> bool
@@ -16,7 +17,7 @@ pub(crate) fn runs_past(end: usize, from: usize, count: usize) -> bool
 }
 
 // How many words a row has.
-pub const ROW_WORDS: usize = 4;
+const ROW_WORDS: usize = 4;
 
 // Word k of row i; 0 where there is none.
 pub fn row_word(rows: &[u8], i: usize, k: usize) -> usize
@@ -33,9 +34,10 @@ pub fn row_word(rows: &[u8], i: usize, k: usize) -> usize
     memory::get(rows, 4 * i + k)
 }
 
-// Row i becomes these words, of each of which the low 16 bits count; past the end nothing changes.
+// Row i becomes these words, of each of which the low 16 bits count; past the end nothing changes. The rows
+// then: row-put of specs/Rows.antt.
 pub fn put_row(rows: &mut [u8], i: usize, a: usize, b: usize, c: usize, d: usize)
-    ensures { λ r. ⌜ rowsIn (now (rows .exit)) ≡ set (rowsIn (now (rows .entry))) i (row (a % 65536) (b % 65536) (c % 65536) (d % 65536)) ⌝ }
+    ensures { λ r. ⌜ now (rows .exit) ≡ putWords 4 (now (rows .entry)) i (a ∷ b ∷ c ∷ d ∷ []) ⌝ }
 {
     let n = rows.len() / 8;
     if n <= i {

@@ -3,8 +3,7 @@ use Prim.Native.Nat.{ℕ, _+_, _≤_, _<_}
 use mathlib.Core.Path.{_≡_}
 use mathlib.Core.List.{List, [], _∷_}
 use lib.ListN.{length}
-use Rattle.rules.specs.Types.{Ty}
-use Rattle.rules.specs.GateCodes.{typeCodes}
+use Rattle.rules.specs.Types.{Ty, typeCodes}
 use Rattle.rules.specs.Terms.{Boxed}
 use Rattle.rules.specs.Circuits.{Circuit, circuit, wireCount}
 use Rattle.rules.specs.Sizes.{closedGates, most-gates, most-boxes}
@@ -73,8 +72,8 @@ pub record Roomy (m : Memory) : Type 0 where
   pub result-words : (b : ℕ) → b < 4 → 32768 ≤ length (m .results b)
 
 -- The circuits: the open ones Cs, the innermost first, and the closed ones K, the latest first.
-pub record HoldsBuilt (types : ℕ → Ty) (m : Memory) (n : Counts) (Cs : List Circuit) (K : List Boxed) : Type 0 where
-  pub circuits-held : HoldsCircuits types (m .gates) (m .closed) (m .results) Cs K
+pub record HoldsBuilt (types : ℕ → Ty) (positions : ℕ) (m : Memory) (n : Counts) (Cs : List Circuit) (K : List Boxed) : Type 0 where
+  pub circuits-held : HoldsCircuits types positions (m .gates) (m .closed) (m .results) Cs K
   pub frames-held : HoldsFrames (m .frames) Cs
   pub counted : Counted n Cs K
   pub roomy : Roomy m
@@ -88,7 +87,7 @@ HoldsTypes types positions m = (p : ℕ) → p < positions → Stands (m .types)
 pub record HoldsParts (types : ℕ → Ty) (positions : ℕ) (m : Memory) (r : Registers) (w : Walk) (Cs : List Circuit)
     (K : List Boxed) : Type 0 where
   pub walk-held : Holds (m .nodes) (m .stack) (r .place) w
-  pub built : HoldsBuilt types m (r .counts) Cs K
+  pub built : HoldsBuilt types positions m (r .counts) Cs K
   pub types-held : HoldsTypes types positions m
 
 -- The memory with the registers holds a state, which stands for the configuration `decode types` of it.

@@ -4,7 +4,7 @@ use mathlib.Core.List.{[], _∷_, flatMap}
 use Rattle.rules.specs.Types.{Bit, Qubit}
 use Rattle.rules.specs.Terms.{single, both, _on_}
 use Rattle.rules.specs.Circuits.{circuit}
-use Rattle.rules.specs.Cases.{one-label, two-labels, H, CNOT, Meas}
+use Rattle.rules.specs.CaseTerms.{one-label, two-labels, H, CNOT, Meas}
 use Rattle.listing.specs.Listing.{listing}
 
 -- c1: "output wire 0".

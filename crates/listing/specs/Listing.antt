@@ -5,7 +5,7 @@ use lib.ListN.{length}
 use Rattle.rules.specs.Types.{Wire, Bit, Qubit}
 use Rattle.rules.specs.Terms.{Tuple, labels, Gate, _on_}
 use Rattle.rules.specs.Circuits.{Circuit, circuit}
-use Rattle.circuits.specs.Layout.{no-wire}
+use Rattle.rules.specs.Slots.{no-wire}
 
 -- 16 bits, "low byte first".
 abbrev pub bytesOf : ℕ → List ℕ

@@ -7,8 +7,8 @@ use mathlib.Core.Path.{_≡_, refl, sym, _∙_, ap, ap₂}
 use mathlib.Core.List.{List, [], _∷_, _++_, map, flatMap, reverse, reverse-cons, append-nil}
 use mathlib.Core.Option.{some}
 use lib.ListN.{length, getD, take, length-map, List·getD-map}
-use Rattle.rules.specs.Types.{Wire, Bit, Qubit}
-use Rattle.rules.specs.GateCodes.{wireCode, wiresIn}
+use Rattle.rules.specs.Types.{Wire, Bit, Qubit, wireCode}
+use Rattle.rules.specs.GateCodes.{wiresIn}
 use Rattle.rules.specs.Terms.{Tuple, labels, Gate}
 use Rattle.rules.specs.Circuits.{circuit}
 use Rattle.evaluation.specs.Trees.{Node, Tree, preorder, tupleOfTree}

@@ -7,8 +7,7 @@ use mathlib.Core.List.{List, [], _∷_, _++_, map, flatMap, append-assoc}
 use mathlib.Core.Option.{some}
 use lib.ListN.{length, take, drop, length-append}
 use lib.Seq.{take-add}
-use Rattle.rules.specs.Types.{Wire}
-use Rattle.rules.specs.GateCodes.{wireCode}
+use Rattle.rules.specs.Types.{Wire, wireCode}
 use Rattle.rules.specs.Terms.{Tuple, labels, Gate}
 use Rattle.rules.specs.Circuits.{circuit}
 use Rattle.evaluation.specs.Trees.{Node, kind, argument, Tree, preorder, tupleOfTree}

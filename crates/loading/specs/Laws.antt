@@ -6,9 +6,8 @@ use mathlib.Core.List.{List, [], _∷_, _++_, map}
 use mathlib.Core.Option.{some}
 use lib.ListN.{length, drop}
 use lib.Seq.{drop-at}
-use Rattle.rules.specs.Types.{Wire, Bit, Ty, wire, entries}
+use Rattle.rules.specs.Types.{Wire, Bit, Ty, wire, entries, wireCode, typeCodes}
 use Rattle.rules.specs.Gates.{nth}
-use Rattle.rules.specs.GateCodes.{wireCode, typeCodes}
 use Rattle.rules.specs.Terms.{single, boxed, Term, variable, label, gate, abstraction, application, pair, let-in, lift}
 use Rattle.rules.specs.Terms.{force, box, apply}
 use Rattle.rules.specs.Sizes.{nodes}

@@ -5,7 +5,7 @@ use mathlib.Core.Path.{_≡_, refl, sym, _∙_, ap, ap₂, subst}
 use mathlib.Core.List.{List, [], _++_, map, append-assoc, append-nil}
 use lib.ListN.{length, set, drop, length-set}
 use lib.Seq.{drop-length, drop-append-le, getD-set-same}
-use Rattle.rules.specs.GateCodes.{wireCode, typeCodes}
+use Rattle.rules.specs.Types.{wireCode, typeCodes}
 use Rattle.rules.specs.Circuits.{circuit}
 use Rattle.rules.specs.Sizes.{most-nodes}
 use Rattle.program.specs.Format.{labelCount, typeCount, termCount, firstTerm, kindAt}
@@ -129,7 +129,7 @@ module _ (f : List ℕ) (L P N : ℕ) (read : readOf f ≡ Accepted L P N) where
                   (omega arith) deep (omega arith);
               built =
                   record {
-                    circuits-held = nothing-built (typesOf f) gs cs results (labelsOf f);
+                    circuits-held = nothing-built (typesOf f) P gs cs results (labelsOf f);
                     frames-held = (
                       ap (λ l. rowAt l 0) e′ ∙ frame-held fs rows,
                       omega (arith, file .label-count, file .labels-fit),

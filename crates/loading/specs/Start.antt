@@ -4,7 +4,7 @@ use mathlib.Core.Path.{_≡_}
 use mathlib.Core.Bool.{false}
 use mathlib.Core.List.{List, map}
 use lib.ListN.{length}
-use Rattle.rules.specs.GateCodes.{wireCode}
+use Rattle.rules.specs.Types.{wireCode}
 use Rattle.rules.specs.Sizes.{most-nodes}
 use Rattle.rules.specs.Steps.{start}
 use Rattle.program.specs.Reading.{readOf}

@@ -18,7 +18,7 @@ ghost use Rattle.loading.specs.Trees.{valuesFrom, nodeFrom};
 ghost use Rattle.loading.specs.Start.{registersAt, Loads};
 
 // The word of the types' buffer from which on the kinds of the labels stand.
-pub const LABELS_FROM: usize = 512;
+const LABELS_FROM: usize = 512;
 
 fn wide(x: u8) -> usize
     ensures { λ r. ⌜ r ≡ x ⌝ }

@@ -36,7 +36,7 @@ pub struct Advanced {
 }
 
 // What one turn leads to: one step more is taken, or this is the end.
-pub enum Turned {
+enum Turned {
     GoesOn(Registers),
     Ends {
         ending: Ending,
@@ -61,7 +61,7 @@ fn is_end(stop: Stop) -> bool
 }
 
 // One turn: the walk to the stop, then the step there, unless this is the last turn.
-pub fn turn(
+fn turn(
     last: bool,
     allowance: usize,
     registers: Registers,
@@ -130,6 +130,12 @@ pub fn turn(
     }
 }
 
+// The bytes of the two memories that hold nothing between steps: 4,097 parts that a substitution waits for, and 512 labels of
+// an apply's argument, a word each.
+const LEAST_WAITING: usize = 8194;
+
+const LEAST_LABELS: usize = 1024;
+
 // At most k steps.
 pub fn advance(
     k: usize,
@@ -137,8 +143,6 @@ pub fn advance(
     registers: Registers,
     nodes: &mut [u8],
     stack: &mut [u8],
-    waiting: &mut [u8],
-    labels: &mut [u8],
     types: &[u8],
     frames: &mut [u8],
     gates: &mut [u8],
@@ -148,13 +152,15 @@ pub fn advance(
     third: &mut [u8],
     fourth: &mut [u8],
 ) -> Advanced
-    ensures { λ r. ⌜ (most-nodes < length (words (now (waiting .entry))) → 512 ≤ length (words (now (labels .entry))) → Advances allowance k
+    ensures { λ r. ⌜ (Advances allowance k
         (memory (nodesIn (now (nodes .entry))) (stackRowsIn (now (stack .entry))) (rowsIn (now (gates .entry))) (rowsIn (now (closed .entry))) (rowsIn (now (frames .entry))) (words (now (types .entry)))
         (fourResults (words (now (first .entry))) (words (now (second .entry))) (words (now (third .entry))) (words (now (fourth .entry)))))
         (memory (nodesIn (now (nodes .exit))) (stackRowsIn (now (stack .exit))) (rowsIn (now (gates .exit))) (rowsIn (now (closed .exit))) (rowsIn (now (frames .exit))) (words (now (types .entry)))
         (fourResults (words (now (first .exit))) (words (now (second .exit))) (words (now (third .exit))) (words (now (fourth .exit)))))
         registers r) ⌝ }
 {
+    let mut waiting = [0u8; LEAST_WAITING];
+    let mut labels = [0u8; LEAST_LABELS];
     let mut steps: usize = 0;
     let mut now = registers;
     loop {
@@ -164,8 +170,8 @@ pub fn advance(
             now,
             nodes,
             stack,
-            waiting,
-            labels,
+            &mut waiting,
+            &mut labels,
             types,
             frames,
             gates,

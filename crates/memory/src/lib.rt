@@ -1,8 +1,8 @@
 // 16-bit words, low byte first, in a lent byte buffer: the one view of memory that the layers above have.
 ghost use mathlib.Core.Path.{_≡_};
-ghost use Prim.Native.Nat.{_%_};
-ghost use lib.ListN.{length, getD, set, replicate};
-ghost use Rattle.memory.specs.Words.{words};
+ghost use mathlib.Core.List.{[], _∷_};
+ghost use lib.ListN.{length, getD, replicate};
+ghost use Rattle.memory.specs.Words.{words, putWords};
 
 // Word i; 0 past the end.
 pub fn get(memory: &[u8], i: usize) -> usize
@@ -15,10 +15,10 @@ pub fn get(memory: &[u8], i: usize) -> usize
     memory[2 * i] as usize + 256 * (memory[2 * i + 1] as usize)
 }
 
-// Word i becomes the value, of which the low 16 bits count; past the end nothing changes.
+// Word i becomes the value, of which the low 16 bits count; past the end nothing changes. The words then: word-put of
+// specs/Laws.antt.
 pub fn put(memory: &mut [u8], i: usize, value: usize)
-    ensures { λ r. ⌜ words (now (memory .exit)) ≡ set (words (now (memory .entry))) i (value % 65536) ⌝ }
-    ensures { λ r. ⌜ length (now (memory .exit)) ≡ length (now (memory .entry)) ⌝ }
+    ensures { λ r. ⌜ now (memory .exit) ≡ putWords 1 (now (memory .entry)) i (value ∷ []) ⌝ }
 {
     let n = memory.len() / 2;
     if i < n {

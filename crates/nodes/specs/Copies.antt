@@ -1,11 +1,15 @@
 -- Elements of a list are copied to another place of it, one by one.
-use Prim.Native.Nat.{ℕ, suc, _+_, _-_, _≤_, _<_}
+use Prim.Native.Nat.{ℕ, zero, suc, _+_, _*_, _-_, _≤_, _<_, _/_}
 use native.Mathlib.Omega.{arith}
-use mathlib.Core.Path.{_≡_, sym, _∙_, ap}
+use mathlib.Core.Path.{_≡_, refl, sym, _∙_, ap, ap₂}
+use mathlib.Core.Bool.{Bool, true, false, cond, _&&_}
 use mathlib.Core.Logic.{_⊎_, inl, inr}
 use mathlib.Core.List.{List, [], _∷_, _++_}
+use lib.Dec.{leb}
 use lib.ListN.{length, getD, set, take, drop, length-drop}
 use lib.Seq.{take-suc, getD-drop, length-take-le}
+use borrow.Author.Tests.{le-leb, lt-leb}
+use Rattle.nodes.specs.Copying.{copied, copyNodes}
 use Rattle.nodes.specs.Regions.{over, over-nil, over-more, getD-over, getD-under}
 
 -- No element is overwritten before it is copied: the other place is below, or behind all of them.
@@ -58,3 +62,64 @@ module _ {A : Type 0} (d : A) (l : List A) (from to count : ℕ) (fits : from + 
       e′ ∙ ap (λ x. set l₁ (to + i) x) there
       ∙ ap (λ x. set x (to + i) (getD l (from + i) d)) e
       ∙ one-more i h
+
+-- Bytes that are not overwritten before they are copied.
+pub bytes-copied : (m : List ℕ) (from to count : ℕ)
+    → from + count ≤ length m
+    → to + count ≤ length m
+    → Clear from to count
+    → (i : ℕ)
+    → i ≤ count
+    → copied m from to i ≡ over m to (take i (drop from m))
+bytes-copied m from to count fits room clear zero h = copied-none m from to
+bytes-copied m from to count fits room clear (suc i) h =
+    let next : i + 1 ≡ suc i = omega arith in
+    copied-more 0 m from to count fits room (copied m from to i) (copied m from to (suc i)) i clear (omega arith)
+    (bytes-copied m from to count fits room clear i (omega arith))
+    refl
+    ∙ ap (λ j. over m to (take j (drop from m))) next
+
+-- Some bytes, and then more.
+pub copied-on : (m : List ℕ) (from to k n : ℕ)
+    → copied m from to (k + n) ≡ copied (copied m from to k) (from + k) (to + k) n
+copied-on m from to k zero =
+    let all : k + 0 ≡ k = omega arith in
+    ap (copied m from to) all
+copied-on m from to k (suc n) =
+    let more : k + suc n ≡ suc (k + n) = omega arith in
+    let source : from + (k + n) ≡ from + k + n = omega arith in
+    let place : to + (k + n) ≡ to + k + n = omega arith in
+    ap (copied m from to) more
+    ∙ ap₂ (λ i j. set (copied m from to (k + n)) i (getD (copied m from to (k + n)) j 0)) place source
+    ∙ ap (λ l. set l (to + k + n) (getD l (from + k + n) 0)) (copied-on m from to k n)
+
+-- Where all of them can be copied, and where not.
+pub copy-within : (m : List ℕ) (from to count : ℕ)
+    → from + count ≤ length m / 4
+    → to + count ≤ length m / 4
+    → copyNodes m from to count ≡ copied m (4 * from) (4 * to) (4 * count)
+unfolding copyNodes
+copy-within m from to count fits room =
+    ap₂ (λ s t. cond (s && t) (copied m (4 * from) (4 * to) (4 * count)) m)
+    (le-leb (from + count) (length m / 4) fits)
+    (le-leb (to + count) (length m / 4) room)
+
+pub copy-not-there : (m : List ℕ) (from to count : ℕ)
+    → length m / 4 < from + count
+    → copyNodes m from to count ≡ m
+unfolding copyNodes
+copy-not-there m from to count h =
+    ap (λ s. cond (s && leb (to + count) (length m / 4)) (copied m (4 * from) (4 * to) (4 * count)) m)
+    (lt-leb (from + count) (length m / 4) h)
+
+pub copy-no-room : (m : List ℕ) (from to count : ℕ)
+    → length m / 4 < to + count
+    → copyNodes m from to count ≡ m
+unfolding copyNodes
+copy-no-room m from to count h = of (leb (from + count) (length m / 4))
+  where
+    of : (s : Bool)
+        → cond (s && leb (to + count) (length m / 4)) (copied m (4 * from) (4 * to) (4 * count)) m ≡ m
+    of true =
+        ap (λ t. cond (true && t) (copied m (4 * from) (4 * to) (4 * count)) m) (lt-leb (to + count) (length m / 4) h)
+    of false = refl

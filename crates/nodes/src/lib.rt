@@ -1,12 +1,13 @@
 // Nodes in a lent buffer: two words a node, its kind and its argument.
-ghost use Prim.Native.Nat.{_+_, _/_, _%_, _<_, _≤_};
+ghost use Prim.Native.Nat.{_+_, _*_, _/_, _<_, _≤_};
 ghost use mathlib.Core.Path.{_≡_};
-ghost use lib.ListN.{length, set, take, drop};
-ghost use Rattle.evaluation.specs.Trees.{node, kind, argument, parts};
+ghost use mathlib.Core.List.{[], _∷_};
+ghost use lib.ListN.{length, drop};
+ghost use Rattle.memory.specs.Words.{putWords};
+ghost use Rattle.evaluation.specs.Trees.{kind, argument, parts};
 ghost use Rattle.nodes.specs.Nodes.{nodesIn, nodeAt};
-ghost use Rattle.nodes.specs.Regions.{over};
 ghost use Rattle.nodes.specs.Spans.{span};
-ghost use Rattle.nodes.specs.Copies.{Clear};
+ghost use Rattle.nodes.specs.Copying.{copied, copyNodes};
 
 // The kind of node i; 0 past the end.
 pub fn kind_at(nodes: &[u8], i: usize) -> usize
@@ -34,9 +35,9 @@ pub fn argument_at(nodes: &[u8], i: usize) -> usize
     nodes[at + 2] as usize + 256 * (nodes[at + 3] as usize)
 }
 
-// Node i becomes this one; past the end nothing changes.
+// Node i becomes this one; past the end nothing changes. The nodes then: node-put of specs/Nodes.antt.
 pub fn put_node(nodes: &mut [u8], i: usize, kind: usize, argument: usize)
-    ensures { λ r. ⌜ nodesIn (now (nodes .exit)) ≡ set (nodesIn (now (nodes .entry))) i (node (kind % 65536) (argument % 65536)) ⌝ }
+    ensures { λ r. ⌜ now (nodes .exit) ≡ putWords 2 (now (nodes .entry)) i (kind ∷ argument ∷ []) ⌝ }
 {
     let n = nodes.len() / 4;
     if n <= i {
@@ -91,7 +92,7 @@ pub fn subtree_end(nodes: &[u8], at: usize) -> usize
 // A node is copied to another place. All its bytes are read before one is written: the compiler then moves them as one.
 fn copy_node(nodes: &mut [u8], from: usize, to: usize)
     requires { ⌜ (from < length (now nodes) / 4) × (to < length (now nodes) / 4) ⌝ }
-    ensures { λ r. ⌜ nodesIn (now (nodes .exit)) ≡ set (nodesIn (now (nodes .entry))) to (nodeAt (nodesIn (now (nodes .entry))) from) ⌝ }
+    ensures { λ r. ⌜ now (nodes .exit) ≡ copied (now (nodes .entry)) (4 * from) (4 * to) 4 ⌝ }
 {
     let source = 4 * from;
     let first = nodes[source];
@@ -108,8 +109,7 @@ fn copy_node(nodes: &mut [u8], from: usize, to: usize)
 // Nodes are copied one by one.
 fn copy_few(nodes: &mut [u8], from: usize, to: usize, count: usize)
     requires { ⌜ (from + count ≤ length (now nodes) / 4) × (to + count ≤ length (now nodes) / 4) ⌝ }
-    ensures { λ r. ⌜ (Clear from to count
-        → nodesIn (now (nodes .exit)) ≡ over (nodesIn (now (nodes .entry))) to (take count (drop from (nodesIn (now (nodes .entry)))))) ⌝ }
+    ensures { λ r. ⌜ now (nodes .exit) ≡ copied (now (nodes .entry)) (4 * from) (4 * to) (4 * count) ⌝ }
 {
     let mut i: usize = 0;
     while i < count {
@@ -121,8 +121,7 @@ fn copy_few(nodes: &mut [u8], from: usize, to: usize, count: usize)
 // Nodes are copied byte by byte: the compiler then moves many bytes at a time.
 fn copy_many(nodes: &mut [u8], from: usize, to: usize, count: usize)
     requires { ⌜ (from + count ≤ length (now nodes) / 4) × (to + count ≤ length (now nodes) / 4) ⌝ }
-    ensures { λ r. ⌜ (Clear from to count
-        → nodesIn (now (nodes .exit)) ≡ over (nodesIn (now (nodes .entry))) to (take count (drop from (nodesIn (now (nodes .entry)))))) ⌝ }
+    ensures { λ r. ⌜ now (nodes .exit) ≡ copied (now (nodes .entry)) (4 * from) (4 * to) (4 * count) ⌝ }
 {
     let source = 4 * from;
     let at = 4 * to;
@@ -138,10 +137,9 @@ fn copy_many(nodes: &mut [u8], from: usize, to: usize, count: usize)
 const FEW: usize = 5;
 
 // So many nodes are copied from one place to another, the first one first. Where they do not stand in the buffer, or there is
-// no room for them, nothing changes.
+// no room for them, nothing changes. The nodes then: nodes-copied of specs/Bytes.antt.
 pub fn copy_nodes(nodes: &mut [u8], from: usize, to: usize, count: usize)
-    ensures { λ r. ⌜ (Clear from to count → from + count ≤ length (nodesIn (now (nodes .entry))) → to + count ≤ length (nodesIn (now (nodes .entry)))
-        → nodesIn (now (nodes .exit)) ≡ over (nodesIn (now (nodes .entry))) to (take count (drop from (nodesIn (now (nodes .entry)))))) ⌝ }
+    ensures { λ r. ⌜ now (nodes .exit) ≡ copyNodes (now (nodes .entry)) from to count ⌝ }
 {
     let n = nodes.len() / 4;
     if n < from {

@@ -1,71 +1,50 @@
--- The lines that `wirelist` prints, for every answer of a run (01, "Listing").
-use Prim.Native.Nat.{ℕ, _≤_}
-use mathlib.Core.Path.{_≡_}
-use mathlib.Core.Bool.{false}
-use mathlib.Core.List.{List, [], _∷_}
-use lib.ListN.{length, getD}
-use Rattle.rules.specs.Circuits.{circuit}
-use Rattle.program.specs.declared.Refusal.{Refusal}
-use Rattle.program.specs.Refusals.{refusalNumber, refusalPlace}
-use Rattle.typing.specs.Answers.{labelsOf}
-use Rattle.text.specs.Text.{refusedLine, linesOf}
-use Rattle.text.specs.Least.{least-text}
-use Rattle.text.specs.Writing.{StandsWhole}
-use Rattle.text.specs.Reading.{lineCount, lineAt}
-use Rattle.answers.specs.declared.RunAnswer.{RunAnswer}
-use Rattle.answers.specs.declared.RunAnswer.the-variants.{Finished, Refused}
-use Rattle.answers.specs.Lengths.{tooShort}
-use Rattle.answers.specs.Answers.{declines, runOf, runAnswer, runOut}
-use Rattle.answers.specs.Demand2.{Finishes}
+-- What the program `wirelist` reads and prints (01, "Listing").
+use Prim.Native.Nat.{ℕ, _+_, _*_}
+use mathlib.Core.List.{List, []}
+use mathlib.Core.Option.{Option, none, some}
+use Rattle.rules.specs.Terms.{Tuple}
+use Rattle.rules.specs.Circuits.{Circuit}
+use Rattle.rules.specs.Steps.{frame, Configuration, configuration, start}
+use Rattle.rules.specs.Sizes.{most-gates}
+use Rattle.rules.specs.Next.{tupleOf}
+use Rattle.rules.specs.Runs.{advanced}
+use Rattle.refusals.specs.declared.Refusal.{Refusal}
+use Rattle.refusals.specs.Refusals.{refusalNumber, refusalPlace}
+use Rattle.typing.specs.Answers.{labelsOf, termOf}
+use Rattle.text.specs.Text.{refusedLine, lines}
+use Rattle.answers.specs.Answers.{Ran, ran, declines, runOf}
 
--- "On refusal it prints one line".
-abbrev pub refusalLines : Refusal → List (List ℕ)
-refusalLines x = refusedLine (refusalNumber x) (refusalPlace x) ∷ []
+-- "reads at most 7,879 bytes of a program file from standard input (one more than the longest file has)". Program file:
+-- "L labels (0 to 64), P type entries (0 to 512), N term entries (1 to 2,048)", "Length: 6 + 3E".
+abbrev pub longest-file : ℕ
+longest-file = 6 + 3 * (64 + 512 + 2048)
 
--- All lines for a file that is run with a limit: where the rules' steps finish, those of the listed circuit, its outputs and
--- the number of steps; else that of the refusal.
-pub data Prints (f : List ℕ) (limit : ℕ) : List (List ℕ) → Type 0 where
-  finished : {steps gates : ℕ} {bytes : List ℕ} (h : Finishes f limit steps gates bytes)
-      → Prints f limit (linesOf (circuit (labelsOf f) (h .listed-gates)) (h .outputs) steps)
-  refused : {x : Refusal} → runOf f limit ≡ declines x → Prints f limit (refusalLines x)
+abbrev pub most-read : ℕ
+most-read = longest-file + 1
 
--- How many lines there are for an answer and the bytes of its output buffer, and line i of them.
-abbrev pub answerCount : RunAnswer → List ℕ → ℕ
-answerCount (Finished steps gates size) b = lineCount b
-answerCount (Refused x) b = 1
+-- "runs it with limit 1,000,000".
+abbrev pub step-limit : ℕ
+step-limit = 1000000
 
-abbrev pub answerLine : RunAnswer → List ℕ → ℕ → List ℕ
-answerLine (Finished steps gates size) b i = lineAt b steps i
-answerLine (Refused x) b i = getD (refusalLines x) i []
+-- "On refusal it prints one line, `refused`, number, place".
+abbrev pub refusalText : Refusal → List ℕ
+refusalText x = refusedLine (refusalNumber x) (refusalPlace x)
 
--- For every file whose run, with no buffer too short, gave this answer and left these bytes in the output buffer: n is the
--- number of its lines.
-abbrev pub CountsLines : RunAnswer → List ℕ → ℕ → Type 0
-CountsLines answer b n =
-    (f : List ℕ) (limit : ℕ) (lengths out : List ℕ) (ls : List (List ℕ))
-    → tooShort lengths ≡ false
-    → answer ≡ runAnswer f limit lengths
-    → b ≡ runOut f limit lengths out
-    → Prints f limit ls
-    → n ≡ length ls
+-- "one line per input, per gate, the outputs and the steps": of the circuit of the one frame that is left and of the label
+-- tuple which its term is. No run finishes with another term (`printed-finished` in Theorems).
+abbrev pub tupleText : ℕ → Circuit → Option Tuple → List ℕ
+tupleText steps C none = []
+tupleText steps C (some r) = lines C r steps
 
--- And a text of the least length that held l holds line i of them.
-abbrev pub HoldsLine : RunAnswer → List ℕ → ℕ → List ℕ → List ℕ → ℕ → Type 0
-HoldsLine answer b i l text at =
-    (f : List ℕ) (limit : ℕ) (lengths out : List ℕ) (ls : List (List ℕ))
-    → tooShort lengths ≡ false
-    → answer ≡ runAnswer f limit lengths
-    → b ≡ runOut f limit lengths out
-    → Prints f limit ls
-    → least-text ≤ length l
-    → StandsWhole l (getD ls i []) text at
+abbrev pub finishedText : ℕ → Configuration → List ℕ
+finishedText steps (configuration (frame C M) X K) = tupleText steps C (tupleOf M)
 
--- And this is line i of them.
-abbrev pub IsLine : RunAnswer → List ℕ → ℕ → List ℕ → Type 0
-IsLine answer b i line =
-    (f : List ℕ) (limit : ℕ) (lengths out : List ℕ) (ls : List (List ℕ))
-    → tooShort lengths ≡ false
-    → answer ≡ runAnswer f limit lengths
-    → b ≡ runOut f limit lengths out
-    → Prints f limit ls
-    → line ≡ getD ls i []
+-- What is printed for a run of the file with this limit, by what the run comes to.
+abbrev pub ranText : List ℕ → ℕ → Ran → List ℕ
+ranText f limit (ran steps gates bytes) =
+    finishedText steps (advanced most-gates limit 0 (start (labelsOf f) (termOf f)) .reached)
+ranText f limit (declines x) = refusalText x
+
+-- All bytes that `wirelist` prints for the bytes of a program file.
+unfoldable pub printed : List ℕ → List ℕ
+printed f = ranText f step-limit (runOf f step-limit)

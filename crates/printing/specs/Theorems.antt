@@ -1,37 +1,58 @@
--- A run's answer and output buffer give the lines of its file.
+-- What is printed for each answer of a run, and how long it is.
 use Prim.Native.Nat.{ℕ, _≤_}
 use native.Mathlib.Omega.{arith}
 use mathlib.Core.Path.{_≡_, refl, sym, _∙_, ap, ap₂, subst}
-use mathlib.Core.Bool.{false}
-use mathlib.Core.List.{List, [], _++_}
+use mathlib.Core.Bool.{false, cond}
+use mathlib.Core.List.{List, [], _∷_, _++_, map}
 use mathlib.Core.Option.{some}
-use lib.ListN.{length, getD, take, drop, List·getD-eq-default}
-use lib.Seq.{take-append-seam}
-use Rattle.rules.specs.Types.{Wire}
-use Rattle.rules.specs.Terms.{Tuple, labels, Gate, Term, tuple}
-use Rattle.rules.specs.Circuits.{circuit, TakesEarlier}
-use Rattle.rules.specs.Steps.{frame, Configuration, configuration}
+use lib.ListN.{length, drop, getD, replicate}
+use Rattle.rules.specs.Terms.{Gate, Term, tuple}
+use Rattle.rules.specs.Circuits.{circuit}
+use Rattle.rules.specs.Steps.{frame, Configuration, configuration, start}
+use Rattle.rules.specs.Sizes.{most-gates}
 use Rattle.rules.specs.Demand3.{finished as at-end}
 use Rattle.rules.specs.Next.{tupleOf}
 use Rattle.rules.specs.Theorems.Deterministic.{tuple-value, tupleOf-tuple}
-use Rattle.program.specs.declared.Refusal.{Refusal}
-use Rattle.program.specs.Refusals.{refusalNumber, refusalPlace}
-use Rattle.typing.specs.Answers.{labelsOf}
-use Rattle.listing.specs.Listing.{listing}
-use Rattle.text.specs.Text.{refusedLine, lineOf}
-use Rattle.text.specs.Least.{most-outputs, least-text}
-use Rattle.text.specs.Writing.{Written, StandsWhole, puts-none, puts-first}
-use Rattle.text.specs.Reading.{lineCount, lineAt}
-use Rattle.text.specs.Theorems.{lines-counted}
+use Rattle.rules.specs.Theorems.Runs.{finish-means}
+use Rattle.refusals.specs.declared.Refusal.{Refusal}
+use Rattle.refusals.specs.Refusals.{refusalNumber, refusalPlace}
+use Rattle.typing.specs.Answers.{labelsOf, termOf}
+use Rattle.text.specs.Text.{refusedLine, lines}
+use Rattle.text.specs.Least.{least-text}
+use Rattle.text.specs.Written.{Written}
+use Rattle.text.specs.Reading.{textAt}
+use Rattle.text.specs.Theorems.{in-order}
+use Rattle.text.specs.Fitting.{Printable, printable, lines-fit}
 use Rattle.answers.specs.declared.RunAnswer.{RunAnswer}
+use Rattle.refusals.specs.declared.Refusal.the-variants.{Run}
 use Rattle.answers.specs.declared.RunAnswer.the-variants.{Finished, Refused}
-use Rattle.answers.specs.Lengths.{tooShort}
-use Rattle.answers.specs.Answers.{Ran, ran, declines, runOf, answerTo, outTo, runAnswer, runOut}
+use Rattle.lent.specs.Lent.{anyBelow, tooShort, answered, bytesLeft}
+use Rattle.answers.specs.Lengths.{run-lengths}
+use Rattle.answers.specs.Answers.{Ran, ran, declines, runOf, answerTo, outTo, runAnswer, runBytes}
 use Rattle.answers.specs.Demand2.{Finishes}
-use Rattle.answers.specs.Theorems.Finishing.{FinishedRun, finished-facts}
+use Rattle.answers.specs.Theorems.Finishing.{FinishedRun, start-typed, finished-facts}
 use Rattle.answers.specs.Theorems.Running.{run-finishes}
-use Rattle.printing.specs.Printing.{refusalLines, Prints, finished, refused, answerCount, answerLine, CountsLines}
-use Rattle.printing.specs.Printing.{HoldsLine, IsLine}
+use Rattle.printing.specs.Printing.{step-limit, refusalText, tupleText, finishedText, ranText, printed}
+use Rattle.printing.specs.Answered.{answerText, RefusalFits}
+
+-- Where the rules' steps finish, the lines of the listed circuit, its outputs and the number of steps are printed.
+pub printed-finished : {f : List ℕ} {steps gates : ℕ} {bytes : List ℕ} (h : Finishes f step-limit steps gates bytes)
+    → printed f ≡ lines (circuit (labelsOf f) (h .listed-gates)) (h .outputs) steps
+unfolding printed
+printed-finished {f} {steps} {gates} {bytes} h =
+    let C = circuit (labelsOf f) (h .listed-gates) in
+    let ends = finish-means most-gates step-limit (start (labelsOf f) (termOf f))
+    (start-typed f (h .program .program-type) (h .program .accepted)) .only steps
+    (configuration (frame C (tuple (h .outputs))) [] (h .closed))
+    (record { row = h .row; in-time = h .in-time; at-end = at-end (tuple-value (h .outputs)) }) in
+    ap (ranText f step-limit) (run-finishes f step-limit steps gates bytes .1 h)
+    ∙ ap (λ r. finishedText steps (r .reached)) ends
+    ∙ ap (tupleText steps C) (tupleOf-tuple (h .outputs))
+
+-- Else the line of the refusal is.
+pub printed-refused : (f : List ℕ) {x : Refusal} → runOf f step-limit ≡ declines x → printed f ≡ refusalText x
+unfolding printed
+printed-refused f e = ap (ranText f step-limit) e
 
 -- The gates of a finish, and the labels of its tuple, are known from the configuration.
 gates-of : Configuration → List Gate
@@ -43,11 +64,11 @@ term-of (configuration (frame C M) X K) = M
 some-same : {A : Type 0} {x y : A} → some x ≡ some y → x ≡ y
 some-same e = cc
 
--- What a run lists is a sound circuit with at most 256 outputs.
-pub listed-sound : {f : List ℕ} {limit steps gates : ℕ} {bytes : List ℕ} (h : Finishes f limit steps gates bytes)
-    → TakesEarlier (labelsOf f) (h .listed-gates) × (length (labels (h .outputs)) ≤ 256)
+-- What a run lists is a sound circuit within the sizes.
+listed-printable : {f : List ℕ} {limit steps gates : ℕ} {bytes : List ℕ} (h : Finishes f limit steps gates bytes)
+    → Printable (labelsOf f) (h .listed-gates) (h .outputs)
 unfolding gates-of term-of
-listed-sound {f} {steps = steps} h =
+listed-printable {f} {steps = steps} h =
     let c = configuration (frame (circuit (labelsOf f) (h .listed-gates)) (tuple (h .outputs))) [] (h .closed) in
     let A = h .program .program-type in
     let F : FinishedRun (labelsOf f) A c
@@ -56,183 +77,83 @@ listed-sound {f} {steps = steps} h =
     let same : h .listed-gates ≡ F .gates = ap gates-of (F .finish-is) in
     let tuples : tuple (h .outputs) ≡ tuple (F .outputs) = ap term-of (F .finish-is) in
     let alike : h .outputs ≡ F .outputs
-    = some-same (sym (tupleOf-tuple (h .outputs)) ∙ ap tupleOf tuples ∙ tupleOf-tuple (F .outputs)) in (
-      subst (TakesEarlier (labelsOf f)) (sym same) (F .takes-earlier),
-      subst (λ k. length (labels k) ≤ 256) (sym alike) (F .few-outputs),
-    )
+    = some-same (sym (tupleOf-tuple (h .outputs)) ∙ ap tupleOf tuples ∙ tupleOf-tuple (F .outputs)) in
+    subst (λ r. Printable (labelsOf f) (h .listed-gates) r) (sym alike)
+    (subst (λ gs. Printable (labelsOf f) gs (F .outputs)) (sym same)
+    (printable (F .takes-earlier) (F .outputs-typed) (F .few-inputs) (F .few-gates) (F .few-outputs)))
 
--- For every file there are lines.
-pub always-prints : (f : List ℕ) (limit : ℕ) → (ls : List (List ℕ)) × Prints f limit ls
-always-prints f limit = of (runOf f limit) refl
-  where
-    of : (x : Ran) → runOf f limit ≡ x → (ls : List (List ℕ)) × Prints f limit ls
-    of (ran steps gates bytes) e = (_, finished (run-finishes f limit steps gates bytes .0 e))
-    of (declines x) e = (_, refused e)
+-- The text for each kind of answer.
+module _ (b : List ℕ) {answer : RunAnswer} {l text : List ℕ} {at : ℕ} where
+  pub answer-finished : {steps gates size : ℕ}
+      → answer ≡ Finished steps gates size
+      → Written l (textAt b steps) text at
+      → Written l (answerText answer b) text at × RefusalFits answer
+  answer-finished kind written =
+      (subst (λ a. Written l (answerText a b) text at) (sym kind) written, subst RefusalFits (sym kind) tt)
 
--- What `write_line` promises of bytes that begin with a listing.
-abbrev pub ListedLine : List ℕ → ℕ → ℕ → List ℕ → List ℕ → ℕ → Type 0
-ListedLine b steps i l text at =
-    (I : List Wire) (gs : List Gate) (k : Tuple) (rest : List ℕ)
-    → b ≡ listing (circuit I gs) k ++ rest
-    → TakesEarlier I gs
-    → length (labels k) ≤ most-outputs
-    → least-text ≤ length l
-    → StandsWhole l (lineOf (circuit I gs) k steps i) text at
-
--- The output buffer of a finished run begins with the listing.
-module _ (f : List ℕ) (limit : ℕ) (out b : List ℕ) (held : b ≡ outTo out (runOf f limit)) where
-  begins : {steps gates : ℕ} {bytes : List ℕ} (h : Finishes f limit steps gates bytes)
-      → b ≡ listing (circuit (labelsOf f) (h .listed-gates)) (h .outputs) ++ drop (length bytes) out
-  begins {steps} {gates} {bytes} h =
-      held
-      ∙ ap (outTo out) (run-finishes f limit steps gates bytes .1 h)
-      ∙ ap (λ t. t ++ drop (length bytes) out) (h .bytes-are)
-
-  -- The steps of a finished answer are those of the rules.
-  same-steps : {steps gates size s g : ℕ} {bytes : List ℕ}
-      → Finished steps gates size ≡ answerTo (runOf f limit)
-      → Finishes f limit s g bytes
-      → s ≡ steps
-  same-steps {steps} {gates} {size} {s} {g} {bytes} answered h =
-      let e : Finished steps gates size ≡ Finished s g (length bytes)
-      = answered ∙ ap answerTo (run-finishes f limit s g bytes .1 h) in
-      cc
-
-  -- So many lines, and line i, after a finished answer.
-  pub finished-count : {steps gates size : ℕ} {ls : List (List ℕ)}
-      → Finished steps gates size ≡ answerTo (runOf f limit)
-      → Prints f limit ls
-      → lineCount b ≡ length ls
-  finished-count answered (finished {steps = s} {bytes = bytes} h) =
-      lines-counted (labelsOf f) (h .listed-gates) (h .outputs) (drop (length bytes) out) b (begins h) s
-  finished-count {steps} {gates} {size} answered (refused {x} e) =
-      let never : Finished steps gates size ≡ Refused x = answered ∙ ap answerTo e in
-      let z : _≡_ {A = ℕ} 0 1 = cc in
-      absurd (omega arith)
-
-  pub finished-line : (steps i : ℕ) {gates size : ℕ} {ls : List (List ℕ)} {l text : List ℕ} {at : ℕ}
-      → ListedLine b steps i l text at
-      → Finished steps gates size ≡ answerTo (runOf f limit)
-      → Prints f limit ls
-      → least-text ≤ length l
-      → StandsWhole l (getD ls i []) text at
-  finished-line steps i {l = l} {text = text} {at = at} holds answered (finished {steps = s} {bytes = bs} h) room =
-      let facts = listed-sound h in
-      subst
-      (λ n. StandsWhole l (lineOf (circuit (labelsOf f) (h .listed-gates)) (h .outputs) n i) text at)
-      (sym (same-steps answered h))
-      (holds (labelsOf f) (h .listed-gates) (h .outputs) (drop (length bs) out) (begins h) (facts .0) (facts .1) room)
-  finished-line steps i {gates} {size} holds answered (refused {x} e) room =
-      let never : Finished steps gates size ≡ Refused x = answered ∙ ap answerTo e in
-      let z : _≡_ {A = ℕ} 0 1 = cc in
-      absurd (omega arith)
-
--- The one line of a refusal.
-pub refusal-lines : (f : List ℕ) (limit : ℕ) {x : Refusal} {ls : List (List ℕ)}
-    → Refused x ≡ answerTo (runOf f limit)
-    → Prints f limit ls
-    → refusalLines x ≡ ls
-refusal-lines f limit {x} answered (finished {steps} {gates} {bytes} h) =
-    let never : Refused x ≡ Finished steps gates (length bytes)
-    = answered ∙ ap answerTo (run-finishes f limit steps gates bytes .1 h) in
-    let z : _≡_ {A = ℕ} 0 1 = cc in
-    absurd (omega arith)
-refusal-lines f limit {x} answered (refused {x = y} e) =
-    let alike : Refused x ≡ Refused y = answered ∙ ap answerTo e in
-    let same : x ≡ y = cc in
-    ap refusalLines same
+  pub answer-refused : {x : Refusal} {number place : ℕ}
+      → answer ≡ Refused x
+      → number ≡ refusalNumber x
+      → place ≡ refusalPlace x
+      → Written l (refusedLine number place) text at
+      → length (refusedLine number place) ≤ least-text
+      → Written l (answerText answer b) text at × RefusalFits answer
+  answer-refused kind is-number is-place written fits =
+      let its = ap₂ refusedLine is-number is-place in (
+        subst (λ a. Written l (answerText a b) text at) (sym kind) (subst (λ xs. Written l xs text at) its written),
+        subst RefusalFits (sym kind) (subst (λ xs. length xs ≤ least-text) its fits),
+      )
 
 -- What a run answers and leaves in its output buffer where no buffer is too short.
-pub answer-is : (f : List ℕ) (limit : ℕ) (lengths : List ℕ)
-    → tooShort lengths ≡ false
-    → runAnswer f limit lengths ≡ answerTo (runOf f limit)
-unfolding runAnswer
-answer-is f limit lengths e = rw e
+pub run-answers : (f : List ℕ) (limit : ℕ) (out : List ℕ) (work work′ : List (List ℕ)) {answer : RunAnswer} {b : List ℕ}
+    → tooShort run-lengths (out ∷ work) ≡ false
+    → answer ≡ runAnswer f limit (out ∷ work)
+    → (b ∷ work′) ≡ runBytes f limit (out ∷ work)
+    → (answer ≡ answerTo (runOf f limit)) × (b ≡ outTo out (runOf f limit))
+unfolding runAnswer bytesLeft
+run-answers f limit out work work′ long is held = (
+  is ∙ ap (λ t. cond t (Refused (Run 19 0)) (answerTo (runOf f limit))) long,
+  ap (λ l. getD l 0 [])
+      (held ∙ ap (λ t. cond t (out ∷ work) (answered (λ o. outTo o (runOf f limit)) (out ∷ work))) long),
+)
 
-pub out-is : (f : List ℕ) (limit : ℕ) (lengths out : List ℕ)
-    → tooShort lengths ≡ false
-    → runOut f limit lengths out ≡ outTo out (runOf f limit)
-unfolding runOut
-out-is f limit lengths out e = rw e
+-- The text of that is what is printed, and a buffer of the least length holds it.
+module _ (f out : List ℕ) {answer : RunAnswer} {b : List ℕ}
+    (answers : (answer ≡ answerTo (runOf f step-limit)) × (b ≡ outTo out (runOf f step-limit))) where
+  text-of : (x : Ran) → runOf f step-limit ≡ x → answerText (answerTo x) (outTo out x) ≡ printed f
+  text-of (ran steps gates bytes) e =
+      let h = run-finishes f step-limit steps gates bytes .0 e in
+      in-order (labelsOf f) (h .listed-gates) (h .outputs) (drop (length bytes) out) (outTo out (ran steps gates bytes))
+      (ap (λ t. t ++ drop (length bytes) out) (h .bytes-are))
+      steps
+      (listed-printable h .takes-earlier)
+      ∙ sym (printed-finished h)
+  text-of (declines x) e = sym (printed-refused f e)
 
--- The number of lines, and line i, for each kind of answer.
-module _ {answer : RunAnswer} {b : List ℕ} {steps gates size : ℕ} (kind : answer ≡ Finished steps gates size) where
-  pub count-finished : {n : ℕ} → n ≡ lineCount b → (n ≡ answerCount answer b) × CountsLines answer b n
-  count-finished e = (
-    e ∙ ap (λ a. answerCount a b) (sym kind),
-    λ f limit lengths out ls long answered held prints.
-        e
-        ∙ finished-count f limit out b (held ∙ out-is f limit lengths out long)
-        (sym kind ∙ answered ∙ answer-is f limit lengths long)
-        prints,
-  )
+  pub answer-printed : answerText answer b ≡ printed f
+  answer-printed =
+      ap (λ a. answerText a b) (answers .0)
+      ∙ ap (answerText (answerTo (runOf f step-limit))) (answers .1)
+      ∙ text-of (runOf f step-limit) refl
 
-  pub line-finished : (i : ℕ) {l text : List ℕ} {at : ℕ}
-      → Written l (lineAt b steps i) text at
-      → ListedLine b steps i l text at
-      → Written l (answerLine answer b i) text at × HoldsLine answer b i l text at
-  line-finished i {l} {text} {at} written holds = (
-    subst (λ a. Written l (answerLine a b i) text at) (sym kind) written,
-    λ f limit lengths out ls long answered held prints room.
-        finished-line f limit out b (held ∙ out-is f limit lengths out long) steps i holds
-        (sym kind ∙ answered ∙ answer-is f limit lengths long)
-        prints
-        room,
-  )
+  fits-of : (x : Ran) → runOf f step-limit ≡ x → RefusalFits (answerTo x) → length (printed f) ≤ least-text
+  fits-of (ran steps gates bytes) e fits =
+      let h = run-finishes f step-limit steps gates bytes .0 e in
+      omega (arith, ap length (printed-finished h), lines-fit steps (listed-printable h) (omega (arith, h .in-time)))
+  fits-of (declines x) e fits = omega (arith, ap length (printed-refused f e), fits)
 
-module _ {answer : RunAnswer} {b : List ℕ} {x : Refusal} (kind : answer ≡ Refused x) where
-  pub count-refused : (1 ≡ answerCount answer b) × CountsLines answer b 1
-  count-refused = (
-    ap (λ a. answerCount a b) (sym kind),
-    λ f limit lengths out ls long answered held prints.
-        ap length (refusal-lines f limit (sym kind ∙ answered ∙ answer-is f limit lengths long) prints),
-  )
+  pub printed-fits : RefusalFits answer → length (printed f) ≤ least-text
+  printed-fits fits = fits-of (runOf f step-limit) refl (subst RefusalFits (answers .0) fits)
 
-  pub line-refused : (i : ℕ) {l text : List ℕ} {at : ℕ}
-      → Written l (getD (refusalLines x) i []) text at
-      → (least-text ≤ length l → StandsWhole l (getD (refusalLines x) i []) text at)
-      → Written l (answerLine answer b i) text at × HoldsLine answer b i l text at
-  line-refused i {l} {text} {at} written holds = (
-    subst (λ a. Written l (answerLine a b i) text at) (sym kind) written,
-    λ f limit lengths out ls long answered held prints room.
-        subst
-        (λ ms. StandsWhole l (getD ms i []) text at)
-        (refusal-lines f limit (sym kind ∙ answered ∙ answer-is f limit lengths long) prints)
-        (holds room),
-  )
-
--- The line of a refusal is its first; there is no other.
-pub first-refused : (x : Refusal) {i number place : ℕ} {l text : List ℕ} {at : ℕ}
-    → i ≡ 0
-    → number ≡ refusalNumber x
-    → place ≡ refusalPlace x
-    → Written l (refusedLine number place) text at
-    → (least-text ≤ length l → StandsWhole l (refusedLine number place) text at)
-    → Written l (getD (refusalLines x) i []) text at
-    × (least-text ≤ length l → StandsWhole l (getD (refusalLines x) i []) text at)
-first-refused x {i} {number} {place} {l} {text} {at} first n p written holds =
-    let its : refusedLine number place ≡ getD (refusalLines x) i []
-    = ap₂ refusedLine n p ∙ ap (λ j. getD (refusalLines x) j []) (sym first) in (
-      subst (λ xs. Written l xs text at) its written,
-      λ room. subst (λ xs. StandsWhole l xs text at) its (holds room),
+-- The text that was written of a run's answer, by the contract of the run.
+pub answered-text : (f out : List ℕ) (work work′ : List (List ℕ)) {answer : RunAnswer} {b l text : List ℕ} {at : ℕ}
+    → answer ≡ runAnswer f step-limit (out ∷ work)
+    → (b ∷ work′) ≡ runBytes f step-limit (out ∷ work)
+    → Written l (answerText answer b) text at × RefusalFits answer
+    → map length (out ∷ work) ≡ replicate 11 65536
+    → Written l (printed f) text at × (length (printed f) ≤ least-text)
+answered-text f out work work′ {l = l} {text = text} {at = at} is held written lengths =
+    let answers = run-answers f step-limit out work work′ (ap (anyBelow run-lengths) lengths) is held in (
+      subst (λ xs. Written l xs text at) (answer-printed f out answers) (written .0),
+      printed-fits f out answers (written .1),
     )
-
-pub none-refused : (x : Refusal) {i : ℕ}
-    → (i ≡ 0 → ⊥)
-    → (l : List ℕ)
-    → Written l (getD (refusalLines x) i []) l 0
-    × (least-text ≤ length l → StandsWhole l (getD (refusalLines x) i []) l 0)
-none-refused x {i} later l =
-    let none : getD (refusalLines x) i [] ≡ [] = List·getD-eq-default (refusalLines x) [] {n = i} (omega arith) in (
-      subst (λ xs. Written l xs l 0) (sym none) (puts-first (puts-none l 0)),
-      λ room. subst (λ xs. StandsWhole l xs l 0) (sym none) (refl, refl),
-    )
-
--- The bytes of a line that stands whole.
-pub is-line : {answer : RunAnswer} {b : List ℕ} {i : ℕ} {l text : List ℕ} {at : ℕ}
-    → HoldsLine answer b i l text at
-    → least-text ≤ length l
-    → IsLine answer b i (take at text)
-is-line {i = i} {l = l} holds room f limit lengths out ls long answered held prints =
-    let whole = holds f limit lengths out ls long answered held prints room in
-    ap₂ take (whole .1) (whole .0) ∙ take-append-seam (getD ls i []) (drop (length (getD ls i [])) l)

@@ -1,125 +1,69 @@
-// What wirelist does (01, "Listing"): a program file is read from one descriptor and run, and its lines are written to another.
+// What wirelist does (01, "Listing"): a program file is read from one descriptor and run, and its text is written to another.
 use answers::RunAnswer;
-use cabinet::run;
-use program::Refusal;
-use program::number_of;
-use program::place_of;
+use refusals::number_of;
+use refusals::place_of;
+use run::run;
 use text::LEAST_TEXT;
-use text::line_count;
-use text::write_line;
+use text::write_lines;
 use text::write_refusal;
 ghost use Prim.Native.Nat.{_≤_};
 ghost use mathlib.Core.Path.{_≡_};
-ghost use mathlib.Core.List.{[]};
-ghost use lib.ListN.{length, getD, take};
+ghost use lib.ListN.{length, take};
 ghost use Rattle.text.specs.Least.{least-text};
-ghost use Rattle.text.specs.Writing.{Written, StandsWhole};
-ghost use Rattle.printing.specs.Printing.{refusalLines, answerCount, answerLine, CountsLines, HoldsLine, IsLine};
+ghost use Rattle.text.specs.Written.{Written};
+ghost use Rattle.printing.specs.Printing.{most-read, printed};
+ghost use Rattle.printing.specs.Answered.{answerText, RefusalFits};
 
 // 01: "reads at most 7,879 bytes of a program file" and "runs it with limit 1,000,000".
-const MOST_BYTES: usize = 7879;
+const MOST_READ: usize = 7879;
 
 const LIMIT: u32 = 1000000;
 
-// How many lines there are for an answer of a run and its output buffer.
-pub fn count_lines(answer: RunAnswer, out: &[u8]) -> usize
-    ensures { λ r. ⌜ r ≡ answerCount answer (now (out .entry)) ⌝ }
-    ensures { λ r. ⌜ CountsLines answer (now (out .entry)) r ⌝ }
-{
-    match answer {
-        RunAnswer::Finished {
-            steps: _,
-            gates: _,
-            length: _,
-        } => line_count(out),
-        RunAnswer::Refused(_) => 1,
-    }
-}
+// No buffer of a run has a greater least length.
+const LARGE: usize = 65536;
 
-// Line i for a refusal, which has only one.
-fn write_refused(refusal: Refusal, i: usize, text: &mut [u8]) -> usize
-    ensures { λ r. ⌜ Written (now (text .entry)) (getD (refusalLines refusal) i []) (now (text .exit)) r ⌝ }
-    ensures { λ r. ⌜ (least-text ≤ length (now (text .entry))
-        → StandsWhole (now (text .entry)) (getD (refusalLines refusal) i []) (now (text .exit)) r) ⌝ }
-{
-    if i == 0 {
-        return write_refusal(number_of(refusal), place_of(refusal), text);
-    }
-    0
-}
-
-// Line i for an answer of a run and its output buffer is written from the start of the text, as much of it as that holds;
-// answers how many bytes. A text of the least length holds line i of all that are printed for the file.
-pub fn write_answer(answer: RunAnswer, out: &[u8], i: usize, text: &mut [u8]) -> usize
-    ensures { λ r. ⌜ Written (now (text .entry)) (answerLine answer (now (out .entry)) i) (now (text .exit)) r ⌝ }
-    ensures { λ r. ⌜ HoldsLine answer (now (out .entry)) i (now (text .entry)) (now (text .exit)) r ⌝ }
+// The text for an answer of a run and its output buffer.
+fn write_answer(answer: RunAnswer, out: &[u8], text: &mut [u8]) -> usize
+    ensures { λ r. ⌜ Written (now (text .entry)) (answerText answer (now (out .entry))) (now (text .exit)) r ⌝ }
+    ensures { λ r. ⌜ RefusalFits answer ⌝ }
 {
     match answer {
         RunAnswer::Finished {
             steps,
             gates: _,
             length: _,
-        } => write_line(out, steps, i, text),
-        RunAnswer::Refused(refusal) => write_refused(refusal, i, text),
+        } => write_lines(out, steps, text),
+        RunAnswer::Refused(refusal) => {
+            let number = number_of(refusal);
+            let place = place_of(refusal);
+            write_refusal(number, place, text)
+        }
     }
 }
 
-// A line: so many bytes at the start of the text.
-pub struct Line {
-    pub text: [u8; LEAST_TEXT],
-    pub length: usize,
-}
-
-// Line i for an answer of a run and its output buffer.
-pub fn line_of(answer: RunAnswer, out: &[u8], i: usize) -> Line
-    ensures { λ r. ⌜ IsLine answer (now (out .entry)) i (take (r .length) (r .text)) ⌝ }
-    ensures { λ r. ⌜ r .length ≤ length (r .text) ⌝ }
+// All that wirelist prints for a program file is written from the start of the text, as much of it as that holds; answers
+// how many bytes. A text of the least length holds it whole.
+pub fn print_text(file: &[u8], text: &mut [u8]) -> usize
+    ensures { λ r. ⌜ Written (now (text .entry)) (printed (now (file .entry))) (now (text .exit)) r ⌝ }
+    ensures { λ r. ⌜ length (printed (now (file .entry))) ≤ least-text ⌝ }
 {
-    let mut text = [0u8; LEAST_TEXT];
-    let length = write_answer(answer, out, i, &mut text);
-    Line { text, length }
-}
-
-// Prints line i; answers whether it could be written.
-fn print_line(output: i32, answer: RunAnswer, out: &[u8], i: usize) -> bool {
-    let line = line_of(answer, out, i);
-    let text = line.text;
-    let length = line.length;
-    io::write_all(output, &text[..length])
-}
-
-// Prints all lines, in order, up to one that cannot be written.
-fn print_lines(output: i32, answer: RunAnswer, out: &[u8]) {
-    let count = count_lines(answer, out);
-    let mut i: usize = 0;
-    while i < count && print_line(output, answer, out, i) {
-        i += 1;
-    }
-}
-
-// Runs a program file and prints its lines.
-fn print_file(output: i32, file: &[u8]) {
-    let mut out = io::large_buffer();
-    let mut nodes = io::large_buffer();
-    let mut stack = io::large_buffer();
-    let mut waiting = io::large_buffer();
-    let mut labels = io::large_buffer();
-    let mut types = io::large_buffer();
-    let mut frames = io::large_buffer();
-    let mut gates = io::large_buffer();
-    let mut closed = io::large_buffer();
-    let mut first = io::large_buffer();
-    let mut second = io::large_buffer();
-    let mut third = io::large_buffer();
-    let mut fourth = io::large_buffer();
+    let mut out = [0u8; LARGE];
+    let mut nodes = [0u8; LARGE];
+    let mut stack = [0u8; LARGE];
+    let mut types = [0u8; LARGE];
+    let mut frames = [0u8; LARGE];
+    let mut gates = [0u8; LARGE];
+    let mut closed = [0u8; LARGE];
+    let mut first = [0u8; LARGE];
+    let mut second = [0u8; LARGE];
+    let mut third = [0u8; LARGE];
+    let mut fourth = [0u8; LARGE];
     let answer = run(
         file,
         LIMIT,
         &mut out,
         &mut nodes,
         &mut stack,
-        &mut waiting,
-        &mut labels,
         &mut types,
         &mut frames,
         &mut gates,
@@ -129,12 +73,29 @@ fn print_file(output: i32, file: &[u8]) {
         &mut third,
         &mut fourth,
     );
-    print_lines(output, answer, &out);
+    write_answer(answer, &out, text)
 }
 
-// Reads a program file until it ends or the most bytes are read, runs it and prints its lines.
+// The same with a text of the least length: the bytes before the number that it answers are all that is printed.
+fn print_whole(file: &[u8], text: &mut [u8; LEAST_TEXT]) -> usize
+    ensures { λ r. ⌜ take r (now (text .exit)) ≡ printed (now (file .entry)) ⌝ }
+    ensures { λ r. ⌜ r ≤ length (now (text .exit)) ⌝ }
+{
+    print_text(file, text)
+}
+
+// Reads a program file until it ends or the most bytes are read; answers how many.
+fn read_file(input: i32, file: &mut [u8; MOST_READ]) -> usize
+    ensures { λ r. ⌜ (r ≤ most-read) × (length (now (file .exit)) ≡ most-read) ⌝ }
+{
+    io::read_full(input, file)
+}
+
+// Reads a program file, runs it and prints its text.
 pub fn print_run(input: i32, output: i32) {
-    let mut file = [0u8; MOST_BYTES];
-    let size = io::read_full(input, &mut file);
-    print_file(output, &file[..size]);
+    let mut file = [0u8; MOST_READ];
+    let size = read_file(input, &mut file);
+    let mut text = [0u8; LEAST_TEXT];
+    let length = print_whole(&file[..size], &mut text);
+    io::write_all(output, &text[..length]);
 }

@@ -3,11 +3,12 @@ use Prim.Native.Nat.{ℕ}
 use mathlib.Core.Path.{_≡_, refl}
 use mathlib.Core.List.{List, [], _∷_, _++_}
 use lib.ListN.{replicate}
-use Rattle.rules.specs.GateCodes.{isGate}
+use Rattle.rules.specs.Gates.{isGate}
 use Rattle.program.specs.Format.{wordAt, kindAt, argumentAt, labelShape, typeShape, termShape, shapeAt}
 use Rattle.program.specs.Reading.{refused, sizesRight, kindWrong, argumentWrong, typeWrong}
 use Rattle.program.specs.Reading.{circWrong, boxWrong, wiresWrong}
 use Rattle.program.specs.Reading.{readScope, readWhole, readWires, readTypes, readArguments, readKinds, readOf}
+use Rattle.program.specs.CaseFiles.{fileOf, c1-file, sizes-file}
 use Rattle.program.specs.declared.ReadAnswer.{ReadAnswer}
 use Rattle.program.specs.declared.ReadAnswer.the-variants.{Accepted}
 
@@ -18,19 +19,7 @@ unfolding isGate
     circWrong boxWrong wiresWrong readScope readWhole readWires readTypes readArguments readKinds readOf
 opened f = readOf f
 
--- A file of these sizes, kinds and arguments, each less than 256.
-abbrev pub words : List ℕ → List ℕ
-words [] = []
-words (a ∷ more) = a ∷ 0 ∷ words more
-
-abbrev pub fileOf : ℕ → ℕ → ℕ → List ℕ → List ℕ → List ℕ
-fileOf labels types terms kinds arguments =
-    (labels ∷ 0 ∷ types ∷ 0 ∷ terms ∷ 0 ∷ []) ++ (kinds ++ words arguments)
-
--- c1: label 0 alone. "File (hex) 01 00 00 00 01 00 01 11 00 00 00 00."
-abbrev pub c1-file : List ℕ
-c1-file = 0x01 ∷ 0x00 ∷ 0x00 ∷ 0x00 ∷ 0x01 ∷ 0x00 ∷ 0x01 ∷ 0x11 ∷ 0x00 ∷ 0x00 ∷ 0x00 ∷ 0x00 ∷ []
-
+-- c1: label 0 alone.
 pub c1-accepted : readOf c1-file ≡ Accepted 1 0 1
 unfolding opened
 c1-accepted = refl
@@ -39,9 +28,6 @@ c1-accepted = refl
 pub empty-file : readOf [] ≡ refused 1 0
 unfolding opened
 empty-file = refl
-
-abbrev pub sizes-file : List ℕ
-sizes-file = 0x01 ∷ 0x00 ∷ 0x00 ∷ 0x00 ∷ 0x00 ∷ 0x00 ∷ []
 
 pub sizes-alone : readOf sizes-file ≡ refused 2 0
 unfolding opened

@@ -4,7 +4,7 @@ use mathlib.Core.Bool.{Bool, true, false, _&&_, cond}
 use mathlib.Core.List.{List}
 use lib.Dec.{eqb, leb, ltb}
 use lib.ListN.{getD}
-use Rattle.rules.specs.GateCodes.{isGate}
+use Rattle.rules.specs.Gates.{isGate}
 use Rattle.program.specs.declared.format.Argument.{Argument}
 use Rattle.program.specs.declared.format.Argument.the-variants.{Zero, LabelNumber, GateNumber, TypePosition, BinderCount}
 use Rattle.program.specs.declared.format.Shape.{Shape}
@@ -14,30 +14,35 @@ use Rattle.program.specs.declared.format.Shape.the-variants.{Node, Unkno
 unfoldable pub wordAt : List ℕ → ℕ → ℕ
 wordAt f i = getD f i 0 + 256 * getD f (i + 1) 0
 
--- 01: "Three 16-bit sizes, low byte first: L labels, P type entries, N term entries. Let E = L+P+N."
+-- 01: "Three 16-bit sizes, low byte first: L labels".
 abbrev pub labelCount : List ℕ → ℕ
 labelCount f = wordAt f 0
 
+-- 01: "P type entries".
 abbrev pub typeCount : List ℕ → ℕ
 typeCount f = wordAt f 2
 
+-- 01: "N term entries".
 abbrev pub termCount : List ℕ → ℕ
 termCount f = wordAt f 4
 
--- Entries are numbered from 0: labels, types, terms. The first term entry, and the number of all entries.
+-- 01: "Entries are numbered from 0: labels, types, terms." The first term entry.
 abbrev pub firstTerm : List ℕ → ℕ
 firstTerm f = labelCount f + typeCount f
 
+-- 01: "Let E = L+P+N."
 abbrev pub entryCount : List ℕ → ℕ
 entryCount f = firstTerm f + termCount f
 
--- 01: "Then two parallel arrays: E kind bytes, E 16-bit arguments, low byte first."
+-- 01: "Then two parallel arrays: E kind bytes".
 unfoldable pub kindAt : List ℕ → ℕ → ℕ
 kindAt f e = getD f (6 + e) 0
 
+-- 01: "E 16-bit arguments, low byte first."
 unfoldable pub argumentAt : List ℕ → ℕ → ℕ
 argumentAt f e = wordAt f (6 + entryCount f + 2 * e)
 
+-- A kind in a range of numbers.
 abbrev pub within : ℕ → ℕ → ℕ → Bool
 within least greatest k = leb least k && leb k greatest
 
@@ -70,6 +75,7 @@ shapeAt f e =
     cond (ltb e (labelCount f)) (labelShape (kindAt f e))
     (cond (ltb e (firstTerm f)) (typeShape (kindAt f e)) (termShape (kindAt f e)))
 
+-- 4: whether a kind is one of its section.
 abbrev pub isKnown : Shape → Bool
 isKnown (Node parts argument) = true
 isKnown Unknown = false
@@ -83,6 +89,7 @@ argumentAllowed labels types GateNumber a = isGate a
 argumentAllowed labels types TypePosition a = ltb a types
 argumentAllowed labels types BinderCount a = true
 
+-- 5: whether an entry of this shape may have this argument.
 abbrev pub shapeAllows : ℕ → ℕ → Shape → ℕ → Bool
 shapeAllows labels types (Node parts argument) a = argumentAllowed labels types argument a
 shapeAllows labels types Unknown a = false

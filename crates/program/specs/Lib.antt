@@ -1,4 +1,3 @@
-pub mod Refusals
 pub mod Format
 pub mod Sized
 pub mod Walks
@@ -6,7 +5,7 @@ pub mod Reading
 pub mod Laws
 pub mod Walking
 pub mod ReadLaws
-pub mod Packed
+pub mod CaseFiles
 pub mod Examples
 pub mod Trees
 pub mod Theorems

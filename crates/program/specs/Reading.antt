@@ -7,8 +7,8 @@ use lib.ListN.{length}
 use Rattle.program.specs.Format.{wordAt, labelCount, typeCount, termCount, firstTerm, entryCount, kindAt, argumentAt}
 use Rattle.program.specs.Format.{within, shapeAt, isKnown, shapeAllows}
 use Rattle.program.specs.Walks.{firstFrom, walkFrom}
-use Rattle.program.specs.declared.Refusal.{Refusal}
-use Rattle.program.specs.declared.Refusal.the-variants.{Form}
+use Rattle.refusals.specs.declared.Refusal.{Refusal}
+use Rattle.refusals.specs.declared.Refusal.the-variants.{Form}
 use Rattle.program.specs.declared.ReadAnswer.{ReadAnswer}
 use Rattle.program.specs.declared.ReadAnswer.the-variants.{Accepted, Refused}
 use Rattle.program.specs.declared.Found.{Found}
@@ -17,14 +17,17 @@ use Rattle.program.specs.declared.walk.Subject.the-variants.{TypeEnd, Wi
 use Rattle.program.specs.declared.walk.Walked.{Walked}
 use Rattle.program.specs.declared.walk.Walked.the-variants.{To, Stopped, Out}
 
+-- A refusal of the family form, with its number and place.
 abbrev pub refused : ℕ → ℕ → ReadAnswer
 refused number place = Refused (Form number place)
 
+-- The parts that were waited for all stand there.
 abbrev pub reaches : Walked → Bool
 reaches (To e) = true
 reaches (Stopped e) = false
 reaches Out = false
 
+-- The section ends before them.
 abbrev pub runsOut : Walked → Bool
 runsOut (To e) = false
 runsOut (Stopped e) = false
@@ -46,14 +49,16 @@ argumentWrong f e = not (shapeAllows (labelCount f) (typeCount f) (shapeAt f e) 
 unfoldable pub typeWrong : List ℕ → ℕ → Bool
 typeWrong f e = runsOut (walkFrom TypeEnd f (firstTerm f - e) e (0 ∷ []))
 
--- 7: "a Circ or box with a part or type that is no wire type".
+-- 7: "a Circ or box with a part or type that is no wire type". Of a Circ: its two parts.
 unfoldable pub circWrong : List ℕ → ℕ → Bool
 circWrong f e = not (reaches (walkFrom WireType f (firstTerm f - (e + 1)) (e + 1) (0 ∷ 0 ∷ [])))
 
+-- 7, of a box: the type at its position is no wire type.
 unfoldable pub boxWrong : List ℕ → ℕ → Bool
 boxWrong f e =
     not (reaches (walkFrom WireType f (typeCount f - argumentAt f e) (labelCount f + argumentAt f e) (0 ∷ [])))
 
+-- 7, of any entry: only Circ entries of the type section and box entries of the term section are concerned.
 unfoldable pub wiresWrong : List ℕ → ℕ → Bool
 wiresWrong f e =
     cond (ltb e (labelCount f)) false
@@ -65,6 +70,7 @@ scopeAnswer f (To e) = Accepted (labelCount f) (typeCount f) (termCount f)
 scopeAnswer f (Stopped e) = refused 9 e
 scopeAnswer f Out = Accepted (labelCount f) (typeCount f) (termCount f)
 
+-- The test for 9, of the whole term.
 unfoldable pub readScope : List ℕ → ReadAnswer
 readScope f = scopeAnswer f (walkFrom Scope f (termCount f) (firstTerm f) (0 ∷ []))
 
@@ -75,6 +81,7 @@ wholeAnswer f (To e) = let later = readScope f in cond (eqb e (entryCount f)) la
 wholeAnswer f (Stopped e) = refused 8 e
 wholeAnswer f Out = refused 8 (entryCount f)
 
+-- The test for 8, then that for 9.
 unfoldable pub readWhole : List ℕ → ReadAnswer
 readWhole f = wholeAnswer f (walkFrom TermEnd f (termCount f) (firstTerm f) (0 ∷ []))
 
@@ -83,19 +90,23 @@ abbrev pub orElse : ℕ → Found → ReadAnswer → ReadAnswer
 orElse number (At e) later = refused number e
 orElse number Nothing later = later
 
+-- The test for 7, of every entry, then those behind it.
 unfoldable pub readWires : List ℕ → ReadAnswer
 readWires f = let later = readWhole f in orElse 7 (firstFrom (wiresWrong f) 0 (entryCount f)) later
 
+-- The test for 6, of every type position, then those behind it.
 unfoldable pub readTypes : List ℕ → ReadAnswer
 readTypes f = let later = readWires f in orElse 6 (firstFrom (typeWrong f) (labelCount f) (typeCount f)) later
 
+-- The test for 5, of every entry, then those behind it.
 unfoldable pub readArguments : List ℕ → ReadAnswer
 readArguments f = let later = readTypes f in orElse 5 (firstFrom (argumentWrong f) 0 (entryCount f)) later
 
+-- The test for 4, of every entry, then those behind it.
 unfoldable pub readKinds : List ℕ → ReadAnswer
 readKinds f = let later = readArguments f in orElse 4 (firstFrom (kindWrong f) 0 (entryCount f)) later
 
--- 1: "under 6 bytes." 3: "length is not 6 + 3E."
+-- The answer of the reader. 1: "under 6 bytes." 2 as above. 3: "length is not 6 + 3E." Then the tests from 4 on.
 unfoldable pub readOf : List ℕ → ReadAnswer
 readOf f =
     let later = readKinds f in

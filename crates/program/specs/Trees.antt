@@ -7,13 +7,12 @@ use mathlib.Core.List.{List, [], _∷_, _++_, map}
 use mathlib.Core.Option.{some}
 use lib.Dec.{T as IsTrue, ltb}
 use lib.ListN.{length, replicate}
-use Rattle.rules.specs.Types.{Wire, Bit, Qubit, Ty, wire, _⊗_, _⊸_, !_, Circ, isWireType, entries}
-use Rattle.rules.specs.Gates.{nth}
-use Rattle.rules.specs.GateCodes.{isGate, wireCode, typeCodes}
+use Rattle.rules.specs.Types.{Wire, Bit, Qubit, Ty, wire, _⊗_, _⊸_, !_, Circ, isWireType, entries, wireCode, typeCodes}
+use Rattle.rules.specs.Gates.{nth, isGate}
 use Rattle.rules.specs.Terms.{Term, variable, label, gate, constant, abstraction, application, pair, let-in, lift}
 use Rattle.rules.specs.Terms.{force, box, apply}
 use Rattle.rules.specs.Sizes.{nodes}
-use Rattle.rules.specs.Inference.{source}
+use Rattle.rules.specs.Counting.{source}
 use Rattle.program.specs.Format.{labelCount, typeCount, termCount, firstTerm, entryCount, kindAt, argumentAt}
 
 -- A type stands in preorder in the entries e to n − 1. 01, type section: "0 Bit, 1 Qubit (no parts); 2 pair, 3 function,

@@ -38,6 +38,7 @@ scopeParts f e binders =
     (cond (eqb (kindAt f e) 18) (One (binders + 1))
     (cond (eqb (kindAt f e) 21) (Two binders (binders + 2)) (partsOf (shapeAt f e) binders)))
 
+-- The parts that follow entry e, by what is read: a type, a wire type, a term, or a term with its binders.
 abbrev pub partsAt : Subject → List ℕ → ℕ → ℕ → Parts
 partsAt TypeEnd f e binders = partsOf (shapeAt f e) binders
 partsAt WireType f e binders = wireParts (kindAt f e)

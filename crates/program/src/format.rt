@@ -66,7 +66,7 @@ pub(crate) fn argument_at(file: &[u8], s: Sizes, e: usize) -> usize
     word(file, 6 + (s.labels + s.types + s.terms) + 2 * e)
 }
 
-pub fn label_shape(kind: u8) -> Shape
+pub(crate) fn label_shape(kind: u8) -> Shape
     ensures { λ r. ⌜ r ≡ labelShape kind ⌝ }
 {
     match kind {
@@ -78,7 +78,7 @@ pub fn label_shape(kind: u8) -> Shape
     }
 }
 
-pub fn type_shape(kind: u8) -> Shape
+pub(crate) fn type_shape(kind: u8) -> Shape
     ensures { λ r. ⌜ r ≡ typeShape kind ⌝ }
 {
     match kind {

@@ -13,20 +13,12 @@ use crate::walk::Walked;
 use crate::walk::walk;
 use crate::wires::first_wrong_type;
 use crate::wires::first_wrong_wires;
+use refusals::Refusal;
 ghost use mathlib.Core.Path.{_≡_};
 ghost use Rattle.program.specs.Format.{labelCount, typeCount, termCount};
 ghost use Rattle.program.specs.Sized.{Sized};
-ghost use Rattle.program.specs.Refusals.{refusalNumber, refusalPlace};
 ghost use Rattle.program.specs.Reading.{readScope, readWhole, readWires, readTypes, readArguments, readKinds, readOf};
 ghost use Rattle.program.specs.ReadLaws.{sizesFit};
-ghost use Rattle.program.specs.Packed.{packedOf, packed};
-
-// A refusal belongs to one of three families; its number and place are the paper's.
-pub enum Refusal {
-    Form { number: usize, place: usize },
-    Typing { number: usize, place: usize },
-    Run { number: usize, place: usize },
-}
 
 // The sizes of a file that is accepted, or the refusal.
 pub enum ReadAnswer {
@@ -173,52 +165,4 @@ pub fn read(file: &[u8]) -> ReadAnswer
         return form(3, 0);
     }
     read_kinds(file, s)
-}
-
-// The paper's number of a refusal.
-pub fn number_of(refusal: Refusal) -> usize
-    ensures { λ r. ⌜ r ≡ refusalNumber refusal ⌝ }
-{
-    match refusal {
-        Refusal::Form { number, place: _ } => number,
-        Refusal::Typing { number, place: _ } => number,
-        Refusal::Run { number, place: _ } => number,
-    }
-}
-
-// The paper's place of a refusal.
-pub fn place_of(refusal: Refusal) -> usize
-    ensures { λ r. ⌜ r ≡ refusalPlace refusal ⌝ }
-{
-    match refusal {
-        Refusal::Form { number: _, place } => place,
-        Refusal::Typing { number: _, place } => place,
-        Refusal::Run { number: _, place } => place,
-    }
-}
-
-// Five numbers in one.
-fn pack(number: usize, place: usize, labels: usize, types: usize, terms: usize) -> u64
-    ensures { λ r. ⌜ r ≡ packedOf number place labels types terms ⌝ }
-{
-    (number % 256) as u64
-        + 256 * ((place % 65536) as u64)
-        + 16777216 * ((labels % 256) as u64)
-        + 4294967296 * ((types % 65536) as u64)
-        + 281474976710656 * ((terms % 65536) as u64)
-}
-
-// What `read` answers, in one number: for callers outside.
-#[no_mangle]
-pub extern "C" fn read_packed(file: &[u8]) -> u64
-    ensures { λ r. ⌜ r ≡ packed (readOf (now (file .entry))) ⌝ }
-{
-    match read(file) {
-        ReadAnswer::Accepted {
-            labels,
-            types,
-            terms,
-        } => pack(0, 0, labels, types, terms),
-        ReadAnswer::Refused(refusal) => pack(number_of(refusal), place_of(refusal), 0, 0, 0),
-    }
 }

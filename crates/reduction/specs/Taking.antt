@@ -35,8 +35,8 @@ module _ (ns ns′ : List Node) (rs : List StackRow) (gs cs fs : List Row) (ws :
     (types : ℕ → Ty) (positions allowance : ℕ) where
   -- What was built does not lie in the nodes.
   built-kept : (n : Counts) (Cs : List Circuit) (K : List Boxed)
-      → HoldsBuilt types (memory ns rs gs cs fs ws results) n Cs K
-      → HoldsBuilt types (memory ns′ rs gs cs fs ws results) n Cs K
+      → HoldsBuilt types positions (memory ns rs gs cs fs ws results) n Cs K
+      → HoldsBuilt types positions (memory ns′ rs gs cs fs ws results) n Cs K
   built-kept n Cs K b =
       record {
         circuits-held = b .circuits-held;

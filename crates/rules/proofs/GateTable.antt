@@ -1,15 +1,16 @@
--- The laws of the gate table's lookups. A rule of the table is a test that antt computes at each of its gates (`tests`), and
+-- The laws of the gate tables' lookups. A rule of the gates is a test that antt computes at each of them (`tests`), and
 -- `at-each` turns the test into the rule for every number. Assumes nothing.
-use Prim.Native.Nat.{ℕ, zero, suc, _+_, _≤_, _<_}
+use Prim.Native.Nat.{ℕ, zero, suc, _≤_, _<_}
 use native.Mathlib.Omega.{arith}
 use mathlib.Core.Path.{_≡_, refl, sym, _∙_, ap}
 use mathlib.Core.Bool.{Bool, true, false, _&&_}
 use mathlib.Core.List.{List, [], _∷_, _++_, map}
 use mathlib.Core.Option.{Option, none, some}
-use lib.Dec.{T as IsTrue, leb, eqb, ltb, leb→le, eqb→eq, leb·zero, leb·suc-zero, leb·suc-suc}
-use lib.ListN.{length, getD, length-append, List·getD-eq-default}
-use Rattle.rules.specs.Gates.{GateType, _to_, nth, gateTable, gateType}
-use Rattle.rules.specs.GateCodes.{codeAt, isSome, filled, row, columns, cellOf}
+use lib.Dec.{T as IsTrue, leb, ltb, leb→le, leb·zero, leb·suc-zero, leb·suc-suc}
+use lib.ListN.{length, getD, List·getD-eq-default}
+use Rattle.rules.specs.Gates.{GateType, _to_, nth, gateTable, gateType, isSome, isGate}
+use Rattle.rules.specs.GateCodes.{codeAt, circCodes, typeEntries, typeCode, most-type, filled}
+use Rattle.rules.specs.Types.{typeCodes}
 
 and-left : (a b : Bool) → IsTrue (a && b) → IsTrue a
 and-left true b t = tt
@@ -29,142 +30,60 @@ at-each f [] t n = t
 at-each f (g ∷ l) t zero = and-left (f (some g)) (tests f l) t
 at-each f (g ∷ l) t (suc n) = at-each f l (and-right (f (some g)) (tests f l) t) n
 
--- The same for the numbers below k.
-abbrev pub below : (ℕ → Bool) → ℕ → Bool
-below f zero = true
-below f (suc k) = f zero && below (λ i. f (suc i)) k
-
-pub at-below : (f : ℕ → Bool) (k : ℕ) → IsTrue (below f k) → (i : ℕ) → i < k → IsTrue (f i)
-at-below f zero t i h = absurd (omega arith)
-at-below f (suc k) t zero h = and-left (f zero) (below (λ i. f (suc i)) k) t
-at-below f (suc k) t (suc i) h =
-    at-below (λ i. f (suc i)) k (and-right (f zero) (below (λ i. f (suc i)) k) t) i (omega arith)
-
--- A number below the table's length is a gate, and no other is.
-pub of-gate : (P : Option GateType → Type 0) (l : List GateType)
-    → ((g : GateType) → P (some g))
-    → (n : ℕ)
-    → n < length l
-    → P (nth l n)
-of-gate P [] p n h = absurd (omega arith)
-of-gate P (g ∷ l) p zero h = p g
-of-gate P (g ∷ l) p (suc n) h = of-gate P l p n (omega arith)
-
+-- A number that is not below the table's length is no gate.
 pub of-no-gate : (P : Option GateType → Type 0) (l : List GateType) → P none → (n : ℕ) → length l ≤ n → P (nth l n)
 of-no-gate P [] p n h = p
 of-no-gate P (g ∷ l) p zero h = absurd (omega arith)
 of-no-gate P (g ∷ l) p (suc n) h = of-no-gate P l p n (omega arith)
 
-pub is-some : (l : List GateType) (n : ℕ) → ltb n (length l) ≡ isSome (nth l n)
-is-some [] n = leb·suc-zero n
-is-some (g ∷ l) zero = leb·suc-suc 0 (length l) ∙ leb·zero (length l)
-is-some (g ∷ l) (suc n) = leb·suc-suc (suc n) (length l) ∙ is-some l n
-
--- The rows of a list of gates, and the row at a number.
-abbrev pub rows : List GateType → List (List ℕ)
-rows l = map (λ g. row (some g)) l
-
-pub row-at : (l : List GateType) (n : ℕ) → getD (rows l) n [] ≡ row (nth l n)
-row-at [] n = refl
-row-at (g ∷ l) zero = refl
-row-at (g ∷ l) (suc n) = row-at l n
-
--- The numbers of a list of gates, and the one at a number.
-pub number-in : (number : Option GateType → ℕ) (l : List GateType) (n : ℕ)
+-- A table with one entry a gate, looked up at a gate: a number of each, or a row.
+pub entry-at : {X : Type 0} (entry : Option GateType → X) (default : X) (l : List GateType) (n : ℕ)
     → n < length l
-    → getD (map (λ g. number (some g)) l) n 0 ≡ number (nth l n)
-number-in number [] n h = absurd (omega arith)
-number-in number (g ∷ l) zero h = refl
-number-in number (g ∷ l) (suc n) h = number-in number l n (omega arith)
+    → getD (map (λ g. entry (some g)) l) n default ≡ entry (nth l n)
+entry-at entry default [] n h = absurd (omega arith)
+entry-at entry default (g ∷ l) zero h = refl
+entry-at entry default (g ∷ l) (suc n) h = entry-at entry default l n (omega arith)
 
--- Every row has the same length.
-length-filled : (k : ℕ) (codes : List ℕ) → length (filled k codes) ≡ k
-length-filled zero codes = refl
-length-filled (suc k) [] = ap suc (length-filled k [])
-length-filled (suc k) (c ∷ codes) = ap suc (length-filled k codes)
+-- Codes filled up to a number of places, looked up at one of them.
+filled-at : (k : ℕ) (codes : List ℕ) (i : ℕ) → i < k → getD (filled k codes) i 0 ≡ codeAt codes i
+filled-at zero codes i h = absurd (omega arith)
+filled-at (suc k) [] zero h = refl
+filled-at (suc k) [] (suc i) h = filled-at k [] i (omega arith)
+filled-at (suc k) (c ∷ codes) zero h = refl
+filled-at (suc k) (c ∷ codes) (suc i) h = filled-at k codes i (omega arith)
 
-length-row : (g : GateType) → length (row (some g)) ≡ columns
-length-row g = simp (length-append, length-filled)
+-- The rows of the types in preorder.
+abbrev rowOf : Option GateType → List ℕ
+rowOf g = filled most-type (circCodes g)
 
--- Inside a list the value behind its end does not matter.
-within : (l : List ℕ) (i d e : ℕ) → i < length l → getD l i d ≡ getD l i e
-within [] i d e h = absurd (omega arith)
-within (a ∷ l) zero d e h = refl
-within (a ∷ l) (suc i) d e h = within l i d e (omega arith)
-
--- The code's table at a gate and a column, and what there is elsewhere.
-pub table-inside : (n column : ℕ)
+-- The code's table at a gate and a place, and what there is elsewhere.
+pub code-inside : (n i : ℕ)
     → n < length gateTable
-    → column < columns
-    → getD (getD (rows gateTable) n []) column 0 ≡ cellOf n column
-unfolding cellOf
-table-inside n column h k =
-    ap (λ r. getD r column 0) (row-at gateTable n)
-    ∙ of-gate
-    (λ g. getD (row g) column 0 ≡ codeAt (row g) column)
-    gateTable
-    (λ g. within (row (some g)) column 0 255 (omega (arith, length-row g)))
-    n
-    h
+    → i < most-type
+    → getD (getD (map (λ g. rowOf (some g)) gateTable) n []) i 0 ≡ typeCode n i
+unfolding typeCode
+code-inside n i h k =
+    ap (λ r. getD r i 0) (entry-at rowOf [] gateTable n h) ∙ filled-at most-type (circCodes (gateType n)) i k
 
-pub no-such-gate : (n column : ℕ) → length gateTable ≤ n → 255 ≡ cellOf n column
-unfolding cellOf
-no-such-gate n column h = of-no-gate (λ g. 255 ≡ codeAt (row g) column) gateTable refl n h
+pub no-such-gate : (n i : ℕ) → length gateTable ≤ n → 255 ≡ typeCode n i
+unfolding typeCode
+no-such-gate n i h = of-no-gate (λ g. 255 ≡ codeAt (circCodes g) i) gateTable refl n h
 
-pub no-such-column : (n column : ℕ) → columns ≤ column → 255 ≡ cellOf n column
-unfolding cellOf
-no-such-column n column h =
-    let short : length (row (gateType n)) ≤ columns
-    = leb→le _ columns (at-each (λ g. leb (length (row g)) columns) gateTable tt n) in
-    sym (List·getD-eq-default (row (gateType n)) 255 (omega arith))
+pub no-such-entry : (n i : ℕ) → most-type ≤ i → 255 ≡ typeCode n i
+unfolding typeCode
+no-such-entry n i h =
+    let short : length (circCodes (gateType n)) ≤ most-type
+    = leb→le _ most-type (at-each (λ g. leb (length (circCodes g)) most-type) gateTable tt n) in
+    sym (List·getD-eq-default (circCodes (gateType n)) 255 (omega arith))
 
--- A number of each gate that stands in a column.
-module _ (number : Option GateType → ℕ) (column : ℕ) where
-  abbrev pub has-number : Option GateType → Bool
-  has-number none = true
-  has-number (some g) = eqb (codeAt (row (some g)) column) (number (some g))
+-- The gates are the numbers whose type has entries.
+pub gate-has-entries : (n : ℕ) → ltb 0 (typeEntries n) ≡ isGate n
+unfolding typeEntries isGate
+gate-has-entries n = of (gateType n)
+  where
+    positive : (k : ℕ) → ltb 0 (suc k) ≡ true
+    positive k = leb·suc-suc 0 k ∙ leb·zero k
 
-  pub number-at : IsTrue (tests has-number gateTable)
-      → (n : ℕ)
-      → n < length gateTable
-      → cellOf n column ≡ number (gateType n)
-  unfolding cellOf
-  number-at t n h =
-      of-gate
-      (λ g. IsTrue (has-number g) → codeAt (row g) column ≡ number g)
-      gateTable
-      (λ g. eqb→eq (codeAt (row (some g)) column) (number (some g)))
-      n
-      h
-      (at-each has-number gateTable t n)
-
--- Codes of each gate that stand in its row from a column on, in a number of places; and behind these places there are none.
-module _ (codes : Option GateType → List ℕ) (places : ℕ) where
-  abbrev pub has-codes : ℕ → Option GateType → Bool
-  has-codes column g = below (λ i. eqb (codeAt (row g) (column + i)) (codeAt (codes g) i)) places
-
-  pub code-at : (column : ℕ)
-      → IsTrue (tests (has-codes column) gateTable)
-      → (n i : ℕ)
-      → i < places
-      → cellOf n (column + i) ≡ codeAt (codes (gateType n)) i
-  unfolding cellOf
-  code-at column t n i h =
-      eqb→eq
-      (codeAt (row (gateType n)) (column + i))
-      (codeAt (codes (gateType n)) i)
-      (at-below
-      (λ i. eqb (codeAt (row (gateType n)) (column + i)) (codeAt (codes (gateType n)) i))
-      places
-      (at-each (has-codes column) gateTable t n)
-      i
-      h)
-
-  abbrev pub has-room : Option GateType → Bool
-  has-room g = leb (length (codes g)) places
-
-  pub no-code-at : IsTrue (tests has-room gateTable) → (n i : ℕ) → places ≤ i → 255 ≡ codeAt (codes (gateType n)) i
-  no-code-at t n i h =
-      let short : length (codes (gateType n)) ≤ places
-      = leb→le (length (codes (gateType n))) places (at-each has-room gateTable t n) in
-      sym (List·getD-eq-default (codes (gateType n)) 255 (omega arith))
+    of : (g : Option GateType) → ltb 0 (length (circCodes g)) ≡ isSome g
+    of none = leb·suc-zero 0
+    of (some (T to U)) = positive (length (typeCodes T ++ typeCodes U))

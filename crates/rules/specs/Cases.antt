@@ -22,8 +22,12 @@ use Rattle.rules.specs.Steps.{frame, Configuration, configuration, start
 use Rattle.rules.specs.Sizes.{totalNodes}
 use Rattle.rules.specs.Demand3.{Finished, finished}
 use Rattle.rules.specs.Next.{next}
-use Rattle.rules.specs.Inference.{uses, labelUses, Plain, plain-gate, plain-abs, plain-lift, plain-apply}
-use Rattle.rules.specs.Inference.{BoundOnce, NoneCrosses, given, infer}
+use Rattle.rules.specs.Inference.{uses, labelUses, given}
+use Rattle.rules.specs.Counting.{Plain, plain-gate, plain-abs, plain-lift, plain-apply}
+use Rattle.rules.specs.Counting.{BoundOnce, NoneCrosses}
+use Rattle.rules.specs.Inference.{infer}
+use Rattle.rules.specs.CaseTerms.{one-label, two-labels, qubit, H, X, Z, CNOT}
+use Rattle.rules.specs.CaseTerms.{c1, c2, c3, c4, c5, c6, c7, c8, c9, c10, c11, c12}
 use Rattle.rules.specs.Theorems.Counting.{has→counted}
 
 -- The configuration after n steps, if there are as many.
@@ -44,57 +48,21 @@ abbrev pub totals : ℕ → Configuration → List ℕ
 totals zero c = totalNodes c ∷ []
 totals (suc n) c = totalNodes c ∷ elim (next c) as (λ d. List ℕ) [ none ↦ [] | some d ↦ totals n d ]
 
--- The labels of a program: 0 alone, or 0 and 1.
-abbrev pub one-label : List Wire
-one-label = Qubit ∷ []
-
-abbrev pub two-labels : List Wire
-two-labels = Qubit ∷ Qubit ∷ []
-
-abbrev pub qubit : Ty
-qubit = wire Qubit
-
--- 01: "0 H, 1 X, 2 Z", "5 CNOT", "6 Meas".
-abbrev pub H : ℕ
-H = 0
-
-abbrev pub X : ℕ
-X = 1
-
-abbrev pub Z : ℕ
-Z = 2
-
-abbrev pub CNOT : ℕ
-CNOT = 5
-
-abbrev pub Meas : ℕ
-Meas = 6
-
--- c1: "label 0 alone." "Limit 0 finishes, 0 steps, output wire 0."
-abbrev pub c1 : Term
-c1 = label 0
-
+-- c1: "Limit 0 finishes, 0 steps, output wire 0."
 pub c1-type : infer [] (nth one-label) c1 ≡ some qubit
 c1-type = refl
 
 pub c1-run : Ends (start one-label c1) 0 (alone one-label [] (label 0) [])
 c1-run = (refl, finished tt, refl)
 
--- c2: "H applied to label 0. 1 step". By the listing there, H takes wire 0 and the output is wire 1.
-abbrev pub c2 : Term
-c2 = apply (gate H) (label 0)
-
+-- c2: "1 step". By the listing there, H takes wire 0 and the output is wire 1.
 pub c2-type : infer [] (nth one-label) c2 ≡ some qubit
 c2-type = refl
 
 pub c2-run : Ends (start one-label c2) 1 (alone one-label ((H on 0 ∷ []) ∷ []) (label 1) [])
 c2-run = (refl, finished tt, refl)
 
--- c3: "L 2, both Qubit: let takes apart CNOT applied to the pair of labels 0 and 1, and gives the pair of its second half
--- and its first. 2 steps."
-abbrev pub c3 : Term
-c3 = let-in (apply (gate CNOT) (pair (label 0) (label 1))) (pair (variable 0) (variable 1))
-
+-- c3: "2 steps."
 pub c3-type : infer [] (nth two-labels) c3 ≡ some (qubit ⊗ qubit)
 c3-type = refl
 
@@ -102,12 +70,7 @@ pub c3-run
     : Ends (start two-labels c3) 2 (alone two-labels ((CNOT on 0 ∷ 1 ∷ []) ∷ []) (pair (label 3) (label 2)) [])
 c3-run = (refl, finished tt, refl)
 
--- c4: "an abstraction over Qubit applies H to its variable; it is lifted, boxed at Qubit, and the box is applied to label 0.
--- Limit 4 gives 21; 5 finishes with c2's listing."
-abbrev pub c4 : Term
-c4 = apply (box qubit (lift (abstraction qubit (apply (gate H) (variable 0))))) (label 0)
-
--- The circuit that its box closes: one H.
+-- c4: "Limit 4 gives 21; 5 finishes with c2's listing." The circuit that its box closes: one H.
 abbrev pub H-circuit : Boxed
 H-circuit = boxed qubit ((H on 0 ∷ []) ∷ []) (single 1)
 
@@ -133,47 +96,28 @@ c4-unfinished = (refl, no-value, refl)
 pub c4-totals : totals 5 (start one-label c4) ≡ 8 ∷ 14 ∷ 11 ∷ 9 ∷ 3 ∷ 1 ∷ []
 c4-totals = refl
 
--- c5: "the pair of label 0 and label 0: 17". Each part has a type, and the label is used twice.
-abbrev pub c5 : Term
-c5 = pair (label 0) (label 0)
-
+-- c5: "17". Each part has a type, and the label is used twice.
 pub c5-fault : (infer [] (nth one-label) c5 ≡ some (qubit ⊗ qubit)) × (labelUses 0 c5 ≡ 2)
 c5-fault = (refl, refl)
 
--- c6: "the abstraction over Qubit that gives its variable, label 0 unused: 17".
-abbrev pub c6 : Term
-c6 = abstraction qubit (variable 0)
-
+-- c6: "17".
 pub c6-fault : (infer [] (nth one-label) c6 ≡ some (qubit ⊸ qubit)) × (labelUses 0 c6 ≡ 0)
 c6-fault = (refl, refl)
 
--- c7: "lift of label 0: 18". The label is used once, and inside the lift.
-abbrev pub c7 : Term
-c7 = lift (label 0)
-
+-- c7: "18". The label is used once, and inside the lift.
 pub c7-fault : (infer [] (nth one-label) c7 ≡ some (! qubit)) × (labelUses 0 (label 0) ≡ 1)
 c7-fault = (refl, refl)
 
--- c8: "H applied to the result of Meas applied to label 0: 16". Meas gives a Bit, and H takes a Qubit.
-abbrev pub c8 : Term
-c8 = apply (gate H) (apply (gate Meas) (label 0))
-
+-- c8: "16". Meas gives a Bit, and H takes a Qubit.
 pub c8-fault : infer [] (nth one-label) c8 ≡ none
 c8-fault = refl
 
--- c9: "L 0, P 1, the abstraction over Qubit that pairs its variable with itself: 17".
-abbrev pub c9 : Term
-c9 = abstraction qubit (pair (variable 0) (variable 0))
-
+-- c9: "17".
 pub c9-fault
     : (infer [] (nth []) c9 ≡ some (qubit ⊸ qubit ⊗ qubit)) × (uses 0 (pair (variable 0) (variable 0)) ≡ 2)
 c9-fault = (refl, refl)
 
--- c10: "an abstraction over Circ from Qubit to Qubit, which applies its variable to the result of applying it to label 0, is
--- given H: 3 steps, 2 gates, output 2."
-abbrev pub c10 : Term
-c10 = application (abstraction (Circ qubit qubit) (apply (variable 0) (apply (variable 0) (label 0)))) (gate H)
-
+-- c10: "3 steps, 2 gates, output 2."
 pub c10-type : infer [] (nth one-label) c10 ≡ some qubit
 c10-type = refl
 
@@ -181,17 +125,11 @@ pub c10-run
     : Ends (start one-label c10) 3 (alone one-label ((H on 1 ∷ []) ∷ (H on 0 ∷ []) ∷ []) (label 2) [])
 c10-run = (refl, finished tt, refl)
 
--- c11: "L 0, c6's abstraction: checked; a run gives 20", since its type is no wire type.
-abbrev pub c11 : Term
-c11 = c6
-
+-- c11: "checked; a run gives 20", since its type is no wire type.
 pub c11-type : (infer [] (nth []) c11 ≡ some (qubit ⊸ qubit)) × (isWireType (qubit ⊸ qubit) ≡ false)
 c11-type = (refl, refl)
 
--- c12: "an abstraction over Circ from Qubit to Qubit that gives label 0 is given H: 1 step, no gate."
-abbrev pub c12 : Term
-c12 = application (abstraction (Circ qubit qubit) (label 0)) (gate H)
-
+-- c12: "1 step, no gate."
 pub c12-type : infer [] (nth one-label) c12 ≡ some qubit
 c12-type = refl
 

@@ -7,7 +7,7 @@ use mathlib.Core.Option.{Option, none, some}
 use lib.Dec.{eqb}
 use lib.ListN.{length}
 use Rattle.rules.specs.Types.{Wire, Ty, wires}
-use Rattle.rules.specs.Gates.{GateType, _to_, nth, gateType, gateOutputs}
+use Rattle.rules.specs.Gates.{_to_, nth, gateType, gateOutputs}
 use Rattle.rules.specs.Terms.{Tuple, single, both, labels, tupleFrom, Gate, _on_, Boxed, boxed}
 
 -- 01: "Each frame has a circuit (inputs with types, gates in order)". The gates stand newest first.
@@ -39,6 +39,7 @@ abbrev pub taken : List Gate → List ℕ
 taken [] = []
 taken ((n on ws) ∷ gs) = ws ++ taken gs
 
+-- 1 where a test holds, else 0.
 abbrev pub one-if : Bool → ℕ
 one-if true = 1
 one-if false = 0
@@ -50,7 +51,7 @@ count w (x ∷ xs) = one-if (eqb w x) + count w xs
 
 -- The wires of a list have these types, among wires with the given types by number.
 pub data OfTypes (types : List Wire) : List ℕ → List Wire → Type 0 where
-  no-wire : OfTypes types [] []
+  wires-end : OfTypes types [] []
   next-wire : {w : ℕ} {α : Wire} {ws : List ℕ} {αs : List Wire}
       → nth types w ≡ some α
       → OfTypes types ws αs
@@ -72,6 +73,7 @@ pub record Sound (I : List Wire) (gs : List Gate) : Type 0 where
   pub takes-earlier : TakesEarlier I gs
   pub taken-once : (w : ℕ) → count w (taken gs) ≤ 1
 
+-- What there is, where a number is 0.
 abbrev pub if-none : ℕ → Option Wire → Option Wire
 if-none zero α = α
 if-none (suc n) α = none
@@ -80,9 +82,10 @@ if-none (suc n) α = none
 abbrev pub loose : List Wire → List Gate → ℕ → Option Wire
 loose I gs w = if-none (count w (taken gs)) (nth (I ++ outputs gs) w)
 
--- 01: "each wire has gone exactly once": to a gate or to one place of a result.
-abbrev pub GoneOnce : List Wire → List Gate → Tuple → Type 0
-GoneOnce I gs r = (w : ℕ) → w < length (I ++ outputs gs) → count w (taken gs) + count w (labels r) ≡ 1
+-- Demand 3: each wire has gone exactly once. It is counted once among the wires that the gates take and the given labels,
+-- those of a result or of a finished term.
+abbrev pub GoneOnce : List Wire → List Gate → List ℕ → Type 0
+GoneOnce I gs ℓs = (w : ℕ) → w < length (I ++ outputs gs) → count w (taken gs ++ ℓs) ≡ 1
 
 -- The number that a wire of a copied circuit gets: an input that of the argument's label at its place, the others
 -- follow on from the next number. 01: "its inputs matched to the argument tuple left to right, new outputs numbered on".
@@ -91,9 +94,11 @@ rename [] next w = next + w
 rename (ℓ ∷ ℓs) next zero = ℓ
 rename (ℓ ∷ ℓs) next (suc w) = rename ℓs next w
 
+-- A copied gate: the same gate on the renamed wires.
 abbrev pub renameGate : List ℕ → ℕ → Gate → Gate
 renameGate ℓs next (n on ws) = n on map (rename ℓs next) ws
 
+-- A result tuple with its wires renamed likewise.
 abbrev pub renameTuple : List ℕ → ℕ → Tuple → Tuple
 renameTuple ℓs next (single w) = single (rename ℓs next w)
 renameTuple ℓs next (both t u) = both (renameTuple ℓs next t) (renameTuple ℓs next u)

@@ -1,4 +1,4 @@
--- Demand 3, as 01's "Words of demand 3" and "Agreed between us" put it. Its proof is theorem `demand3` of Theorems.Safety.
+-- Demand 3, as 01's "Words of demand 3" and "Agreed between us" put it. Its proof is theorem `demand3-from` of Theorems.Safety.
 use Prim.Native.Nat.{ℕ, suc}
 use mathlib.Core.Path.{_≡_}
 use mathlib.Core.Logic.{_⊎_}
@@ -6,11 +6,11 @@ use mathlib.Core.List.{List, [], _∷_}
 use mathlib.Core.Option.{none}
 use lib.Dec.{T as IsTrue}
 use Rattle.rules.specs.Types.{Wire, Ty, Circ, isWireType, wires}
-use Rattle.rules.specs.Terms.{Tuple, Gate, Boxed, boxed, Term, constant, lift, box, value, tuple}
+use Rattle.rules.specs.Terms.{Tuple, labels, Gate, Boxed, boxed, Term, constant, lift, box, value, tuple, termLabels}
 use Rattle.rules.specs.Circuits.{Circuit, circuit, Sound, loose, GoneOnce}
 use Rattle.rules.specs.Typing.{_∣_⊢_∶_}
 use Rattle.rules.specs.Contexts.{EvaluationContext, plug}
-use Rattle.rules.specs.Steps.{Frame, frame, Configuration, configuration, start, _⟶_}
+use Rattle.rules.specs.Steps.{Frame, frame, Configuration, configuration, _⟶_}
 use Rattle.rules.specs.Sizes.{Fits, Row}
 
 -- 01: "A frame has type A if its circuit is sound and its term gets A by the typing rules, the labels being exactly the
@@ -40,6 +40,7 @@ pub data ClosedHave : List Boxed → Type 0 where
       → ClosedHave K
       → ClosedHave (b ∷ K)
 
+-- The program still has its type: its frames have theirs, and so have the circuits closed so far.
 pub data ProgramHas (A : Ty) : Configuration → Type 0 where
   program-has : {F : Frame} {X : List Frame} {K : List Boxed}
       → FramesHave A F X
@@ -63,26 +64,35 @@ pub data ClosedSound : List Boxed → Type 0 where
   none-left : ClosedSound []
   one-left : {T : Ty} {gs : List Gate} {r : Tuple} {K : List Boxed}
       → Sound (wires T) gs
-      → GoneOnce (wires T) gs r
+      → GoneOnce (wires T) gs (labels r)
       → ClosedSound K
       → ClosedSound (boxed T gs r ∷ K)
 
+-- Every circuit built by now, open or closed.
 pub data CircuitsSound : Configuration → Type 0 where
   circuits-sound : {F : Frame} {X : List Frame} {K : List Boxed}
       → OpenSound (F ∷ X)
       → ClosedSound K
       → CircuitsSound (configuration F X K)
 
--- At the finish the term is a label tuple and each wire of the outermost circuit has gone exactly once, to a later gate
--- or to one place of that tuple.
+-- At the finish each wire made in the outermost circuit has gone exactly once: taken by a later gate, or one label of the
+-- finished term.
 pub data AllGone : Configuration → Type 0 where
-  all-gone : {I : List Wire} {gs : List Gate} {M : Term} {X : List Frame} {K : List Boxed} (r : Tuple)
-      → M ≡ tuple r
-      → GoneOnce I gs r
-      → AllGone (configuration (frame (circuit I gs) M) X K)
+  all-gone : {I : List Wire} {gs : List Gate} {M : Term} {K : List Boxed}
+      → GoneOnce I gs (termLabels M)
+      → AllGone (configuration (frame (circuit I gs) M) [] K)
 
--- Demand 3 after a row of n steps from the L inputs and the term M, of type A, to the configuration c.
-pub record Demand3 (allowance : ℕ) (L : List Wire) (M : Term) (A : Ty) (n : ℕ) (c : Configuration) : Type 0 where
+-- The finished term is a label tuple, and each wire made in the outermost circuit has gone exactly once: taken by a later
+-- gate, or to one place of that tuple.
+pub data GoneToTuple : Configuration → Type 0 where
+  gone-to-tuple : {I : List Wire} {gs : List Gate} {M : Term} {K : List Boxed} (r : Tuple)
+      → M ≡ tuple r
+      → GoneOnce I gs (labels r)
+      → GoneToTuple (configuration (frame (circuit I gs) M) [] K)
+
+-- Demand 3 after a row of n steps from the configuration c₀, of type A, to the configuration c. An accepted program's c₀ is
+-- its start; a run that goes on from what an earlier one left starts there.
+pub record Demand3 (allowance : ℕ) (c₀ : Configuration) (A : Ty) (n : ℕ) (c : Configuration) : Type 0 where
   -- The type is kept, in each open box.
   pub type-kept : ProgramHas A c
   -- It is finished and there is no step, or it is unfinished and there is exactly one.
@@ -95,7 +105,9 @@ pub record Demand3 (allowance : ℕ) (L : List Wire) (M : Term) (A : Ty) (n : �
       → c ⟶ d
       → (Fits allowance d → ⊥)
       → (e : Configuration)
-      → Row allowance (start L M) (suc n) e
+      → Row allowance c₀ (suc n) e
       → ⊥
-  -- When a program of wire type finishes, each wire has gone exactly once.
-  pub gone : IsTrue (isWireType A) → Finished c → AllGone c
+  -- When a program finishes, whatever its type, each wire has gone exactly once, to a gate or into the finished term.
+  pub gone : Finished c → AllGone c
+  -- If its type is a wire type, the finished term is a label tuple, which holds each loose wire exactly once.
+  pub gone-to-outputs : IsTrue (isWireType A) → Finished c → GoneToTuple c

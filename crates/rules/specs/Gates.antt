@@ -1,9 +1,9 @@
 -- The gates (01, "Gates"): one list of input and output types, from which the wires in and out follow.
 use Prim.Native.Nat.{ℕ, zero, suc}
+use mathlib.Core.Bool.{Bool, true, false}
 use mathlib.Core.List.{List, [], _∷_}
 use mathlib.Core.Option.{Option, none, some}
-use lib.ListN.{length}
-use Rattle.rules.specs.Types.{Wire, Bit, Qubit, Ty, wire, _⊗_, Circ, wires}
+use Rattle.rules.specs.Types.{Wire, Bit, Qubit, Ty, wire, _⊗_, wires}
 
 -- The types of a gate: it is a constant of type Circ from input to output (01: "Gate types are Circ of these").
 pub data GateType : Type 0 where
@@ -35,6 +35,16 @@ nth (a ∷ l) (suc n) = nth l n
 abbrev pub gateType : ℕ → Option GateType
 gateType n = nth gateTable n
 
+-- Is there a gate?
+abbrev pub isSome : Option GateType → Bool
+isSome none = false
+isSome (some g) = true
+
+-- 01: "A label or gate has its number": is this number one of the nine gates?
+unfoldable pub isGate : ℕ → Bool
+isGate n = isSome (gateType n)
+
+-- The wires of a gate's output type, if there is a gate.
 abbrev pub outputWires : Option GateType → List Wire
 outputWires none = []
 outputWires (some (T to U)) = wires U

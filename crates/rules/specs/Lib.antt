@@ -8,8 +8,12 @@ pub mod Contexts
 pub mod Steps
 pub mod Sizes
 pub mod Demand3
+pub mod Values
 pub mod Next
 pub mod Runs
+pub mod Slots
+pub mod CaseTerms
 pub mod Inference
+pub mod Counting
 pub mod Cases
 pub mod Theorems

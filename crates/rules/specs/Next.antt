@@ -1,8 +1,7 @@
 -- The step function: the next configuration, if there is one. It finds the redex from the root.
-use mathlib.Core.Bool.{Bool, true, false, _&&_}
 use lib.Dec.{T as IsTrue}
 use mathlib.Core.List.{List, [], _∷_}
-use mathlib.Core.Option.{Option, none, some, Option·map}
+use mathlib.Core.Option.{Option, none, some}
 use Prim.Native.Nat.{ℕ}
 use Rattle.rules.specs.Types.{Ty, wires}
 use Rattle.rules.specs.Gates.{GateType, _to_, gateType}
@@ -13,6 +12,7 @@ use Rattle.rules.specs.Circuits.{Circuit, circuit, appended, returned, g
 use Rattle.rules.specs.Contexts.{EvaluationContext, hole, application-left, application-right, pair-left}
 use Rattle.rules.specs.Contexts.{pair-right, let-first, force-of, box-of, apply-left, apply-right, plug}
 use Rattle.rules.specs.Steps.{Frame, frame, Configuration, configuration}
+use Rattle.rules.specs.Values.{both-values}
 
 -- What evaluation finds in a term: a value; a part to reduce (000, definition 2.16) in its evaluation context; or a free
 -- variable, at which nothing goes on.
@@ -31,13 +31,7 @@ within inside (is-value v) then = then v
 within inside (reducible E R) then = reducible (inside E) R
 within inside free then = free
 
-abbrev pub both-values : (M N : Term) → IsTrue (value M) → IsTrue (value N) → IsTrue (value M && value N)
-both-values M N v w = and-so (value M) (value N) v w
-  where
-    and-so : (a b : Bool) → IsTrue a → IsTrue b → IsTrue (a && b)
-    and-so true b v w = w
-    and-so false b v w = absurd v
-
+-- 01: "Evaluation goes left part first, then right .. never under abstraction or lift, nor in let's second part."
 abbrev pub find : (M : Term) → Found M
 find (variable n) = free
 find (label ℓ) = is-value tt
@@ -58,6 +52,7 @@ find (apply M N) =
     within (λ E. apply-left E N) (find M) λ v.
     within (apply-right M v) (find N) λ w. reducible hole (apply M N)
 
+-- The tuple of two tuples, if there are both.
 abbrev pub joined : Option Tuple → Option Tuple → Option Tuple
 joined (some t) (some u) = some (both t u)
 joined (some t) none = none
@@ -87,6 +82,7 @@ pub data View : Term → Type 0 where
   constant-view : (b : Boxed) → View (constant b)
   other-view : (M : Term) → View M
 
+-- The form of a term.
 abbrev pub view : (M : Term) → View M
 view (variable n) = other-view (variable n)
 view (label ℓ) = other-view (label ℓ)
@@ -103,9 +99,11 @@ view (apply M N) = other-view (apply M N)
 
 -- The step at a redex in context E of the innermost frame, with its circuit C, the frames below and the closed circuits.
 module _ (C : Circuit) (E : EvaluationContext) (X : List Frame) (K : List Boxed) where
+  -- The innermost frame goes on with a term in the redex's place.
   abbrev pub goOn : Term → Option Configuration
   goOn M = some (configuration (frame C (plug E M)) X K)
 
+  -- 01: "an abstraction applied to a value": its "variable becomes the value".
   abbrev pub stepApplication : {M : Term} → View M → Term → Option Configuration
   stepApplication (abstraction-view A M) N = goOn (substitute (N ∷ []) M)
   stepApplication (pair-view M M′) N = none
@@ -114,6 +112,7 @@ module _ (C : Circuit) (E : EvaluationContext) (X : List Frame) (K : List Boxed)
   stepApplication (constant-view b) N = none
   stepApplication (other-view M) N = none
 
+  -- 01: let's "two variables the halves".
   abbrev pub stepLet : {M : Term} → View M → Term → Option Configuration
   stepLet (abstraction-view A M) N = none
   stepLet (pair-view M M′) N = goOn (substitute (M′ ∷ M ∷ []) N)
@@ -122,6 +121,7 @@ module _ (C : Circuit) (E : EvaluationContext) (X : List Frame) (K : List Boxed)
   stepLet (constant-view b) N = none
   stepLet (other-view M) N = none
 
+  -- 01: "a forced lift its body".
   abbrev pub stepForce : {M : Term} → View M → Option Configuration
   stepForce (abstraction-view A M) = none
   stepForce (pair-view M M′) = none
@@ -130,6 +130,7 @@ module _ (C : Circuit) (E : EvaluationContext) (X : List Frame) (K : List Boxed)
   stepForce (constant-view b) = none
   stepForce (other-view M) = none
 
+  -- 01: box entry "opens an empty circuit with one new label for each wire of T, left to right from 0".
   abbrev pub stepBox : Ty → {M : Term} → View M → Option Configuration
   stepBox T (abstraction-view A M) = none
   stepBox T (pair-view M M′) = none
@@ -143,14 +144,17 @@ module _ (C : Circuit) (E : EvaluationContext) (X : List Frame) (K : List Boxed)
   stepBox T (constant-view b) = none
   stepBox T (other-view M) = none
 
+  -- 01: "Apply copies the constant's gates in order"; "The result tuple is renamed likewise".
   abbrev pub append : Boxed → Option Tuple → Option Configuration
   append b none = none
   append b (some k) = some (configuration (frame (appended C k b) (plug E (tuple (returned C k b)))) X K)
 
+  -- A gate is a circuit of one gate.
   abbrev pub appendGate : ℕ → Option GateType → Option Tuple → Option Configuration
   appendGate n none k = none
   appendGate n (some (T to U)) k = append (gateBoxed n T U) k
 
+  -- 01: apply, of a gate or of a circuit constant, to a label tuple.
   abbrev pub stepApply : {M : Term} → View M → Option Tuple → Option Configuration
   stepApply (abstraction-view A M) k = none
   stepApply (pair-view M M′) k = none
@@ -159,6 +163,7 @@ module _ (C : Circuit) (E : EvaluationContext) (X : List Frame) (K : List Boxed)
   stepApply (constant-view b) k = append b k
   stepApply (other-view M) k = none
 
+  -- 01: "One step is one of: an abstraction applied to a value, let, force, apply, box entry, box exit."
   abbrev pub stepRedex : Term → Option Configuration
   stepRedex (variable n) = none
   stepRedex (label ℓ) = none
@@ -173,8 +178,9 @@ module _ (C : Circuit) (E : EvaluationContext) (X : List Frame) (K : List Boxed)
   stepRedex (box T M) = stepBox T (view M)
   stepRedex (apply M N) = stepApply (view M) (tupleOf N)
 
--- Box exit: the gates and the result of the innermost frame become a constant in the place of the box below.
+-- Box exit, with the gates and the result of the innermost frame, and what is below it.
 module _ (gs : List Gate) (r : Tuple) (C : Circuit) (X : List Frame) (K : List Boxed) where
+  -- 01: "box exit puts the constant in that box's place".
   abbrev pub closeBox : EvaluationContext → Ty → {M : Term} → View M → Option Configuration
   closeBox E T (abstraction-view A M) = none
   closeBox E T (pair-view M M′) = none
@@ -184,6 +190,7 @@ module _ (gs : List Gate) (r : Tuple) (C : Circuit) (X : List Frame) (K : List B
   closeBox E T (constant-view b) = none
   closeBox E T (other-view M) = none
 
+  -- The redex of the frame below is a box.
   abbrev pub closeRedex : EvaluationContext → Term → Option Configuration
   closeRedex E (variable n) = none
   closeRedex E (label ℓ) = none
@@ -198,20 +205,24 @@ module _ (gs : List Gate) (r : Tuple) (C : Circuit) (X : List Frame) (K : List B
   closeRedex E (box T M) = closeBox E T (view M)
   closeRedex E (apply M N) = none
 
+  -- It is what evaluation finds there.
   abbrev pub closeFound : {M : Term} → Found M → Option Configuration
   closeFound (is-value v) = none
   closeFound (reducible E R) = closeRedex E R
   closeFound free = none
 
+-- 01: "Box exit happens when it is a label tuple", and there is a frame below.
 abbrev pub exit : Circuit → Option Tuple → List Frame → List Boxed → Option Configuration
 exit C none X K = none
 exit C (some r) [] K = none
 exit (circuit I gs) (some r) (frame C M ∷ X) K = closeFound gs r C X K (find M)
 
+-- The step at what is found in the innermost frame: box exit at a value, else the step at the redex.
 abbrev pub stepFound : Circuit → {M : Term} → List Frame → List Boxed → Found M → Option Configuration
 stepFound C {M} X K (is-value v) = exit C (tupleOf M) X K
 stepFound C X K (reducible E R) = stepRedex C E X K R
 stepFound C X K free = none
 
+-- 01: "Steps happen in the innermost frame."
 abbrev pub next : Configuration → Option Configuration
 next (configuration (frame C M) X K) = stepFound C X K (find M)

@@ -23,6 +23,7 @@ pub record Reached : Type 0 where
   pub steps : ℕ
   pub reached : Configuration
 
+-- The same by its three parts.
 abbrev pub ended : Ending → ℕ → Configuration → Reached
 ended e n c = record { ending = e; steps = n; reached = c }
 
@@ -35,6 +36,7 @@ lastTurn n c (some d) = ended still-running n c
 abbrev pub turnTo : Bool → ℕ → Configuration → Reached → Reached
 turnTo fitting n c later = cond fitting later (ended does-not-fit n c)
 
+-- With a step to take, if the rules give one.
 abbrev pub oneTurn : ℕ → (Configuration → Reached) → ℕ → Configuration → Option Configuration → Reached
 oneTurn allowance later n c none = ended at-finish n c
 oneTurn allowance later n c (some d) = turnTo (fits allowance d) n c (later d)

@@ -2,10 +2,9 @@
 use Prim.Native.Nat.{ℕ, zero, suc, _+_, _≤_}
 use mathlib.Core.List.{List, [], _∷_}
 use lib.ListN.{length}
-use Rattle.rules.specs.Types.{Ty}
 use Rattle.rules.specs.Terms.{Boxed, boxed, Term, variable, label, gate, constant, abstraction, application}
 use Rattle.rules.specs.Terms.{pair, let-in, lift, force, box, apply}
-use Rattle.rules.specs.Circuits.{Circuit, circuit}
+use Rattle.rules.specs.Circuits.{circuit}
 use Rattle.rules.specs.Steps.{Frame, frame, Configuration, configuration, _⟶_}
 
 -- The nodes of a term, "a circuit constant counting 1". A type counts nothing.
@@ -23,19 +22,22 @@ nodes (force M) = 1 + nodes M
 nodes (box T M) = 1 + nodes M
 nodes (apply M N) = 1 + (nodes M + nodes N)
 
--- 01: "term nodes over all open boxes (each frame's whole term)".
+-- The nodes of "each frame's whole term".
 abbrev pub frameNodes : List Frame → ℕ
 frameNodes [] = 0
 frameNodes (frame C M ∷ X) = nodes M + frameNodes X
 
+-- The gates of the circuits of frames.
 abbrev pub frameGates : List Frame → ℕ
 frameGates [] = 0
 frameGates (frame (circuit I gs) M ∷ X) = length gs + frameGates X
 
+-- The gates of closed circuits.
 abbrev pub closedGates : List Boxed → ℕ
 closedGates [] = 0
 closedGates (boxed T gs r ∷ K) = length gs + closedGates K
 
+-- 01: "term nodes over all open boxes".
 abbrev pub totalNodes : Configuration → ℕ
 totalNodes (configuration F X K) = frameNodes (F ∷ X)
 
@@ -43,16 +45,19 @@ totalNodes (configuration F X K) = frameNodes (F ∷ X)
 abbrev pub totalGates : Configuration → ℕ
 totalGates (configuration F X K) = frameGates (F ∷ X) + closedGates K
 
+-- 01: "boxes closed".
 abbrev pub boxesClosed : Configuration → ℕ
 boxesClosed (configuration F X K) = length K
 
--- 01: "at most 4,096 term nodes", "at most 2,048 gates", "at most 256 boxes closed".
+-- 01: "at most 4,096 term nodes".
 abbrev pub most-nodes : ℕ
 most-nodes = 4096
 
+-- 01: "at most 2,048 gates".
 abbrev pub most-gates : ℕ
 most-gates = 2048
 
+-- 01: "at most 256 boxes closed".
 abbrev pub most-boxes : ℕ
 most-boxes = 256
 

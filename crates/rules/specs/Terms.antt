@@ -64,6 +64,21 @@ abbrev pub tuple : Tuple → Term
 tuple (single ℓ) = label ℓ
 tuple (both t u) = pair (tuple t) (tuple u)
 
+-- The labels of a term in file order, every occurrence. The labels inside a circuit constant are its own and not the term's.
+abbrev pub termLabels : Term → List ℕ
+termLabels (variable n) = []
+termLabels (label ℓ) = ℓ ∷ []
+termLabels (gate n) = []
+termLabels (constant b) = []
+termLabels (abstraction A M) = termLabels M
+termLabels (application M N) = termLabels M ++ termLabels N
+termLabels (pair M N) = termLabels M ++ termLabels N
+termLabels (let-in M N) = termLabels M ++ termLabels N
+termLabels (lift M) = termLabels M
+termLabels (force M) = termLabels M
+termLabels (box T M) = termLabels M
+termLabels (apply M N) = termLabels M ++ termLabels N
+
 -- Term n, counted from the first of the list; the given term where the list ends before.
 abbrev pub termAt : List Term → ℕ → Term → Term
 termAt [] n M = M

@@ -1,4 +1,5 @@
 -- The theorems about the rules. Nothing here needs to be believed.
+pub mod TypeCodes
 pub mod Deterministic
 pub mod Labels
 pub mod Substitution

@@ -55,3 +55,17 @@ entries (Circ T U) = 1 + (entries T + entries U)
 -- 01: "No type of a node may exceed 512 entries."
 abbrev pub most-entries : ℕ
 most-entries = 512
+
+-- 01, type section: "0 Bit, 1 Qubit".
+abbrev pub wireCode : Wire → ℕ
+wireCode Bit = 0
+wireCode Qubit = 1
+
+-- A type in preorder. 01, type section: "0 Bit, 1 Qubit (no parts); 2 pair, 3 function, 5 circuit (two parts); 4 reusable
+-- (one)".
+abbrev pub typeCodes : Ty → List ℕ
+typeCodes (wire α) = wireCode α ∷ []
+typeCodes (A ⊗ B) = 2 ∷ typeCodes A ++ typeCodes B
+typeCodes (A ⊸ B) = 3 ∷ typeCodes A ++ typeCodes B
+typeCodes (! A) = 4 ∷ typeCodes A
+typeCodes (Circ T U) = 5 ∷ typeCodes T ++ typeCodes U

@@ -19,6 +19,7 @@ Context = List (Option Ty)
 abbrev pub LabelContext : Type 0
 LabelContext = ℕ → Option Wire
 
+-- 01: "The types that may be copied and dropped".
 abbrev pub Copyable : Ty → Type 0
 Copyable A = IsTrue (copyable A)
 
@@ -37,10 +38,11 @@ pub data Splits : Context → Context → Context → Type 0 where
       → Shares Copyable a a₁ a₂ → Splits Γ Γ₁ Γ₂ → Splits (a ∷ Γ) (a₁ ∷ Γ₁) (a₂ ∷ Γ₂)
 
 infixr 50 _then_
--- The same for labels, which are never copied.
+-- A label is never copied.
 abbrev pub Never : Wire → Type 0
 Never α = ⊥
 
+-- The same for labels, by number: each label goes to exactly one part.
 abbrev pub SplitsLabels : LabelContext → LabelContext → LabelContext → Type 0
 SplitsLabels Q Q₁ Q₂ = (ℓ : ℕ) → Shares Never (Q ℓ) (Q₁ ℓ) (Q₂ ℓ)
 
@@ -56,13 +58,15 @@ pub data Variable : Context → ℕ → Ty → Type 0 where
   past-absent : {n : ℕ} {A : Ty} {Γ : Context} → Variable Γ n A → Variable (none ∷ Γ) (suc n) A
   past-parameter : {n : ℕ} {A B : Ty} {Γ : Context} → Copyable B → Variable Γ n A → Variable (some B ∷ Γ) (suc n) A
 
--- The label context with no label, and the one with ℓ alone.
+-- The label context with no label.
 abbrev pub NoLabel : LabelContext → Type 0
 NoLabel Q = (ℓ : ℕ) → Q ℓ ≡ none
 
+-- The label context with ℓ alone.
 abbrev pub OnlyLabel : LabelContext → ℕ → Wire → Type 0
 OnlyLabel Q ℓ α = (Q ℓ ≡ some α) × ((k : ℕ) → k ≢ ℓ → Q k ≡ none)
 
+-- 01: "No type of a node may exceed 512 entries."
 abbrev pub Bounded : Ty → Type 0
 Bounded A = entries A ≤ most-entries
 

@@ -1,35 +1,31 @@
-// From the end of the steps to the answer.
+// The end of a run: from the end of its steps to the answer.
 use answers::RunAnswer;
 use circuits::rows::row_word;
 use listing::write_listing;
 use machine::Advanced;
 use machine::Ending;
-use program::Refusal;
-ghost use Prim.Native.Nat.{ℕ, _≤_};
+use refusals::Refusal;
+ghost use Prim.Native.Nat.{ℕ};
 ghost use mathlib.Core.List.{List};
-ghost use lib.ListN.{length};
-ghost use Rattle.rules.specs.Types.{Ty};
 ghost use Rattle.memory.specs.Words.{words};
 ghost use Rattle.nodes.specs.Nodes.{nodesIn};
 ghost use Rattle.walking.specs.Rows.{Row as StackRow};
 ghost use Rattle.circuits.specs.Layout.{Row, rowsIn};
 ghost use Rattle.configuration.specs.Memory.{memory};
-ghost use Rattle.listing.specs.Listing.{most-bytes};
-ghost use Rattle.running.specs.Parts.{Ended, Says};
+ghost use Rattle.running.specs.Parts.{EndsAs};
 
 // At the finish the listing is written; otherwise the steps' limit is reached, or the next step exceeds a size.
 pub fn finish(
     advanced: Advanced,
-    types: &[u8],
-    gates: &[u8],
-    nodes: &[u8],
-    frames: &[u8],
     out: &mut [u8],
+    nodes: &[u8],
+    types: &[u8],
+    frames: &[u8],
+    gates: &[u8],
 ) -> RunAnswer
-    ensures { λ r. ⌜ ((rs : List StackRow) (cs : List Row) (results : ℕ → List ℕ) (f : List ℕ) (limit : ℕ) (A : Ty)
-        → Ended f limit A (memory (nodesIn (now (nodes .entry))) rs (rowsIn (now (gates .entry))) cs (rowsIn (now (frames .entry))) (words (now (types .entry))) results) advanced
-        → most-bytes ≤ length (now (out .entry))
-        → Says f limit (now (out .entry)) (now (out .exit)) r) ⌝ }
+    ensures { λ r. ⌜ ((rs : List StackRow) (cs : List Row) (results : ℕ → List ℕ)
+        → EndsAs (memory (nodesIn (now (nodes .entry))) rs (rowsIn (now (gates .entry))) cs (rowsIn (now (frames .entry))) (words (now (types .entry))) results)
+        (now (out .entry)) (now (out .exit)) advanced r) ⌝ }
 {
     let ending = advanced.ending;
     let registers = advanced.registers;

@@ -28,7 +28,7 @@ ghost use Rattle.configuration.specs.Outcomes.{Steps};
 const GATE: usize = 26;
 
 // Apply of a gate, or of a closed circuit.
-pub fn apply(
+fn apply(
     allowance: usize,
     registers: Registers,
     nodes: &mut [u8],

@@ -4,7 +4,7 @@ use mathlib.Core.List.{[], _∷_}
 use Rattle.rules.specs.Types.{Bit, Qubit}
 use Rattle.rules.specs.Terms.{single, both, _on_}
 use Rattle.rules.specs.Circuits.{circuit}
-use Rattle.rules.specs.Cases.{one-label, two-labels, H, CNOT, Meas}
+use Rattle.rules.specs.CaseTerms.{one-label, two-labels, H, CNOT, Meas}
 use Rattle.text.specs.Text.{ascii, decimal, gateName, gateLine, outLine, refusedLine, lines}
 
 -- 01: "For case c3, whole". Its circuit and outputs are those of `c3-run` in crate rules.

@@ -1,30 +1,29 @@
--- How long the lines are: a buffer of the least length holds each of them.
-use Prim.Native.Nat.{ℕ, zero, suc, _+_, _-_, _*_, _^_, _≤_, _<_}
+-- How long the text of a run is: a buffer of the least length holds it.
+use Prim.Native.Nat.{ℕ, zero, suc, _+_, _*_, _^_, _≤_, _<_}
 use native.Mathlib.Omega.{arith}
-use native.Mathlib.Decide.{decLt}
-use mathlib.Core.Path.{_≡_, refl, _∙_, ap, subst}
+use mathlib.Core.Path.{_≡_, refl, _∙_, ap}
 use mathlib.Core.List.{List, [], _∷_, _++_, map}
-use lib.ListN.{length, getD, length-append}
-use Rattle.rules.specs.Types.{Wire, Bit, Qubit}
-use Rattle.rules.specs.GateCodes.{wiresIn, wiresOut}
-use Rattle.rules.specs.Terms.{Tuple, labels, Gate}
-use Rattle.rules.specs.Circuits.{circuit, numbers, TakesEarlier}
+use lib.ListN.{length, length-append}
+use Rattle.rules.specs.Types.{Wire, Bit, Qubit, Ty}
+use Rattle.rules.specs.Gates.{gateOutputs}
+use Rattle.rules.specs.GateCodes.{wiresOut}
+use Rattle.rules.specs.Terms.{Tuple, labels, Gate, _on_, tuple}
+use Rattle.rules.specs.Circuits.{circuit, outputs, numbers, TakesEarlier, no-gate, next-gate, loose}
+use Rattle.rules.specs.Typing.{_∣_⊢_∶_}
+use Rattle.rules.specs.Sizes.{most-gates}
+use Rattle.circuits.specs.Layout.{gate-slots}
 use Rattle.circuits.specs.Gates.{few-in, few-out}
 use Rattle.circuits.specs.Copies.{AllBelow}
-use Rattle.circuits.specs.Typed.{all-below-more}
-use Rattle.listing.specs.Listing.{listing}
-use Rattle.text.specs.Text.{ascii, decimal, gateName, wireName, spaced, line, gateLine, stepsLine, refusedLine}
-use Rattle.text.specs.Text.{lineOf}
-use Rattle.text.specs.Least.{most-outputs, least-text}
+use Rattle.circuits.specs.Typed.{all-below-more, takes-below, few-wires, loose-below, labels-below}
+use Rattle.text.specs.Text.{ascii, decimal, gateName, wireName, spaced, line, inputLine, gateLine, outLine}
+use Rattle.text.specs.Text.{stepsLine, refusedLine, inputLines, gateLines, joined, lines}
+use Rattle.text.specs.Least.{most-inputs, most-outputs, wire-digits, wire-bytes, input-bytes, gate-bytes, out-bytes}
+use Rattle.text.specs.Least.{steps-bytes, least-text}
 use Rattle.text.specs.Decimals.{tenfold, length-decimal}
 use Rattle.text.specs.Names.{longest-name, name-short}
-use Rattle.text.specs.Writing.{Written, StandsWhole, whole}
-use Rattle.text.specs.Reading.{wordAt, wordsAt, inputCount, outputCount, entryCount, kindAt, slotsFrom}
-use Rattle.text.specs.Reading.{outputsFrom, inputType, madeBefore, inputLineAt, gateLineAt, outLineAt, lineAt}
 use Rattle.text.specs.Words.{spaced-append}
-use Rattle.text.specs.Lines.{line-input, line-gate, line-out, line-steps, line-none}
-use Rattle.text.specs.ReadBack.{outputs-are}
-use Rattle.text.specs.Theorems.{line-printed}
+use Rattle.text.specs.ReadBack.{one-counted}
+use Rattle.text.specs.Theorems.{joined-append, lines-parts}
 
 -- Numbers of at most so many digits, each behind a space.
 length-numbers : (k : ℕ) (ns : List ℕ)
@@ -69,20 +68,136 @@ length-row : (n k : ℕ) → length (numbers n k) ≡ k
 length-row n zero = refl
 length-row n (suc k) = ap suc (length-row (suc n) k)
 
-made-length : (n k : ℕ) → n + k ≤ 1000000 → length (spaced (map decimal (numbers n k))) ≤ 7 * k
-made-length n k below =
-    omega (arith, length-numbers 5 (numbers n k) (numbers-below n k 1000000 below), length-row n k)
+-- Wires, each behind a space. There are fewer of them than four digits can say.
+abbrev most-wires : ℕ
+most-wires = tenfold wire-digits
 
--- A number of 64 bits has at most 20 digits.
-steps-fit : (steps : ℕ) → steps < 2 ^ 64 → length (stepsLine steps) ≤ least-text
+wires-length : (ws : List ℕ) → AllBelow most-wires ws → length (spaced (map decimal ws)) ≤ wire-bytes * length ws
+wires-length ws below = length-numbers 3 ws below
+
+all-few : (I : List Wire) (gs : List Gate) (ws : List ℕ)
+    → length I ≤ most-inputs
+    → length gs ≤ most-gates
+    → AllBelow (length (I ++ outputs gs)) ws
+    → AllBelow most-wires ws
+all-few I gs ws inputs gates below =
+    all-below-more (length (I ++ outputs gs)) most-wires ws (omega (arith, few-wires I gs)) below
+
+-- The lines of the inputs.
+inputs-fit : (w : ℕ) (I : List Wire)
+    → w + length I ≤ most-inputs
+    → length (joined (inputLines w I)) ≤ input-bytes * length I
+inputs-fit w [] few = omega arith
+inputs-fit w (α ∷ I) few =
+    omega (
+      arith,
+      length-append (inputLine w α) (joined (inputLines (suc w) I)),
+      length-line (ascii "in") (decimal w ∷ wireName α ∷ []),
+      length-append (decimal w) (spaced (wireName α ∷ [])),
+      length-append (wireName α) [],
+      length-decimal 3 w (omega arith),
+      type-length α,
+      inputs-fit (suc w) I (omega arith),
+    )
+
+-- The lines of the gates.
+gate-fits : (n : ℕ) (ws : List ℕ) (made : ℕ)
+    → length ws ≤ gate-slots
+    → AllBelow most-wires ws
+    → made + gate-slots ≤ most-wires
+    → length (gateLine n ws (numbers made (wiresOut n))) ≤ gate-bytes
+gate-fits n ws made few below low =
+    let ms = numbers made (wiresOut n) in
+    omega (
+      arith,
+      length-gate-line n ws ms,
+      wires-length ws below,
+      wires-length ms (numbers-below made (wiresOut n) most-wires (omega (arith, few-out n))),
+      length-row made (wiresOut n),
+      few-out n,
+    )
+
+gates-fit : (I : List Wire) (gs : List Gate)
+    → TakesEarlier I gs
+    → length I ≤ most-inputs
+    → length gs ≤ most-gates
+    → length (joined (gateLines I gs)) ≤ gate-bytes * length gs
+unfolding wiresOut
+gates-fit I [] no-gate inputs gates = omega arith
+gates-fit I ((n on ws) ∷ gs) (next-gate {T = T} {U = U} e o t) inputs gates =
+    let made = length (I ++ outputs gs) in
+    let newest = gateLine n ws (numbers made (length (gateOutputs n))) in
+    let counted = one-counted n ws T U e o in
+    let taken : AllBelow most-wires ws
+    = all-few I ((n on ws) ∷ gs) ws inputs gates (takes-below (next-gate {n = n} {T = T} {U = U} {ws = ws} {gs = gs} e o t) .0) in
+    omega (
+      arith,
+      ap length (joined-append (gateLines I gs) (newest ∷ [])),
+      length-append (joined (gateLines I gs)) (newest ++ []),
+      length-append newest [],
+      gate-fits n ws made (omega (arith, counted .0, few-in n)) taken (omega (arith, few-wires I gs)),
+      gates-fit I gs t inputs (omega arith),
+    )
+
+-- The line of the outputs, and of the steps.
+out-fits : (ws : List ℕ) → length ws ≤ most-outputs → AllBelow most-wires ws → length (outLine ws) ≤ out-bytes
+out-fits ws few below = omega (arith, length-line (ascii "out") (map decimal ws), wires-length ws below)
+
+steps-fit : (steps : ℕ) → steps < 2 ^ 32 → length (stepsLine steps) ≤ steps-bytes
 steps-fit steps low =
     omega (
       arith,
       length-line (ascii "steps") (decimal steps ∷ []),
       length-append (decimal steps) [],
-      length-decimal 19 steps (omega arith),
+      length-decimal 9 steps (omega arith),
     )
 
+-- A circuit within the sizes, whose gates take earlier wires, with outputs that it has made.
+pub record Printable (I : List Wire) (gs : List Gate) (r : Tuple) : Type 0 where
+  pub takes-earlier : TakesEarlier I gs
+  pub outputs-made : AllBelow (length (I ++ outputs gs)) (labels r)
+  pub few-inputs : length I ≤ most-inputs
+  pub few-gates : length gs ≤ most-gates
+  pub few-outputs : length (labels r) ≤ most-outputs
+
+pub printable : {I : List Wire} {gs : List Gate} {r : Tuple} {A : Ty}
+    → TakesEarlier I gs
+    → [] ∣ loose I gs ⊢ tuple r ∶ A
+    → length I ≤ most-inputs
+    → length gs ≤ most-gates
+    → length (labels r) ≤ most-outputs
+    → Printable I gs r
+printable {I} {gs} {r} takes typed inputs gates outs =
+    record {
+      takes-earlier = takes;
+      outputs-made = labels-below r (length (I ++ outputs gs)) (loose-below I gs) typed;
+      few-inputs = inputs;
+      few-gates = gates;
+      few-outputs = outs;
+    }
+
+-- All its lines.
+pub lines-fit : {I : List Wire} {gs : List Gate} {r : Tuple} (steps : ℕ)
+    → Printable I gs r
+    → steps < 2 ^ 32
+    → length (lines (circuit I gs) r steps) ≤ least-text
+lines-fit {I} {gs} {r} steps p low =
+    let A = joined (inputLines 0 I) in
+    let B = joined (gateLines I gs) in
+    let C = outLine (labels r) in
+    omega (
+      arith,
+      ap length (lines-parts I gs r steps),
+      length-append A (B ++ (C ++ stepsLine steps)),
+      length-append B (C ++ stepsLine steps),
+      length-append C (stepsLine steps),
+      inputs-fit 0 I (omega (arith, p .few-inputs)),
+      gates-fit I gs (p .takes-earlier) (p .few-inputs) (p .few-gates),
+      out-fits (labels r) (p .few-outputs) (all-few I gs (labels r) (p .few-inputs) (p .few-gates) (p .outputs-made)),
+      steps-fit steps low,
+    )
+
+-- The line of a refusal: a number of 64 bits has at most 20 digits.
 pub refusal-fits : (number place : ℕ) → number < 2 ^ 64 → place < 2 ^ 64 → length (refusedLine number place) ≤ least-text
 refusal-fits number place low low′ =
     omega (
@@ -93,122 +208,3 @@ refusal-fits number place low low′ =
       length-decimal 19 number (omega arith),
       length-decimal 19 place (omega arith),
     )
-
--- The numbers that are read from bytes, and how many there are.
-module _ (b : List ℕ) (bytes : (j : ℕ) → getD b j 0 < 256) where
-  word-below : (at : ℕ) → wordAt b at < 65536
-  unfolding wordAt
-  word-below at = omega (arith, bytes at, bytes (at + 1))
-
-  words-below : (from k : ℕ) → AllBelow 65536 (wordsAt b from k)
-  words-below from zero = tt
-  words-below from (suc k) = (word-below from, words-below (from + 2) k)
-
-  length-words : (from k : ℕ) → length (wordsAt b from k) ≡ k
-  length-words from zero = refl
-  length-words from (suc k) = ap suc (length-words (from + 2) k)
-
-  words-length : (from k : ℕ) → length (spaced (map decimal (wordsAt b from k))) ≤ 6 * k
-  words-length from k =
-      omega (
-        arith,
-        length-numbers 4 (wordsAt b from k)
-            (all-below-more 65536 100000 (wordsAt b from k) (omega arith) (words-below from k)),
-        length-words from k,
-      )
-
-  -- At most three wires a gate.
-  made-below : (gate : ℕ) → madeBefore b gate < 65536 + 3 * gate
-  made-below zero = omega (arith, word-below 0)
-  made-below (suc gate) = omega (arith, made-below gate, few-out (kindAt b (inputCount b + gate)))
-
-  input-fits : (i : ℕ) → i < inputCount b → length (inputLineAt b i) ≤ least-text
-  unfolding inputLineAt
-  input-fits i below =
-      let α = inputType (kindAt b i) in
-      omega (
-        arith,
-        length-line (ascii "in") (decimal i ∷ wireName α ∷ []),
-        length-append (decimal i) (spaced (wireName α ∷ [])),
-        length-append (wireName α) [],
-        length-decimal 4 i (omega (arith, word-below 0)),
-        type-length α,
-      )
-
-  gate-fits : (gate : ℕ) → gate < 65536 → length (gateLineAt b gate) ≤ least-text
-  unfolding gateLineAt
-  gate-fits gate below =
-      let i = inputCount b + gate in
-      let n = kindAt b i in
-      let ts = wordsAt b (slotsFrom b i) (wiresIn n) in
-      let ms = numbers (madeBefore b gate) (wiresOut n) in
-      omega (
-        arith,
-        length-gate-line n ts ms,
-        words-length (slotsFrom b i) (wiresIn n),
-        few-in n,
-        few-out n,
-        made-length (madeBefore b gate) (wiresOut n) (omega (arith, made-below gate, few-out n)),
-      )
-
-  out-fits : outputCount b ≤ most-outputs → length (outLineAt b) ≤ least-text
-  unfolding outLineAt
-  out-fits few =
-      omega (
-        arith,
-        length-line (ascii "out") (map decimal (wordsAt b (outputsFrom b) (outputCount b))),
-        words-length (outputsFrom b) (outputCount b),
-      )
-
-  -- No line is longer.
-  pub line-fits : (steps i : ℕ) → steps < 2 ^ 64 → outputCount b ≤ most-outputs → length (lineAt b steps i) ≤ least-text
-  line-fits steps i low few =
-      of
-      (decLt i (inputCount b))
-      (decLt i (entryCount b))
-      (decLt i (entryCount b + 1))
-      (decLt i (entryCount b + 2))
-    where
-      of : Dec (i < inputCount b)
-          → Dec (i < entryCount b)
-          → Dec (i < entryCount b + 1)
-          → Dec (i < entryCount b + 2)
-          → length (lineAt b steps i) ≤ least-text
-      of (yes p) q s t = omega (arith, ap length (line-input b steps i p), input-fits i p)
-      of (no p) (yes q) s t =
-          omega (
-            arith,
-            ap length (line-gate b steps i (omega arith) q),
-            gate-fits (i - inputCount b) (omega (arith, word-below 2)),
-          )
-      of (no p) (no q) (yes s) t = omega (arith, ap length (line-out b steps i (omega arith)), out-fits few)
-      of (no p) (no q) (no s) (yes t) =
-          omega (arith, ap length (line-steps b steps i (omega arith)), steps-fit steps low)
-      of (no p) (no q) (no s) (no t) = omega (arith, ap length (line-none b steps i (omega arith)))
-
--- A line that was written stands whole at the start of a buffer of the least length. Of bytes that begin with the listing of
--- a circuit whose gates take earlier wires, it is that circuit's line.
-pub holds-line : (b : List ℕ) (steps i : ℕ) {l text : List ℕ} {at : ℕ}
-    → ((j : ℕ) → getD b j 0 < 256)
-    → steps < 2 ^ 64
-    → Written l (lineAt b steps i) text at
-    → (I : List Wire) (gs : List Gate) (k : Tuple) (rest : List ℕ)
-    → b ≡ listing (circuit I gs) k ++ rest
-    → TakesEarlier I gs
-    → length (labels k) ≤ most-outputs
-    → least-text ≤ length l
-    → StandsWhole l (lineOf (circuit I gs) k steps i) text at
-holds-line b steps i {l} {text} {at} bytes low written I gs k rest same sound few room =
-    let its : lineAt b steps i ≡ lineOf (circuit I gs) k steps i = line-printed I gs k rest b same steps sound i in
-    let short : length (lineAt b steps i) ≤ least-text
-    = line-fits b bytes steps i low (omega (arith, outputs-are I gs k rest b same)) in
-    subst (λ xs. StandsWhole l xs text at) its (whole written (omega arith))
-
-pub holds-refusal : (number place : ℕ) {l text : List ℕ} {at : ℕ}
-    → number < 2 ^ 64
-    → place < 2 ^ 64
-    → Written l (refusedLine number place) text at
-    → least-text ≤ length l
-    → StandsWhole l (refusedLine number place) text at
-holds-refusal number place low low′ written room =
-    whole written (omega (arith, refusal-fits number place low low′))

@@ -1,10 +1,39 @@
--- How long a buffer is at least that holds every line.
+-- How long a buffer is at least that holds every text.
 use Prim.Native.Nat.{ℕ, _+_, _*_}
+use Rattle.rules.specs.Sizes.{most-gates}
+use Rattle.rules.specs.Slots.{gate-slots}
+use Rattle.text.specs.Text.{longest-name}
 
--- 01, "Listing": "outputs O (at most 256)".
+-- 01, "Program file": "L labels (0 to 64)"; "Listing": "outputs O (at most 256)".
+abbrev pub most-inputs : ℕ
+most-inputs = 64
+
 abbrev pub most-outputs : ℕ
 most-outputs = 256
 
--- The least length of the buffer: `out`, so many output wires of five digits, each behind a space, and the end of the line.
+-- The most digits of a wire, and how many bytes it takes behind its space: there are fewer than 10,000 wires.
+abbrev pub wire-digits : ℕ
+wire-digits = 4
+
+abbrev pub wire-bytes : ℕ
+wire-bytes = 1 + wire-digits
+
+-- How many bytes a line has at most. `in`, wire, type:
+abbrev pub input-bytes : ℕ
+input-bytes = 2 + wire-bytes + 6 + 1
+
+-- `gate`, name, wires taken, colon, wires made:
+abbrev pub gate-bytes : ℕ
+gate-bytes = 4 + (1 + longest-name) + gate-slots * wire-bytes + 2 + gate-slots * wire-bytes + 1
+
+-- `out`, wires:
+abbrev pub out-bytes : ℕ
+out-bytes = 3 + most-outputs * wire-bytes + 1
+
+-- `steps`, a number of 32 bits:
+abbrev pub steps-bytes : ℕ
+steps-bytes = 5 + (1 + 10) + 1
+
+-- The least length of the buffer: 88,213 bytes.
 abbrev pub least-text : ℕ
-least-text = 3 + 6 * most-outputs + 1
+least-text = most-inputs * input-bytes + most-gates * gate-bytes + out-bytes + steps-bytes

@@ -1,4 +1,5 @@
 pub mod Text
+pub mod Written
 pub mod Least
 pub mod Examples
 pub mod Decimals

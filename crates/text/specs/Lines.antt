@@ -1,15 +1,19 @@
 -- Laws of the lines that are written word by word.
-use Prim.Native.Nat.{ℕ, _+_, _-_, _≤_, _<_}
-use native.Mathlib.Omega.{arith}
+use Prim.Native.Nat.{ℕ, _+_}
 use mathlib.Core.Path.{_≡_, sym, _∙_, ap}
 use mathlib.Core.Bool.{cond}
 use mathlib.Core.List.{List, [], _∷_, _++_, map, append-assoc, append-nil}
-use borrow.Author.Tests.{lt-ltb, le-ltb, eq-eqb, ne-eqb}
+use borrow.Author.Tests.{eq-eqb, ne-eqb}
 use Rattle.rules.specs.Types.{Wire, Bit, Qubit}
-use Rattle.text.specs.Text.{ascii, decimal, gateName, wireName, spaced, line, inputLine, gateLine}
-use Rattle.text.specs.Text.{stepsLine}
-use Rattle.text.specs.Writing.{Puts, puts-both, puts-same}
-use Rattle.text.specs.Reading.{inputCount, entryCount, kindAt, inputLineAt, gateLineAt, outLineAt, lineAt}
+use Rattle.rules.specs.GateCodes.{wiresIn, wiresOut}
+use Rattle.rules.specs.Circuits.{numbers}
+use Rattle.listing.specs.Parts.{pieces}
+use Rattle.listing.specs.Pieces.{no-piece, next-piece}
+use Rattle.text.specs.Text.{ascii, decimal, gateName, wireName, spaced, line, inputLine, gateLine, stepsLine}
+use Rattle.text.specs.Written.{Written}
+use Rattle.text.specs.Writing.{Puts, puts-none, puts-both, puts-same, puts-first}
+use Rattle.text.specs.Reading.{wordsAt, inputCount, gateCount, kindAt, slotsFrom, madeBefore, inputLineAt}
+use Rattle.text.specs.Reading.{gateLineAt, outLineAt, textAt}
 use Rattle.text.specs.Words.{spaced-append}
 
 -- A line's first words, its last words, and its end.
@@ -83,46 +87,32 @@ pub qubit-line : (b : List ℕ) (i : ℕ) → (kindAt b i ≡ 128 → ⊥) → i
 unfolding inputLineAt
 qubit-line b i e = ap (λ t. inputLine i (cond t Bit Qubit)) (sym (ne-eqb (kindAt b i) 128 e))
 
--- Which line is line i.
-module _ (b : List ℕ) (steps i : ℕ) where
-  pub line-input : i < inputCount b → lineAt b steps i ≡ inputLineAt b i
-  unfolding lineAt
-  line-input h = rw (lt-ltb i (inputCount b) h)
+-- The line of a gate by what is known at its turn: where the gates start, its number, and the wires made before it.
+pub gate-line-at : (b : List ℕ) (gate inputs n made : ℕ)
+    → inputs ≡ inputCount b
+    → n ≡ kindAt b (inputs + gate)
+    → made ≡ madeBefore b gate
+    → gateLine n (wordsAt b (slotsFrom b (inputs + gate)) (wiresIn n)) (numbers made (wiresOut n)) ≡ gateLineAt b gate
+unfolding gateLineAt
+gate-line-at b gate inputs n made first kind before = rw (before, kind, first)
 
-  pub line-gate : inputCount b ≤ i → i < entryCount b → lineAt b steps i ≡ gateLineAt b (i - inputCount b)
-  unfolding lineAt
-  line-gate h h′ = rw (le-ltb i (inputCount b) h, lt-ltb i (entryCount b) h′)
+-- One more piece behind those that were written.
+pub puts-piece : (f : ℕ → List ℕ) (i : ℕ) {text text′ text″ : List ℕ} {at at′ at″ : ℕ}
+    → Puts text at (pieces f i) text′ at′
+    → Puts text′ at′ (f i) text″ at″
+    → Puts text at (pieces f (i + 1)) text″ at″
+puts-piece f i p q = puts-same (sym (next-piece f i)) (puts-both p q)
 
-  pub line-out : i ≡ entryCount b → lineAt b steps i ≡ outLineAt b
-  unfolding lineAt
-  line-out e =
-      let past : inputCount b ≤ i = omega arith in
-      let end : entryCount b ≤ i = omega arith in
-      rw (le-ltb i (inputCount b) past, le-ltb i (entryCount b) end, eq-eqb i (entryCount b) e)
+-- Before the first piece nothing is written.
+pub puts-no-piece : (f : ℕ → List ℕ) (text : List ℕ) (at : ℕ) → Puts text at (pieces f 0) text at
+puts-no-piece f text at = puts-same (sym (no-piece f)) (puts-none text at)
 
-  pub line-steps : i ≡ entryCount b + 1 → lineAt b steps i ≡ stepsLine steps
-  unfolding lineAt
-  line-steps e =
-      let past : inputCount b ≤ i = omega arith in
-      let end : entryCount b ≤ i = omega arith in
-      let other : i ≡ entryCount b → ⊥ = λ p. omega arith in
-      rw (
-        le-ltb i (inputCount b) past,
-        le-ltb i (entryCount b) end,
-        ne-eqb i (entryCount b) other,
-        eq-eqb i (entryCount b + 1) e,
-      )
-
-  pub line-none : entryCount b + 2 ≤ i → lineAt b steps i ≡ []
-  unfolding lineAt
-  line-none h =
-      let past : inputCount b ≤ i = omega arith in
-      let end : entryCount b ≤ i = omega arith in
-      let other : i ≡ entryCount b → ⊥ = λ p. omega arith in
-      let another : i ≡ entryCount b + 1 → ⊥ = λ p. omega arith in
-      rw (
-        le-ltb i (inputCount b) past,
-        le-ltb i (entryCount b) end,
-        ne-eqb i (entryCount b) other,
-        ne-eqb i (entryCount b + 1) another,
-      )
+-- All lines are written: the inputs, the gates, the outputs, the steps.
+pub puts-text : (b : List ℕ) (steps : ℕ) {text₀ text₁ text₂ text₃ text₄ : List ℕ} {at₁ at₂ at₃ at₄ : ℕ}
+    → Puts text₀ 0 (pieces (inputLineAt b) (inputCount b)) text₁ at₁
+    → Puts text₁ at₁ (pieces (gateLineAt b) (gateCount b)) text₂ at₂
+    → Puts text₂ at₂ (outLineAt b) text₃ at₃
+    → Puts text₃ at₃ (stepsLine steps) text₄ at₄
+    → Written text₀ (textAt b steps) text₄ at₄
+unfolding textAt
+puts-text b steps p q r s = puts-first (puts-both p (puts-both q (puts-both r s)))

@@ -10,10 +10,7 @@ use lib.ListN.{length, getD, List·getD-eq-default}
 use Rattle.rules.specs.GateCodes.{filled}
 use Rattle.rules.specs.Theorems.Wires.{and-left, and-right}
 use Rattle.text.specs.Text.{gateNames, gateName}
-
--- The most letters of a name.
-abbrev pub longest-name : ℕ
-longest-name = 4
+pub use Rattle.text.specs.Text.{longest-name}
 
 -- A row: the number of letters, then the letters, filled up.
 abbrev pub nameRow : List ℕ → List ℕ

@@ -13,7 +13,7 @@ use Rattle.rules.specs.Types.{Wire, Bit, Qubit, Ty, wires}
 use Rattle.rules.specs.Gates.{GateType, _to_, gateTable, gateType}
 use Rattle.rules.specs.GateCodes.{inputWires, wiresIn}
 use Rattle.rules.specs.Terms.{Tuple, labels, Gate, _on_}
-use Rattle.rules.specs.Circuits.{circuit, OfTypes, no-wire, next-wire, TakesEarlier, no-gate, next-gate}
+use Rattle.rules.specs.Circuits.{circuit, OfTypes, wires-end, next-wire, TakesEarlier, no-gate, next-gate}
 use Rattle.rules.specs.Theorems.Wires.{every-nth}
 use Rattle.circuits.specs.Gates.{wiresOf}
 use Rattle.listing.specs.Listing.{bytesOf, inputKind, gateKind, entry-slots, inputSlots, gateSlots, oldestFirst}
@@ -55,11 +55,11 @@ abbrev has-slots : GateType → Bool
 has-slots (T to U) = leb (length (wires T)) entry-slots
 
 types-counted : {types : List Wire} {ws : List ℕ} {αs : List Wire} → OfTypes types ws αs → length ws ≡ length αs
-types-counted no-wire = refl
+types-counted wires-end = refl
 types-counted (next-wire e o) = ap suc (types-counted o)
 
 -- So does a gate that takes wires of its types, and each gate of a sound circuit.
-one-counted : {types : List Wire} (n : ℕ) (ws : List ℕ) (T U : Ty)
+pub one-counted : {types : List Wire} (n : ℕ) (ws : List ℕ) (T U : Ty)
     → gateType n ≡ some (T to U)
     → OfTypes types ws (wires T)
     → Counted (n on ws)

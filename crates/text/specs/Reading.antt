@@ -1,14 +1,15 @@
 -- What the bytes of a listing say, read at the places that its sizes give, and the lines of them. Past the end of the bytes
 -- stands 0.
-use Prim.Native.Nat.{ℕ, zero, suc, _+_, _-_, _*_}
+use Prim.Native.Nat.{ℕ, zero, suc, _+_, _*_}
 use mathlib.Core.Bool.{cond}
-use mathlib.Core.List.{List, [], _∷_}
-use lib.Dec.{eqb, ltb}
+use mathlib.Core.List.{List, [], _∷_, _++_}
+use lib.Dec.{eqb}
 use lib.ListN.{getD}
 use Rattle.rules.specs.Types.{Wire, Bit, Qubit}
 use Rattle.rules.specs.GateCodes.{wiresIn, wiresOut}
 use Rattle.rules.specs.Circuits.{numbers}
 use Rattle.listing.specs.Listing.{entry-slots}
+use Rattle.listing.specs.Parts.{pieces}
 use Rattle.text.specs.Text.{inputLine, gateLine, outLine, stepsLine}
 
 -- 16 bits, "low byte first".
@@ -67,14 +68,7 @@ gateLineAt b gate =
 unfoldable pub outLineAt : List ℕ → List ℕ
 outLineAt b = outLine (wordsAt b (outputsFrom b) (outputCount b))
 
--- So many lines are printed.
-unfoldable pub lineCount : List ℕ → ℕ
-lineCount b = entryCount b + 2
-
--- Line i: the inputs, the gates, the outputs, the steps; behind them there is none.
-unfoldable pub lineAt : List ℕ → ℕ → ℕ → List ℕ
-lineAt b steps i =
-    cond (ltb i (inputCount b)) (inputLineAt b i)
-    (cond (ltb i (entryCount b)) (gateLineAt b (i - inputCount b))
-    (cond (eqb i (entryCount b)) (outLineAt b)
-    (cond (eqb i (entryCount b + 1)) (stepsLine steps) [])))
+-- All lines one behind the other: the inputs, the gates, the outputs, the steps.
+unfoldable pub textAt : List ℕ → ℕ → List ℕ
+textAt b steps =
+    pieces (inputLineAt b) (inputCount b) ++ (pieces (gateLineAt b) (gateCount b) ++ (outLineAt b ++ stepsLine steps))

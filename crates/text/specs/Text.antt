@@ -38,6 +38,10 @@ abbrev pub gateNames : List (List ℕ)
 gateNames =
     ascii "H" ∷ ascii "X" ∷ ascii "Z" ∷ ascii "S" ∷ ascii "T" ∷ ascii "CNOT" ∷ ascii "Meas" ∷ ascii "BX" ∷ ascii "BZ" ∷ []
 
+-- The most letters of a name.
+abbrev pub longest-name : ℕ
+longest-name = 4
+
 -- The name of a gate; a number that is no gate has none.
 unfoldable pub gateName : ℕ → List ℕ
 gateName n = getD gateNames n []
@@ -92,10 +96,6 @@ gateLines I ((n on ws) ∷ gs) =
 -- All lines of a finished run, in order.
 abbrev pub linesOf : Circuit → Tuple → ℕ → List (List ℕ)
 linesOf (circuit I gs) r steps = inputLines 0 I ++ (gateLines I gs ++ (outLine (labels r) ∷ stepsLine steps ∷ []))
-
--- Line i of them, counted from 0; behind the last there is none.
-abbrev pub lineOf : Circuit → Tuple → ℕ → ℕ → List ℕ
-lineOf C r steps i = getD (linesOf C r steps) i []
 
 -- Lines one behind the other.
 abbrev pub joined : List (List ℕ) → List ℕ

@@ -1,11 +1,11 @@
--- The lines that are printed of a listing's bytes are those of its circuit, outputs and steps.
-use Prim.Native.Nat.{ℕ, zero, suc, _+_, _-_, _≤_, _<_}
+-- What is written of a listing's bytes is the text of its circuit, outputs and steps.
+use Prim.Native.Nat.{ℕ, zero, suc, _+_, _<_}
 use native.Mathlib.Omega.{arith}
 use native.Mathlib.Decide.{decLt}
 use mathlib.Core.Path.{_≡_, refl, sym, _∙_, ap, ap₂}
 use mathlib.Core.List.{List, [], _∷_, _++_, flatMap, append-nil, append-assoc}
-use lib.ListN.{length, getD, length-append, List·getD-append, List·getD-eq-default}
-use lib.Seq.{getD-append-add, getD-at}
+use lib.ListN.{length, getD, length-append, List·getD-append}
+use lib.Seq.{getD-at}
 use Rattle.rules.specs.Types.{Wire, Bit}
 use Rattle.rules.specs.Gates.{gateOutputs}
 use Rattle.rules.specs.GateCodes.{wiresIn, wiresOut}
@@ -15,12 +15,10 @@ use Rattle.circuits.specs.Gates.{wiresOf}
 use Rattle.listing.specs.Listing.{gateKind, listing}
 use Rattle.listing.specs.Parts.{pieces}
 use Rattle.listing.specs.Pieces.{pieces-list}
-use Rattle.text.specs.Text.{inputLine, gateLine, outLine, stepsLine, inputLines, gateLines, linesOf}
-use Rattle.text.specs.Text.{lineOf, joined, lines}
-use Rattle.text.specs.Reading.{wordsAt, inputCount, kindAt, slotsFrom, madeBefore, inputLineAt, gateLineAt}
-use Rattle.text.specs.Reading.{outLineAt, lineCount, lineAt}
-use Rattle.text.specs.Lines.{line-input, line-gate, line-out, line-steps, line-none}
-use Rattle.text.specs.ReadBack.{gateAt, newest-at, older-at, counted-at, inputs-are, entries-are, input-is, gate-is}
+use Rattle.text.specs.Text.{inputLine, gateLine, outLine, stepsLine, inputLines, gateLines, joined, lines}
+use Rattle.text.specs.Reading.{wordsAt, inputCount, gateCount, kindAt, slotsFrom, madeBefore, inputLineAt, gateLineAt}
+use Rattle.text.specs.Reading.{outLineAt, textAt}
+use Rattle.text.specs.ReadBack.{gateAt, newest-at, older-at, counted-at, inputs-are, gates-are, input-is, gate-is}
 use Rattle.text.specs.ReadBack.{taken-is, listed-are}
 
 -- The lines of the inputs.
@@ -107,124 +105,65 @@ module _ (I : List Wire) (kind made : ℕ → ℕ) (taken : ℕ → List ℕ) (f
 
 -- Pieces that are the lines of a list are these lines one behind the other.
 pieces-joined : (ls : List (List ℕ)) (f : ℕ → List ℕ)
-    → ((i : ℕ) → f i ≡ getD ls i [])
+    → ((i : ℕ) → i < length ls → f i ≡ getD ls i [])
     → pieces f (length ls) ≡ joined ls
 unfolding flatMap
-pieces-joined ls f each = pieces-list (λ l. l) [] ls f (λ i below. each i) ∙ flat-joined ls
+pieces-joined ls f each = pieces-list (λ l. l) [] ls f each ∙ flat-joined ls
   where
     flat-joined : (ls : List (List ℕ)) → flatMap (λ l. l) ls ≡ joined ls
     flat-joined [] = refl
     flat-joined (l ∷ ls) = ap (λ ys. l ++ ys) (flat-joined ls)
 
+pub joined-append : (ls ms : List (List ℕ)) → joined (ls ++ ms) ≡ joined ls ++ joined ms
+joined-append [] ms = refl
+joined-append (l ∷ ls) ms = ap (λ ys. l ++ ys) (joined-append ls ms) ∙ sym (append-assoc l (joined ls) (joined ms))
+
+-- The parts of all that is printed for a finished run.
+pub lines-parts : (I : List Wire) (gs : List Gate) (r : Tuple) (steps : ℕ)
+    → lines (circuit I gs) r steps
+    ≡ joined (inputLines 0 I) ++ (joined (gateLines I gs) ++ (outLine (labels r) ++ stepsLine steps))
+lines-parts I gs r steps =
+    let C = outLine (labels r) ∷ stepsLine steps ∷ [] in
+    joined-append (inputLines 0 I) (gateLines I gs ++ C)
+    ∙ ap (λ ys. joined (inputLines 0 I) ++ ys) (
+    joined-append (gateLines I gs) C
+    ∙ ap (λ ys. joined (gateLines I gs) ++ (outLine (labels r) ++ ys)) (append-nil (stepsLine steps))
+    )
+
 module _ (I : List Wire) (gs : List Gate) (r : Tuple) (rest b : List ℕ) (same : b ≡ listing (circuit I gs) r ++ rest)
     (steps : ℕ) where
-  -- The last two lines.
-  last-line : (i k : ℕ)
-      → i ≡ length I + length gs + k
-      → lineOf (circuit I gs) r steps i ≡ getD (outLine (labels r) ∷ stepsLine steps ∷ []) k []
-  last-line i k here =
-      let A = inputLines 0 I in
-      let B = gateLines I gs in
-      let C = outLine (labels r) ∷ stepsLine steps ∷ [] in
-      let e : i ≡ length A + (length B + k) = omega (arith, length-inputs 0 I, length-gate-lines I gs) in
-      ap (λ n. getD (A ++ (B ++ C)) n []) e
-      ∙ getD-append-add A (B ++ C) (length B + k) []
-      ∙ getD-append-add B C k []
-
-  input-printed : (i : ℕ) → i < length I → lineAt b steps i ≡ lineOf (circuit I gs) r steps i
+  inputs-printed : pieces (inputLineAt b) (inputCount b) ≡ joined (inputLines 0 I)
   unfolding inputLineAt
-  input-printed i below =
-      let more = gateLines I gs ++ (outLine (labels r) ∷ stepsLine steps ∷ []) in
+  inputs-printed =
+      ap (pieces (inputLineAt b)) (inputs-are I gs r rest b same ∙ sym (length-inputs 0 I))
+      ∙ pieces-joined (inputLines 0 I) (inputLineAt b) λ i below.
+      let inside : i < length I = omega (arith, length-inputs 0 I) in
       let e : i ≡ 0 + i = omega arith in
-      line-input b steps i (omega (arith, inputs-are I gs r rest b same))
-      ∙ ap₂ inputLine e (input-is I gs r rest b same i below)
-      ∙ sym (input-line 0 I i below)
-      ∙ sym (List·getD-append (inputLines 0 I) more [] i (omega (arith, length-inputs 0 I)))
+      ap₂ inputLine e (input-is I gs r rest b same i inside) ∙ sym (input-line 0 I i inside)
 
-  gate-printed : TakesEarlier I gs
-      → (i j : ℕ)
-      → i ≡ length I + j
-      → j < length gs
-      → lineAt b steps i ≡ lineOf (circuit I gs) r steps i
+  gates-printed : TakesEarlier I gs → pieces (gateLineAt b) (gateCount b) ≡ joined (gateLines I gs)
   unfolding gateLineAt
-  gate-printed sound i j here below =
-      let A = inputLines 0 I in
-      let B = gateLines I gs in
-      let C = outLine (labels r) ∷ stepsLine steps ∷ [] in
-      let few : inputCount b ≡ length I = inputs-are I gs r rest b same in
-      let e : i - inputCount b ≡ j = omega arith in
-      let e′ : i ≡ length A + j = omega (arith, length-inputs 0 I) in
-      line-gate b steps i (omega arith) (omega (arith, entries-are I gs r rest b same))
-      ∙ ap (gateLineAt b) e
-      ∙ gate-line I (λ k. kindAt b (inputCount b + k)) (madeBefore b)
+  gates-printed sound =
+      ap (pieces (gateLineAt b)) (gates-are I gs r rest b same ∙ sym (length-gate-lines I gs))
+      ∙ pieces-joined (gateLines I gs) (gateLineAt b) λ j below.
+      gate-line I (λ k. kindAt b (inputCount b + k)) (madeBefore b)
       (λ k. wordsAt b (slotsFrom b (inputCount b + k)) (wiresIn (kindAt b (inputCount b + k))))
-      few
+      (inputs-are I gs r rest b same)
       (λ k. refl)
       gs
       (gate-is I gs r rest b same)
       (λ k inside. taken-is I gs r rest b same k inside (counted-at gs sound k inside))
       j
-      below
-      ∙ sym (List·getD-append B C [] j (omega (arith, length-gate-lines I gs)))
-      ∙ sym (getD-append-add A (B ++ C) j [])
-      ∙ ap (λ n. getD (A ++ (B ++ C)) n []) (sym e′)
+      (omega (arith, length-gate-lines I gs))
 
-  out-printed : (i : ℕ) → i ≡ length I + length gs → lineAt b steps i ≡ lineOf (circuit I gs) r steps i
+  outputs-printed : outLineAt b ≡ outLine (labels r)
   unfolding outLineAt
-  out-printed i here =
-      line-out b steps i (omega (arith, entries-are I gs r rest b same))
-      ∙ ap outLine (listed-are I gs r rest b same)
-      ∙ sym (last-line i 0 (omega arith))
+  outputs-printed = ap outLine (listed-are I gs r rest b same)
 
-  steps-printed : (i : ℕ) → i ≡ length I + length gs + 1 → lineAt b steps i ≡ lineOf (circuit I gs) r steps i
-  steps-printed i here =
-      line-steps b steps i (omega (arith, entries-are I gs r rest b same)) ∙ sym (last-line i 1 here)
-
-  none-printed : (i : ℕ) → length I + length gs + 2 ≤ i → lineAt b steps i ≡ lineOf (circuit I gs) r steps i
-  none-printed i past =
-      let k = i - (length I + length gs) in
-      line-none b steps i (omega (arith, entries-are I gs r rest b same))
-      ∙ sym (List·getD-eq-default (outLine (labels r) ∷ stepsLine steps ∷ []) [] {n = k} (omega arith))
-      ∙ sym (last-line i k (omega arith))
-
-  -- Line i of the bytes is line i of the circuit, its outputs and the steps.
-  pub line-printed : TakesEarlier I gs → (i : ℕ) → lineAt b steps i ≡ lineOf (circuit I gs) r steps i
-  line-printed sound i =
-      of
-      (decLt i (length I))
-      (decLt i (length I + length gs))
-      (decLt i (length I + length gs + 1))
-      (decLt i (length I + length gs + 2))
-    where
-      of : Dec (i < length I)
-          → Dec (i < length I + length gs)
-          → Dec (i < length I + length gs + 1)
-          → Dec (i < length I + length gs + 2)
-          → lineAt b steps i ≡ lineOf (circuit I gs) r steps i
-      of (yes p) q s t = input-printed i p
-      of (no p) (yes q) s t = gate-printed sound i (i - length I) (omega arith) (omega arith)
-      of (no p) (no q) (yes s) t = out-printed i (omega arith)
-      of (no p) (no q) (no s) (yes t) = steps-printed i (omega arith)
-      of (no p) (no q) (no s) (no t) = none-printed i (omega arith)
-
-  -- As many lines as are counted.
-  pub lines-counted : lineCount b ≡ length (linesOf (circuit I gs) r steps)
-  unfolding lineCount
-  lines-counted =
-      let A = inputLines 0 I in
-      let B = gateLines I gs in
-      let C = outLine (labels r) ∷ stepsLine steps ∷ [] in
-      omega (
-        arith,
-        entries-are I gs r rest b same,
-        length-append A (B ++ C),
-        length-append B C,
-        length-inputs 0 I,
-        length-gate-lines I gs,
-      )
-
-  -- The lines in order are all that is printed.
-  pub in-order : TakesEarlier I gs → pieces (lineAt b steps) (lineCount b) ≡ lines (circuit I gs) r steps
+  -- What is written of the listing's bytes is all that is printed of the circuit, its outputs and the steps, in order.
+  pub in-order : TakesEarlier I gs → textAt b steps ≡ lines (circuit I gs) r steps
+  unfolding textAt
   in-order sound =
-      ap (pieces (lineAt b steps)) lines-counted
-      ∙ pieces-joined (linesOf (circuit I gs) r steps) (lineAt b steps) (line-printed sound)
+      ap₂ (λ xs ys. xs ++ (ys ++ (outLineAt b ++ stepsLine steps))) inputs-printed (gates-printed sound)
+      ∙ ap (λ ys. joined (inputLines 0 I) ++ (joined (gateLines I gs) ++ (ys ++ stepsLine steps))) outputs-printed
+      ∙ sym (lines-parts I gs r steps)

@@ -1,20 +1,11 @@
--- Bytes written into a lent buffer from its start, as many as it holds.
-use Prim.Native.Nat.{ℕ, suc, _+_, _≤_, _<_, min}
+-- Laws of bytes written into a lent buffer from its start, as many as it holds.
+use Prim.Native.Nat.{ℕ, suc, _+_, _≤_, _<_}
 use native.Mathlib.Omega.{arith}
 use mathlib.Core.Path.{_≡_, sym, _∙_, ap, ap₂, subst}
 use mathlib.Core.List.{List, [], _∷_, _++_, append-assoc, append-nil}
 use lib.ListN.{length, take, drop, set, length-append, length-take, length-drop, drop-of-length-le}
-use lib.Seq.{take-nil, take-all, drop-cons, set-append-seam, take-append-le}
-
--- The buffer held l, and the bytes xs were written from its start, as many as it holds; behind them stands what was there.
--- The next byte goes to the given place.
-pub record Written (l xs text : List ℕ) (at : ℕ) : Type 0 where
-  pub contents : text ≡ take (length l) xs ++ drop (length xs) l
-  pub place : at ≡ min (length xs) (length l)
-
--- The bytes xs stand whole at the start of a buffer that held l, and behind them what was there.
-abbrev pub StandsWhole : List ℕ → List ℕ → List ℕ → ℕ → Type 0
-StandsWhole l xs text at = (text ≡ xs ++ drop (length xs) l) × (at ≡ length xs)
+use lib.Seq.{take-nil, take-all, drop-cons, set-append-seam, take-append-le, take-append-seam}
+use Rattle.text.specs.Written.{Written}
 
 -- From one state of the buffer to another, the bytes ys were written behind all that were written before.
 pub record Puts (text : List ℕ) (at : ℕ) (ys text′ : List ℕ) (at′ : ℕ) : Type 0 where
@@ -109,6 +100,8 @@ pub puts-first : {text text′ xs : List ℕ} {at : ℕ} → Puts text 0 xs text
 puts-first {text = text} p = p .behind text [] (nothing-written text)
 
 -- Bytes for which there is room all stand at the start.
-pub whole : {l xs text : List ℕ} {at : ℕ} → Written l xs text at → length xs ≤ length l → StandsWhole l xs text at
-whole {l} {xs} w room =
-    (w .contents ∙ ap (λ t. t ++ drop (length xs) l) (take-all (length l) xs room), omega (arith, w .place))
+pub all-written : {l xs text : List ℕ} {at : ℕ} → Written l xs text at → length xs ≤ length l → take at text ≡ xs
+all-written {l} {xs} {at = at} w room =
+    let here : at ≡ length xs = omega (arith, w .place) in
+    ap₂ take here (w .contents ∙ ap (λ t. t ++ drop (length xs) l) (take-all (length l) xs room))
+    ∙ take-append-seam xs (drop (length xs) l)

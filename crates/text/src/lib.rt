@@ -4,11 +4,10 @@ pub mod reading;
 pub mod writing;
 
 use names::put_name;
+use reading::GATES;
 use reading::INPUTS;
 use reading::OUTPUTS;
-use reading::entry_count;
 use reading::kind_at;
-use reading::made_before;
 use reading::outputs_from;
 use reading::put_words;
 use reading::slots_from;
@@ -17,23 +16,20 @@ use writing::put_byte;
 use writing::put_bytes;
 use writing::put_number;
 use writing::put_numbers;
-ghost use Prim.Native.Nat.{ℕ, _+_, _≤_, _<_};
-ghost use mathlib.Core.Path.{_≡_};
-ghost use mathlib.Core.List.{List, _++_};
+ghost use Prim.Native.Nat.{_≤_, _<_};
 ghost use lib.ListN.{length};
-ghost use Rattle.rules.specs.Types.{Wire};
-ghost use Rattle.rules.specs.GateCodes.{wiresIn};
-ghost use Rattle.rules.specs.Terms.{Tuple, labels, Gate};
-ghost use Rattle.rules.specs.Circuits.{circuit, TakesEarlier};
-ghost use Rattle.listing.specs.Listing.{listing as listingOf};
-ghost use Rattle.text.specs.Text.{stepsLine, refusedLine, linesOf, lineOf};
-ghost use Rattle.text.specs.Writing.{Written, StandsWhole, Puts};
-ghost use Rattle.text.specs.Reading.{wordsAt, slotsFrom, inputLineAt, gateLineAt, outLineAt, lineCount, lineAt};
+ghost use Rattle.rules.specs.GateCodes.{wiresIn, wiresOut};
+ghost use Rattle.rules.specs.Circuits.{numbers};
+ghost use Rattle.listing.specs.Parts.{pieces};
+ghost use Rattle.text.specs.Text.{gateLine, stepsLine, refusedLine};
+ghost use Rattle.text.specs.Least.{least-text};
+ghost use Rattle.text.specs.Written.{Written};
+ghost use Rattle.text.specs.Writing.{Puts};
+ghost use Rattle.text.specs.Reading.{wordsAt, inputCount, gateCount, slotsFrom, inputLineAt, gateLineAt, outLineAt, textAt};
 ghost use Rattle.text.specs.Lines.{takenPart};
-ghost use Rattle.text.specs.Least.{most-outputs, least-text};
 
-// The least length of a text that holds every line.
-pub const LEAST_TEXT: usize = 1540;
+// The least length of a buffer that holds every text.
+pub const LEAST_TEXT: usize = 88213;
 
 // The kind of an input that is a Bit.
 const BIT_INPUT: usize = 128;
@@ -42,11 +38,11 @@ const BIT_INPUT: usize = 128;
 const LINE_END: u8 = 10;
 
 // The line of an input.
-fn write_input(listing: &[u8], i: usize, text: &mut [u8]) -> usize
+fn write_input(listing: &[u8], i: usize, text: &mut [u8], at: usize) -> usize
     requires { ⌜ i < 65536 ⌝ }
-    ensures { λ r. ⌜ Puts (now (text .entry)) 0 (inputLineAt (now (listing .entry)) i) (now (text .exit)) r ⌝ }
+    ensures { λ r. ⌜ Puts (now (text .entry)) at (inputLineAt (now (listing .entry)) i) (now (text .exit)) r ⌝ }
 {
-    let named = put_bytes(text, 0, b"in");
+    let named = put_bytes(text, at, b"in");
     let numbered = put_number(text, named, i);
     if kind_at(listing, i) == BIT_INPUT {
         return put_bytes(text, numbered, b" Bit\n");
@@ -54,14 +50,29 @@ fn write_input(listing: &[u8], i: usize, text: &mut [u8]) -> usize
     put_bytes(text, numbered, b" Qubit\n")
 }
 
+// The lines of the inputs.
+fn write_inputs(listing: &[u8], text: &mut [u8], at: usize) -> usize
+    ensures { λ r. ⌜ Puts (now (text .entry)) at
+        (pieces (inputLineAt (now (listing .entry))) (inputCount (now (listing .entry)))) (now (text .exit)) r ⌝ }
+{
+    let count = word_at(listing, INPUTS);
+    let mut here = at;
+    let mut i: usize = 0;
+    while i < count {
+        here = write_input(listing, i, text, here);
+        i += 1;
+    }
+    here
+}
+
 // What stands in the line of a gate before the colon.
-fn write_taken(listing: &[u8], i: usize, number: usize, text: &mut [u8]) -> usize
+fn write_taken(listing: &[u8], i: usize, number: usize, text: &mut [u8], at: usize) -> usize
     requires { ⌜ i < 262144 ⌝ }
-    ensures { λ r. ⌜ Puts (now (text .entry)) 0
+    ensures { λ r. ⌜ Puts (now (text .entry)) at
         (takenPart number (wordsAt (now (listing .entry)) (slotsFrom (now (listing .entry)) i) (wiresIn number)))
         (now (text .exit)) r ⌝ }
 {
-    let opened = put_bytes(text, 0, b"gate ");
+    let opened = put_bytes(text, at, b"gate ");
     let named = put_name(text, opened, number);
     put_words(
         text,
@@ -72,29 +83,53 @@ fn write_taken(listing: &[u8], i: usize, number: usize, text: &mut [u8]) -> usiz
     )
 }
 
-// The line of a gate.
-fn write_gate(listing: &[u8], gate: usize, text: &mut [u8]) -> usize
-    requires { ⌜ gate < 131072 ⌝ }
-    ensures { λ r. ⌜ Puts (now (text .entry)) 0 (gateLineAt (now (listing .entry)) gate) (now (text .exit)) r ⌝ }
+// The line of the gate with this number at entry i, before which so many wires were made.
+fn write_gate(
+    listing: &[u8],
+    i: usize,
+    number: usize,
+    made: usize,
+    text: &mut [u8],
+    at: usize,
+) -> usize
+    requires { ⌜ i < 262144 ⌝ }
+    requires { ⌜ made < 1048576 ⌝ }
+    ensures { λ r. ⌜ Puts (now (text .entry)) at
+        (gateLine number
+        (wordsAt (now (listing .entry)) (slotsFrom (now (listing .entry)) i) (wiresIn number))
+        (numbers made (wiresOut number)))
+        (now (text .exit)) r ⌝ }
 {
-    let i = word_at(listing, INPUTS) + gate;
-    let number = kind_at(listing, i);
-    let taken = write_taken(listing, i, number, text);
+    let taken = write_taken(listing, i, number, text, at);
     let parted = put_bytes(text, taken, b" :");
-    let made = put_numbers(
-        text,
-        parted,
-        made_before(listing, gate),
-        rules::wires_out(number),
-    );
-    put_byte(text, made, LINE_END)
+    let numbered = put_numbers(text, parted, made, rules::wires_out(number));
+    put_byte(text, numbered, LINE_END)
+}
+
+// The lines of the gates. The wires made so far are counted on from gate to gate.
+fn write_gates(listing: &[u8], text: &mut [u8], at: usize) -> usize
+    ensures { λ r. ⌜ Puts (now (text .entry)) at
+        (pieces (gateLineAt (now (listing .entry))) (gateCount (now (listing .entry)))) (now (text .exit)) r ⌝ }
+{
+    let inputs = word_at(listing, INPUTS);
+    let count = word_at(listing, GATES);
+    let mut made = inputs;
+    let mut here = at;
+    let mut i: usize = 0;
+    while i < count {
+        let number = kind_at(listing, inputs + i);
+        here = write_gate(listing, inputs + i, number, made, text, here);
+        made += rules::wires_out(number);
+        i += 1;
+    }
+    here
 }
 
 // The line of the outputs.
-fn write_outputs(listing: &[u8], text: &mut [u8]) -> usize
-    ensures { λ r. ⌜ Puts (now (text .entry)) 0 (outLineAt (now (listing .entry))) (now (text .exit)) r ⌝ }
+fn write_outputs(listing: &[u8], text: &mut [u8], at: usize) -> usize
+    ensures { λ r. ⌜ Puts (now (text .entry)) at (outLineAt (now (listing .entry))) (now (text .exit)) r ⌝ }
 {
-    let named = put_bytes(text, 0, b"out");
+    let named = put_bytes(text, at, b"out");
     let listed = put_words(
         text,
         named,
@@ -106,60 +141,33 @@ fn write_outputs(listing: &[u8], text: &mut [u8]) -> usize
 }
 
 // The line of the steps.
-fn write_steps(steps: usize, text: &mut [u8]) -> usize
-    ensures { λ r. ⌜ Puts (now (text .entry)) 0 (stepsLine steps) (now (text .exit)) r ⌝ }
+fn write_steps(steps: usize, text: &mut [u8], at: usize) -> usize
+    ensures { λ r. ⌜ Puts (now (text .entry)) at (stepsLine steps) (now (text .exit)) r ⌝ }
 {
-    let named = put_bytes(text, 0, b"steps");
+    let named = put_bytes(text, at, b"steps");
     let numbered = put_number(text, named, steps);
     put_byte(text, numbered, LINE_END)
+}
+
+// All lines of a listing and the steps of its run are written from the start of the text, as much of them as that holds;
+// answers how many bytes.
+pub fn write_lines(listing: &[u8], steps: usize, text: &mut [u8]) -> usize
+    ensures { λ r. ⌜ Written (now (text .entry)) (textAt (now (listing .entry)) steps) (now (text .exit)) r ⌝ }
+{
+    let inputs = write_inputs(listing, text, 0);
+    let gates = write_gates(listing, text, inputs);
+    let outputs = write_outputs(listing, text, gates);
+    write_steps(steps, text, outputs)
 }
 
 // The line of a refusal is written from the start of the text, as much of it as that holds; answers how many bytes. A text
 // of the least length holds it whole.
 pub fn write_refusal(number: usize, place: usize, text: &mut [u8]) -> usize
     ensures { λ r. ⌜ Written (now (text .entry)) (refusedLine number place) (now (text .exit)) r ⌝ }
-    ensures { λ r. ⌜ (least-text ≤ length (now (text .entry))
-        → StandsWhole (now (text .entry)) (refusedLine number place) (now (text .exit)) r) ⌝ }
+    ensures { λ r. ⌜ length (refusedLine number place) ≤ least-text ⌝ }
 {
     let named = put_bytes(text, 0, b"refused");
     let numbered = put_number(text, named, number);
     let placed = put_number(text, numbered, place);
     put_byte(text, placed, LINE_END)
-}
-
-// How many lines are printed of a listing: one for each entry, the outputs and the steps.
-pub fn line_count(listing: &[u8]) -> usize
-    ensures { λ r. ⌜ r ≡ lineCount (now (listing .entry)) ⌝ }
-    ensures { λ r. ⌜ ((I : List Wire) (gs : List Gate) (k : Tuple) (rest : List ℕ) (steps : ℕ)
-        → now (listing .entry) ≡ listingOf (circuit I gs) k ++ rest
-        → r ≡ length (linesOf (circuit I gs) k steps)) ⌝ }
-{
-    entry_count(listing) + 2
-}
-
-// Line i of a listing and the steps of its run is written from the start of the text, as much of it as that holds; answers
-// how many bytes. Of bytes that begin with the listing of a sound circuit, a text of the least length holds the circuit's
-// line i.
-pub fn write_line(listing: &[u8], steps: usize, i: usize, text: &mut [u8]) -> usize
-    ensures { λ r. ⌜ Written (now (text .entry)) (lineAt (now (listing .entry)) steps i) (now (text .exit)) r ⌝ }
-    ensures { λ r. ⌜ ((I : List Wire) (gs : List Gate) (k : Tuple) (rest : List ℕ)
-        → now (listing .entry) ≡ listingOf (circuit I gs) k ++ rest → TakesEarlier I gs
-        → length (labels k) ≤ most-outputs → least-text ≤ length (now (text .entry))
-        → StandsWhole (now (text .entry)) (lineOf (circuit I gs) k steps i) (now (text .exit)) r) ⌝ }
-{
-    let inputs = word_at(listing, INPUTS);
-    let entries = entry_count(listing);
-    if i < inputs {
-        return write_input(listing, i, text);
-    }
-    if i < entries {
-        return write_gate(listing, i - inputs, text);
-    }
-    if i == entries {
-        return write_outputs(listing, text);
-    }
-    if i == entries + 1 {
-        return write_steps(steps, text);
-    }
-    0
 }

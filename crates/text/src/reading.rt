@@ -6,7 +6,7 @@ ghost use mathlib.Core.List.{map};
 ghost use lib.ListN.{getD};
 ghost use Rattle.text.specs.Text.{decimal, spaced};
 ghost use Rattle.text.specs.Writing.{Puts};
-ghost use Rattle.text.specs.Reading.{wordAt, wordsAt, kindAt, entryCount, slotsFrom, outputsFrom, madeBefore};
+ghost use Rattle.text.specs.Reading.{wordAt, wordsAt, kindAt, entryCount, slotsFrom, outputsFrom};
 
 // How many bytes the three sizes take, how many slots an entry has, and how many bytes an entry takes with its kind.
 const SIZES: usize = 6;
@@ -52,7 +52,7 @@ pub(crate) fn kind_at(listing: &[u8], i: usize) -> usize
 }
 
 // How many entries there are.
-pub(crate) fn entry_count(listing: &[u8]) -> usize
+fn entry_count(listing: &[u8]) -> usize
     ensures { λ r. ⌜ r ≡ entryCount (now (listing .entry)) ⌝ }
     ensures { λ r. ⌜ r < 131072 ⌝ }
 {
@@ -74,22 +74,6 @@ pub(crate) fn outputs_from(listing: &[u8]) -> usize
     ensures { λ r. ⌜ r < 134217728 ⌝ }
 {
     SIZES + ENTRY_BYTES * entry_count(listing)
-}
-
-// How many wires the inputs and the first gates make.
-pub(crate) fn made_before(listing: &[u8], gate: usize) -> usize
-    requires { ⌜ gate < 1048576 ⌝ }
-    ensures { λ r. ⌜ r ≡ madeBefore (now (listing .entry)) gate ⌝ }
-    ensures { λ r. ⌜ r < 134217728 ⌝ }
-{
-    let inputs = word_at(listing, INPUTS);
-    let mut made = inputs;
-    let mut i: usize = 0;
-    while i < gate {
-        made += rules::wires_out(kind_at(listing, inputs + i));
-        i += 1;
-    }
-    made
 }
 
 // So many numbers of two bytes from a place on, each behind a space.

@@ -55,10 +55,12 @@ abbrev pub ruled : ℕ → Option Ty → Option ℕ → Option ℕ → Checked
 ruled e (some A) u v = typed A u v
 ruled e none u v = fault e
 
+-- A variable has the type of its binder; it may be an 18.
 abbrev pub variableFound : ℕ → ℕ → Option Binder → Checked
 variableFound e lifts (some (A under bound)) = typed A none (if-so (crosses A bound lifts) e)
 variableFound e lifts none = fault e
 
+-- A label has the type of its wire and is bound outside of all lifts; it may be an 18.
 abbrev pub labelFound : ℕ → ℕ → Option Wire → Checked
 labelFound e lifts (some α) = typed (wire α) none (if-so (crosses (wire α) 0 lifts) e)
 labelFound e lifts none = fault e
@@ -108,15 +110,17 @@ pub data Verdict : Type 0 where
   has-type : Ty → Verdict
   refusal : ℕ → ℕ → Verdict
 
+-- 18, if there is one.
 abbrev pub lastly : Ty → Option ℕ → Verdict
 lastly A none = has-type A
 lastly A (some e) = refusal 18 e
 
+-- 17, if there is one, before 18.
 abbrev pub secondly : Ty → Option ℕ → Option ℕ → Verdict
 secondly A none v = lastly A v
 secondly A (some e) v = refusal 17 e
 
--- Labels come before binders in file order.
+-- 16, if there is one, before 17. Labels come before binders in file order.
 abbrev pub decided : List Wire → Term → Checked → Verdict
 decided L M (fault e) = refusal 16 e
 decided L M (typed A u v) = secondly A (earlier (wrongLabel M 0 (length L)) u) v

@@ -12,7 +12,7 @@ use borrow.Author.Tests.{eq-eqb, ne-eqb}
 use Rattle.rules.specs.Types.{Wire, Ty}
 use Rattle.rules.specs.Terms.{Term}
 use Rattle.rules.specs.Inference.{labelUses}
-use Rattle.program.specs.declared.Refusal.the-variants.{Typing}
+use Rattle.refusals.specs.declared.Refusal.the-variants.{Typing}
 use Rattle.cells.specs.Cells.{Denotes}
 use Rattle.typing.specs.declared.Inferred.{Inferred}
 use Rattle.typing.specs.declared.Inferred.the-variants.{Typed, Fault}

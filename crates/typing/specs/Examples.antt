@@ -5,7 +5,7 @@ use mathlib.Core.Path.{_≡_, refl}
 use mathlib.Core.List.{List, [], _∷_}
 use Rattle.rules.specs.Types.{Ty, _⊗_, _⊸_, !_, Circ}
 use Rattle.rules.specs.Terms.{Term, variable, label, gate, abstraction, pair, let-in, lift}
-use Rattle.rules.specs.Cases.{one-label, two-labels, qubit, c1, c2, c3, c4, c5, c6, c7, c8, c9, c10, c11, c12}
+use Rattle.rules.specs.CaseTerms.{one-label, two-labels, qubit, c1, c2, c3, c4, c5, c6, c7, c8, c9, c10, c11, c12}
 use Rattle.typing.specs.Checking.{has-type, refusal, verdict}
 
 -- c1 to c4, c10 and c12 have the type Qubit, or a pair of Qubits. Their terms start behind one label, or two, and the types.

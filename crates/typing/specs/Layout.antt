@@ -2,6 +2,7 @@
 -- what is in scope: 64 of labels, then 4,096 of binders, the outermost first. A slot is a row too: the cell of its type,
 -- the lifts around it, its uses so far, and a word that is not used.
 use Prim.Native.Nat.{ℕ, suc, _+_, _*_, _-_}
+use mathlib.Core.Path.{_≡_, refl}
 use mathlib.Core.Bool.{cond}
 use mathlib.Core.List.{List, [], _∷_}
 use mathlib.Core.Option.{Option, none, some, Option·map}
@@ -16,6 +17,7 @@ use Rattle.program.specs.Format.{typeCount}
 use Rattle.cells.specs.Cells.{cellKind, cellFirst, cellSecond}
 use Rattle.cells.specs.GateCells.{gateCells}
 use Rattle.typing.specs.Checking.{Binder, _under_}
+use Rattle.typing.specs.Lengths.{least-work}
 
 -- The first row of the scope: there are never as many cells (41 of the gates, 512 of the file's types, 2,048 of nodes).
 abbrev pub most-cells : ℕ
@@ -29,12 +31,13 @@ most-labels = 64
 abbrev pub most-binders : ℕ
 most-binders = 4096
 
--- The words and the bytes that the check needs: 27,440 and 54,880.
+-- The words that the check needs: 27,440.
 abbrev pub least-words : ℕ
 least-words = 4 * (most-cells + most-labels + most-binders)
 
-abbrev pub least-work : ℕ
-least-work = 2 * least-words
+-- The least length of the working memory is that of its rows, two bytes a word.
+pub rows-fill : least-work ≡ 2 * least-words
+rows-fill = refl
 
 -- What stands in slot i: the cell of the type, the lifts where it is bound, and its uses so far.
 abbrev pub slotCell : List ℕ → ℕ → ℕ

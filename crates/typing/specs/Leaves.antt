@@ -11,8 +11,7 @@ use lib.ListN.{length, length-set}
 use lib.Seq.{getD-set-same, getD-set-other}
 use borrow.Author.Tests.{eqb-true, eqb-false}
 use Rattle.rules.specs.Types.{Wire, wire}
-use Rattle.rules.specs.Gates.{GateType, _to_, nth, gateType}
-use Rattle.rules.specs.GateCodes.{isGate, isSome}
+use Rattle.rules.specs.Gates.{GateType, _to_, nth, gateType, isGate, isSome}
 use Rattle.rules.specs.Terms.{Term, variable, label, gate}
 use Rattle.rules.specs.Circuits.{one-if}
 use Rattle.rules.specs.Inference.{gateNodeType}

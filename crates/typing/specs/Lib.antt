@@ -1,4 +1,5 @@
 pub mod Checking
+pub mod Lengths
 pub mod Layout
 pub mod Scope
 pub mod Counting
@@ -16,7 +17,8 @@ pub mod Loading
 pub mod Deciding
 pub mod Whole
 pub mod Files
+pub mod Demand2
 pub mod Safe
-pub mod Packed
+pub mod Places
 pub mod Examples
 pub mod Theorems

@@ -10,9 +10,8 @@ use lib.Dec.{T as IsTrue, eqb}
 use lib.ListN.{length, getD, take, drop, length-take, length-drop}
 use lib.Seq.{getD-take, getD-drop}
 use borrow.Author.Tests.{eqb-true, eqb-false}
-use Rattle.rules.specs.Types.{Wire, Bit, Qubit, Ty, wire, entries}
+use Rattle.rules.specs.Types.{Wire, Bit, Qubit, Ty, wire, entries, wireCode}
 use Rattle.rules.specs.Gates.{nth}
-use Rattle.rules.specs.GateCodes.{wireCode}
 use Rattle.rules.specs.Terms.{Term}
 use Rattle.program.specs.Format.{labelCount, typeCount, firstTerm, entryCount, kindAt}
 use Rattle.program.specs.Trees.{TypeAt, bit-at, qubit-at, tensor-at, function-at, reusable-at, circ-at}

@@ -16,4 +16,4 @@ AcceptedIsSafe f =
     → checkOf f ≡ accepts A
     → (n : ℕ) (c : Configuration)
     → Row most-gates (start (labelsOf f) (termOf f)) n c
-    → Demand3 most-gates (labelsOf f) (termOf f) A n c
+    → Demand3 most-gates (start (labelsOf f) (termOf f)) A n c

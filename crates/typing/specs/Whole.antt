@@ -2,11 +2,13 @@
 use Prim.Native.Nat.{ℕ, _+_, _≤_, _<_}
 use native.Mathlib.Omega.{arith}
 use mathlib.Core.Path.{_≡_, refl, sym, _∙_, ap, ap₂, subst}
-use mathlib.Core.Bool.{Bool, true, false, _||_, cond}
-use mathlib.Core.List.{List, []}
+use mathlib.Core.Bool.{Bool, true, false, cond}
+use mathlib.Core.List.{List, [], _∷_}
 use lib.Dec.{ltb}
 use lib.ListN.{length, drop, replicate, take}
 use borrow.Author.Tests.{lt-ltb, le-ltb}
+use Rattle.lent.specs.Lent.{tooShort, zeroed}
+use Rattle.lent.specs.Laws.{below-here, below-later, short-left, long-left}
 use Rattle.rules.specs.Types.{Wire, Ty}
 use Rattle.rules.specs.Terms.{Term}
 use Rattle.memory.specs.Words.{words}
@@ -15,8 +17,8 @@ use Rattle.program.specs.Format.{labelCount, typeCount, termCount, firstTerm, e
 use Rattle.program.specs.Reading.{readOf}
 use Rattle.program.specs.Trees.{AcceptedFile}
 use Rattle.program.specs.Theorems.Accepting.{read-sound}
-use Rattle.program.specs.declared.Refusal.{Refusal}
-use Rattle.program.specs.declared.Refusal.the-variants.{Run}
+use Rattle.refusals.specs.declared.Refusal.{Refusal}
+use Rattle.refusals.specs.declared.Refusal.the-variants.{Run}
 use Rattle.program.specs.declared.ReadAnswer.{ReadAnswer}
 use Rattle.program.specs.declared.ReadAnswer.the-variants.{Accepted as Read, Refused as NotRead}
 use Rattle.cells.specs.Cells.{Denotes}
@@ -32,11 +34,12 @@ use Rattle.typing.specs.declared.CheckAnswer.the-variants.{Accepted, Ref
 use Rattle.typing.specs.Checking.{Verdict, has-type, refusal, verdict}
 use Rattle.typing.specs.Inferring.{Ready, Possible, Meets}
 use Rattle.typing.specs.Answers.{labelsOf, termOf, Judged, accepts, refuses, judged, judgedAs, checkOf}
-use Rattle.typing.specs.Answers.{tooShort, answerTo, outTo, checkAnswer, checkOut, checkWork}
+use Rattle.typing.specs.Lengths.{least-work, check-lengths}
+use Rattle.typing.specs.Answers.{answerTo, outTo, checkAnswer, checkBytes}
 use Rattle.typing.specs.ReadBack.{labels-read, program-read}
 use Rattle.typing.specs.Loading.{section, section-length, slotsLoaded, program-ready, labels-fresh}
 use Rattle.typing.specs.Deciding.{CellOf, SaysVerdict, decidedAs, verdict-said}
-use Rattle.typing.specs.Layout.{least-words, least-work, most-labels}
+use Rattle.typing.specs.Layout.{least-words, most-labels}
 
 -- A file with these sizes is accepted.
 abbrev pub Readable : List ℕ → ℕ → ℕ → Type 0
@@ -200,54 +203,39 @@ core-accepts (refuses y) work work′ core cell s q = let z : _≡_ {A = ℕ} 0 
 
 -- The answer and the buffers of the check, on each way through it.
 module _ (f out work : List ℕ) where
-  short-out : length out < 512 → tooShort (length out) (length work) ≡ true
-  short-out h = ap (λ t. t || ltb (length work) least-work) (lt-ltb (length out) 512 h)
-
-  short-work : 512 ≤ length out → length work < least-work → tooShort (length out) (length work) ≡ true
-  short-work h l =
-      ap (λ t. t || ltb (length work) least-work) (le-ltb (length out) 512 h) ∙ lt-ltb (length work) least-work l
-
-  long-enough : 512 ≤ length out → least-work ≤ length work → tooShort (length out) (length work) ≡ false
-  long-enough h l =
-      ap (λ t. t || ltb (length work) least-work) (le-ltb (length out) 512 h) ∙ le-ltb (length work) least-work l
-
-  -- 19.
-  refuses-short : tooShort (length out) (length work) ≡ true
-      → (Refused (Run 19 0) ≡ checkAnswer f (length out) (length work))
-      × ((out ≡ checkOut f out (length work)) × (work ≡ checkWork (length out) work))
-  unfolding checkAnswer checkOut checkWork
+  -- Both equations of the contract, where a buffer is too short.
+  refuses-short : tooShort check-lengths (out ∷ work ∷ []) ≡ true
+      → (Refused (Run 19 0) ≡ checkAnswer f (out ∷ work ∷ [])) × ((out ∷ work ∷ []) ≡ checkBytes f (out ∷ work ∷ []))
+  unfolding checkAnswer
   refuses-short q = (
     sym (ap (λ t. cond t (Refused (Run 19 0)) (answerTo (checkOf f))) q),
-    (
-      sym (ap (λ t. cond t out (outTo out (checkOf f))) q),
-      sym (ap (λ t. cond t work (replicate (length work) 0)) q),
-    ),
+    short-left check-lengths (λ out. outTo out (checkOf f)) (out ∷ work ∷ []) q,
   )
 
   pub checks-short-out : length out < 512
-      → (Refused (Run 19 0) ≡ checkAnswer f (length out) (length work))
-      × ((out ≡ checkOut f out (length work)) × (work ≡ checkWork (length out) work))
-  checks-short-out h = refuses-short (short-out h)
+      → (Refused (Run 19 0) ≡ checkAnswer f (out ∷ work ∷ [])) × ((out ∷ work ∷ []) ≡ checkBytes f (out ∷ work ∷ []))
+  checks-short-out h = refuses-short (below-here 512 (length out) (least-work ∷ []) (length work ∷ []) h)
 
   pub checks-short-work : 512 ≤ length out → length work < least-work
-      → (Refused (Run 19 0) ≡ checkAnswer f (length out) (length work))
-      × ((out ≡ checkOut f out (length work)) × (work ≡ checkWork (length out) work))
-  checks-short-work h l = refuses-short (short-work h l)
+      → (Refused (Run 19 0) ≡ checkAnswer f (out ∷ work ∷ [])) × ((out ∷ work ∷ []) ≡ checkBytes f (out ∷ work ∷ []))
+  checks-short-work h l =
+      refuses-short
+      (below-later 512 (length out) (least-work ∷ []) (length work ∷ []) h ∙ below-here least-work (length work) [] [] l)
 
   module _ (h : 512 ≤ length out) (l : least-work ≤ length work) where
+    long-enough : tooShort check-lengths (out ∷ work ∷ []) ≡ false
+    long-enough =
+        below-later 512 (length out) (least-work ∷ []) (length work ∷ []) h ∙ below-later least-work (length work) [] [] l
+
     checks-as : (j : Judged) (out′ work′ : List ℕ) (r : CheckAnswer)
-        → checkOf f ≡ j → r ≡ answerTo j → out′ ≡ outTo out j → work′ ≡ replicate (length work) 0
-        → (r ≡ checkAnswer f (length out) (length work))
-        × ((out′ ≡ checkOut f out (length work)) × (work′ ≡ checkWork (length out) work))
-    unfolding checkAnswer checkOut checkWork
-    checks-as j out′ work′ r is a o m =
-        let q = long-enough h l in (
-          a ∙ ap answerTo (sym is) ∙ sym (ap (λ t. cond t (Refused (Run 19 0)) (answerTo (checkOf f))) q),
-          (
-            o ∙ ap (outTo out) (sym is) ∙ sym (ap (λ t. cond t out (outTo out (checkOf f))) q),
-            m ∙ sym (ap (λ t. cond t work (replicate (length work) 0)) q),
-          ),
-        )
+        → checkOf f ≡ j → r ≡ answerTo j → out′ ≡ outTo out j → work′ ≡ zeroed work
+        → (r ≡ checkAnswer f (out ∷ work ∷ [])) × ((out′ ∷ work′ ∷ []) ≡ checkBytes f (out ∷ work ∷ []))
+    unfolding checkAnswer
+    checks-as j out′ work′ r is a o m = (
+      a ∙ ap answerTo (sym is) ∙ sym (ap (λ t. cond t (Refused (Run 19 0)) (answerTo (checkOf f))) long-enough),
+      long-left check-lengths (λ out. outTo out (checkOf f)) (out ∷ work ∷ []) (out′ ∷ work′ ∷ []) long-enough
+          (ap₂ (λ o w. o ∷ w ∷ []) (o ∙ ap (outTo out) (sym is)) m),
+    )
 
     module _ (work₁ : List ℕ) (core : Core)
         (said : SaysCore (ltb (length work) least-work) (checkOf f) work work₁ core) where
@@ -260,8 +248,7 @@ module _ (f out work : List ℕ) where
           → length work₁ ≡ length work
           → work′ ≡ replicate (length work₁) 0
           → r ≡ handedOn core
-          → (r ≡ checkAnswer f (length out) (length work))
-          × ((out ≡ checkOut f out (length work)) × (work′ ≡ checkWork (length out) work))
+          → (r ≡ checkAnswer f (out ∷ work ∷ [])) × ((out ∷ work′ ∷ []) ≡ checkBytes f (out ∷ work ∷ []))
       checks-refused x work′ r q same cleared is =
           checks-as (refuses x) out work′ r (core-refuses (checkOf f) work work₁ core x said-long q)
           (is ∙ ap handedOn q)
@@ -274,8 +261,7 @@ module _ (f out work : List ℕ) where
           → SaysWrote (words work₁) cell out out′ length′
           → length work₁ ≡ length work
           → work′ ≡ replicate (length work₁) 0
-          → (Accepted length′ ≡ checkAnswer f (length out) (length work))
-          × ((out′ ≡ checkOut f out (length work)) × (work′ ≡ checkWork (length out) work))
+          → (Accepted length′ ≡ checkAnswer f (out ∷ work ∷ [])) × ((out′ ∷ work′ ∷ []) ≡ checkBytes f (out ∷ work ∷ []))
       checks-accepted cell length′ out′ work′ q wrote same cleared =
           let found = core-accepts (checkOf f) work work₁ core cell said-long q in
           let A = found .0 in

@@ -1,7 +1,7 @@
 // The check (01, "Typing" and "When each operation says no", Check).
 pub mod infer;
-pub mod kinds;
-pub mod layout;
+mod kinds;
+mod layout;
 pub mod node;
 pub mod slots;
 pub mod whole;
@@ -11,19 +11,19 @@ use layout::LEAST_OUT;
 use layout::LEAST_WORK;
 use memory::clear;
 use program::ReadAnswer;
-use program::Refusal;
-use program::number_of;
-use program::place_of;
 use program::read;
+use refusals::Refusal;
 use whole::check_file;
 ghost use mathlib.Core.Path.{_≡_};
+ghost use mathlib.Core.List.{[], _∷_};
 ghost use lib.Dec.{ltb};
 ghost use lib.ListN.{length, replicate};
-ghost use Rattle.typing.specs.Layout.{least-work};
-ghost use Rattle.typing.specs.Answers.{checkOf, checkAnswer, checkOut, checkWork};
+ghost use Rattle.typing.specs.Lengths.{least-work};
+ghost use Rattle.lent.specs.Lent.{firstBytes, lastBytes};
+ghost use Rattle.typing.specs.Answers.{checkOf, checkAnswer, checkBytes};
 ghost use Rattle.typing.specs.Whole.{SaysCore, handedUp, handedOn};
+ghost use Rattle.typing.specs.Demand2.{CheckMeans};
 ghost use Rattle.typing.specs.Safe.{AcceptedIsSafe};
-ghost use Rattle.typing.specs.Packed.{packedOf, packed};
 
 // What is found in a term: the cell of its type, the entry after it, the number of cells from then on, and the first 17
 // and the first 18 in it, each one more than its place and 0 where there is none; or the place of the first 16.
@@ -52,7 +52,7 @@ pub enum CheckAnswer {
     Refused(Refusal),
 }
 
-// A refusal of the reader, handed up unchanged.
+// A refusal of the reader, handed up unchanged. It is not called with sizes.
 fn handed_up(answer: ReadAnswer) -> Core
     ensures { λ r. ⌜ r ≡ handedUp answer ⌝ }
 {
@@ -66,7 +66,7 @@ fn handed_up(answer: ReadAnswer) -> Core
     }
 }
 
-// A refusal of the core, handed on unchanged.
+// A refusal of the core, handed on unchanged. It is not called with a type.
 fn handed_on(core: Core) -> CheckAnswer
     ensures { λ r. ⌜ r ≡ handedOn core ⌝ }
 {
@@ -110,10 +110,10 @@ pub fn check_core(file: &[u8], work: &mut [u8]) -> Core
 
 // The check: the type of a program file, in preorder at the start of the output buffer, and its length; or a refusal.
 pub fn check(file: &[u8], out: &mut [u8], work: &mut [u8]) -> CheckAnswer
-    ensures answer { λ r. ⌜ r ≡ checkAnswer (now (file .entry)) (length (now (out .entry))) (length (now (work .entry))) ⌝ }
-    ensures output { λ r. ⌜ now (out .exit) ≡ checkOut (now (file .entry)) (now (out .entry)) (length (now (work .entry))) ⌝ }
-    ensures memory { λ r. ⌜ now (work .exit) ≡ checkWork (length (now (out .entry))) (now (work .entry)) ⌝ }
+    ensures bytes { λ r. let lent = out ∷ work ∷ [] in
+        ⌜ r ≡ checkAnswer (now (file .entry)) (firstBytes lent) ⌝ ∗ ⌜ lastBytes lent ≡ checkBytes (now (file .entry)) (firstBytes lent) ⌝ }
     ensures safety { λ r. ⌜ AcceptedIsSafe (now (file .entry)) ⌝ }
+    ensures meaning { λ r. ⌜ CheckMeans (now (file .entry)) ⌝ }
 {
     if out.len() < LEAST_OUT {
         return CheckAnswer::Refused(Refusal::Run {
@@ -134,24 +134,4 @@ pub fn check(file: &[u8], out: &mut [u8], work: &mut [u8]) -> CheckAnswer
     let length = write_type(work, cell, out);
     clear(work);
     CheckAnswer::Accepted { length }
-}
-
-// Three numbers in one.
-fn pack(number: usize, place: usize, length: usize) -> u64
-    ensures { λ r. ⌜ r ≡ packedOf number place length ⌝ }
-{
-    (number % 256) as u64 + 256 * ((place % 65536) as u64) + 4294967296 * ((length % 65536) as u64)
-}
-
-// The check for callers outside, with its answer in one number.
-#[no_mangle]
-pub extern "C" fn check_packed(file: &[u8], out: &mut [u8], work: &mut [u8]) -> u64
-    ensures answer { λ r. ⌜ r ≡ packed (checkAnswer (now (file .entry)) (length (now (out .entry))) (length (now (work .entry)))) ⌝ }
-    ensures output { λ r. ⌜ now (out .exit) ≡ checkOut (now (file .entry)) (now (out .entry)) (length (now (work .entry))) ⌝ }
-    ensures memory { λ r. ⌜ now (work .exit) ≡ checkWork (length (now (out .entry))) (now (work .entry)) ⌝ }
-{
-    match check(file, out, work) {
-        CheckAnswer::Accepted { length } => pack(0, 0, length),
-        CheckAnswer::Refused(refusal) => pack(number_of(refusal), place_of(refusal), 0),
-    }
 }

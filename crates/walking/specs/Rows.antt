@@ -1,12 +1,13 @@
 -- The rows of the stack: four words a row, of which the last is not used.
-use Prim.Native.Nat.{ℕ, zero, suc, _+_, _*_, _≤_, _<_, _/_}
+use Prim.Native.Nat.{ℕ, zero, suc, _+_, _*_, _≤_, _<_, _/_, _%_}
 use native.Mathlib.Omega.{arith}
-use mathlib.Core.Path.{_≡_, refl, _∙_, ap}
+use native.Mathlib.Decide.{decLt}
+use mathlib.Core.Path.{_≡_, refl, sym, _∙_, ap}
 use mathlib.Core.List.{List, [], _∷_}
 use lib.ListN.{length, getD, set, List·getD-eq-default}
-use lib.Seq.{set-out}
-use Rattle.memory.specs.Words.{words}
-use Rattle.memory.specs.Laws.{length-words}
+use lib.Seq.{sets, set-out}
+use Rattle.memory.specs.Words.{words, putWords, setWords}
+use Rattle.memory.specs.Laws.{length-words, put-view, set-within, set-past}
 
 -- A row: its tag, the place of a node, and the place where something starts.
 pub data Row : Type 0 where
@@ -72,9 +73,9 @@ pub row-past : (w : List ℕ) (i : ℕ) → length w / 4 ≤ i → rowAt (rowsOf
 row-past w i h = List·getD-eq-default (rowsOf w) no-row (omega (arith, length-rowsOf w))
 
 -- Setting the first three words of row i sets the row.
-pub set-row : (w : List ℕ) (i t p s : ℕ)
+set-row : (w : List ℕ) (i t p s : ℕ)
     → i < length w / 4
-    → rowsOf (set (set (set w (4 * i) t) (4 * i + 1) p) (4 * i + 2) s) ≡ set (rowsOf w) i (row t p s)
+    → rowsOf (sets w (4 * i) (t ∷ p ∷ s ∷ [])) ≡ set (rowsOf w) i (row t p s)
 unfolding rowsOf
 set-row [] i t p s h = absurd (omega arith)
 set-row (a ∷ []) i t p s h = absurd (omega arith)
@@ -82,13 +83,26 @@ set-row (a ∷ b ∷ []) i t p s h = absurd (omega arith)
 set-row (a ∷ b ∷ c ∷ []) i t p s h = absurd (omega arith)
 set-row (a ∷ b ∷ c ∷ d ∷ w) zero t p s h = refl
 set-row (a ∷ b ∷ c ∷ d ∷ w) (suc i) t p s h =
-    let e0 : 4 * suc i ≡ suc (suc (suc (suc (4 * i)))) = omega arith in
-    let e1 : 4 * suc i + 1 ≡ suc (suc (suc (suc (4 * i + 1)))) = omega arith in
-    let e2 : 4 * suc i + 2 ≡ suc (suc (suc (suc (4 * i + 2)))) = omega arith in
-    rw (e1, e2, e0) (ap (λ r. row a b c ∷ r) (set-row w i t p s (omega arith)))
+    let next : 4 * suc i ≡ suc (suc (suc (suc (4 * i)))) = omega arith in
+    rw next (ap (λ r. row a b c ∷ r) (set-row w i t p s (omega arith)))
 
-pub set-row-past : (w : List ℕ) (i : ℕ) (r : Row) → length w / 4 ≤ i → set (rowsOf w) i r ≡ rowsOf w
-set-row-past w i r h = set-out (rowsOf w) i r (omega (arith, length-rowsOf w))
+-- Where the first three words of a row are put, that is the row; past the end nothing changes.
+pub row-put : (m m′ : List ℕ) (i t p s : ℕ)
+    → m′ ≡ putWords 4 m i (t ∷ p ∷ s ∷ [])
+    → rowsIn m′ ≡ set (rowsIn m) i (row (t % 65536) (p % 65536) (s % 65536))
+row-put m m′ i t p s e =
+    ap rowsIn e
+    ∙ ap rowsOf (put-view 4 m i (t ∷ p ∷ s ∷ []) (omega arith))
+    ∙ of (decLt i (length (words m) / 4))
+  where
+    of : Dec (i < length (words m) / 4)
+        → rowsOf (setWords 4 (words m) i (t ∷ p ∷ s ∷ [])) ≡ set (rowsIn m) i (row (t % 65536) (p % 65536) (s % 65536))
+    of (yes h) =
+        ap rowsOf (set-within 4 (words m) i (t ∷ p ∷ s ∷ []) h)
+        ∙ set-row (words m) i (t % 65536) (p % 65536) (s % 65536) h
+    of (no h) =
+        ap rowsOf (set-past 4 (words m) i (t ∷ p ∷ s ∷ []) (omega arith))
+        ∙ sym (set-out (rowsIn m) i (row (t % 65536) (p % 65536) (s % 65536)) (omega (arith, length-rowsOf (words m))))
 
 -- The same of a buffer's bytes.
 pub row-in : (m : List ℕ) (i : ℕ)
@@ -99,16 +113,3 @@ row-in m i h = row-of-words (words m) i (omega (arith, length-words m))
 
 pub row-past-in : (m : List ℕ) (i : ℕ) → length m / 8 ≤ i → rowAt (rowsIn m) i ≡ no-row
 row-past-in m i h = row-past (words m) i (omega (arith, length-words m))
-
-pub set-row-in : (m m₁ m₂ m₃ : List ℕ) (i t p s : ℕ)
-    → i < length m / 8
-    → words m₁ ≡ set (words m) (4 * i) t
-    → words m₂ ≡ set (words m₁) (4 * i + 1) p
-    → words m₃ ≡ set (words m₂) (4 * i + 2) s
-    → rowsIn m₃ ≡ set (rowsIn m) i (row t p s)
-set-row-in m m₁ m₂ m₃ i t p s h e e′ e″ =
-    ap rowsOf (e″ ∙ ap (λ w. set w (4 * i + 2) s) (e′ ∙ ap (λ w. set w (4 * i + 1) p) e))
-    ∙ set-row (words m) i t p s (omega (arith, length-words m))
-
-pub set-row-past-in : (m : List ℕ) (i : ℕ) (r : Row) → length m / 8 ≤ i → set (rowsIn m) i r ≡ rowsIn m
-set-row-past-in m i r h = set-row-past (words m) i r (omega (arith, length-words m))

@@ -52,7 +52,7 @@ pub enum Stop {
 }
 
 // What one turn leads to.
-pub enum Turned {
+enum Turned {
     GoesOn(Place),
     Stops(Stop),
 }
@@ -253,7 +253,7 @@ fn return_value(nodes: &[u8], stack: &mut [u8], place: Place) -> Turned
 }
 
 // One turn of the walk.
-pub fn turn(nodes: &mut [u8], stack: &mut [u8], place: Place) -> Turned
+fn turn(nodes: &mut [u8], stack: &mut [u8], place: Place) -> Turned
     ensures { λ r. ⌜ Turns (nodesIn (now (nodes .entry))) (rowsIn (now (stack .entry))) (nodesIn (now (nodes .exit))) (rowsIn (now (stack .exit))) place r ⌝ }
     ensures { λ r. ⌜ Falls (length (nodesIn (now (nodes .entry)))) place r ⌝ }
 {

@@ -3,7 +3,7 @@
 //! against programs of half the size.
 
 use check_compare::counting::{self, Wrong};
-use check_compare::library::{self, LEAST_OUT, LEAST_WORK};
+use check_compare::library::{self, number, LEAST_OUT, LEAST_WORK};
 use program_files::{encode, read, Positions, Random};
 use programs::extremes;
 use programs::rules::{derive, Rules, Sharing};
@@ -72,7 +72,7 @@ fn exported(file: &[u8]) -> f64 {
     let mut work = vec![0; LEAST_WORK];
     best(|| {
         let answer = library::answer(file, &mut out, &mut work);
-        assert_eq!(answer & 0xFF, 0, "accepted");
+        assert_eq!(number(answer), 0, "accepted");
     })
 }
 

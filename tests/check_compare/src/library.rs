@@ -1,5 +1,7 @@
 //! The exported check, and its answer as one number.
 
+pub use comparing::packed::number;
+use comparing::packed::{self, bits, put};
 use program_files::{Refusal, Type};
 use std::rc::Rc;
 
@@ -17,7 +19,7 @@ pub fn is_short([out, work]: Lengths) -> bool {
 }
 
 extern "C" {
-    fn check_packed(
+    fn gawipsol_check(
         file_ptr: *const u8,
         file_len: usize,
         out_ptr: *mut u8,
@@ -27,11 +29,11 @@ extern "C" {
     ) -> u64;
 }
 
-/// number + 256 * place + 2^32 * length.
+/// Accepted: bits 6 to 21 the length of the type.
 pub fn answer(file: &[u8], out: &mut [u8], work: &mut [u8]) -> u64 {
     // Each pointer and length are those of one slice, and no two overlap.
     unsafe {
-        check_packed(
+        gawipsol_check(
             file.as_ptr(),
             file.len(),
             out.as_mut_ptr(),
@@ -45,9 +47,14 @@ pub fn answer(file: &[u8], out: &mut [u8], work: &mut [u8]) -> u64 {
 /// The same number from a check of this workspace.
 pub fn pack(answer: &Result<Rc<Type>, Refusal>) -> u64 {
     match answer {
-        Ok(of) => (of.size() as u64) << 32,
-        Err(refusal) => u64::from(refusal.number) + ((refusal.place as u64 % 65_536) << 8),
+        Ok(of) => put(of.size() as u64, 6, 16),
+        Err(refusal) => packed::refused(refusal),
     }
+}
+
+/// The length of the type in an answer that accepts.
+pub fn length(answer: u64) -> usize {
+    bits(answer, 6, 16) as usize
 }
 
 /// The refusal of a buffer shorter than its least length.
@@ -57,11 +64,6 @@ pub const SHORT: Refusal = Refusal {
 };
 
 /// The answer in words.
-pub fn in_words(packed: u64) -> String {
-    format!(
-        "number {}, place {}, length {} ({packed:#018x})",
-        packed & 0xFF,
-        (packed >> 8) & 0xFF_FFFF,
-        packed >> 32,
-    )
+pub fn in_words(answer: u64) -> String {
+    packed::in_words(answer, || format!("accepted, length {}", length(answer)))
 }

@@ -1,7 +1,7 @@
 //! Checks that answer as they should, with one fault each in their use of
 //! memory. The comparison must find every one of them.
 
-use check_compare::library::{pack, LEAST_OUT, LEAST_WORK, SHORT};
+use check_compare::library::{length, number, pack, LEAST_OUT, LEAST_WORK, SHORT};
 use comparing::Lent;
 use programs::check;
 
@@ -36,7 +36,7 @@ pub const MEMORY: [(&str, Check); 16] = [
     ("any buffer taken by read", after_read),
     ("a buffer touched on 19", |lent| {
         after(lent, |lent, packed| {
-            if packed & 0xFF == 19 {
+            if number(packed) == 19 {
                 let (_, [out, work]) = lent.parts();
                 if let Some(byte) = out.first_mut().or(work.first_mut()) {
                     *byte ^= 1;
@@ -46,22 +46,22 @@ pub const MEMORY: [(&str, Check); 16] = [
     }),
     ("output buffer touched on a refusal", |lent| {
         after(lent, |lent, packed| {
-            if packed & 0xFF >= 16 && packed & 0xFF != 19 {
+            if number(packed) >= 16 && number(packed) != 19 {
                 lent.parts().1[0][0] ^= 1;
             }
         })
     }),
     ("output buffer cleared behind the type", |lent| {
         after(lent, |lent, packed| {
-            if packed & 0xFF == 0 {
-                lent.parts().1[0][(packed >> 32) as usize..].fill(0);
+            if number(packed) == 0 {
+                lent.parts().1[0][length(packed)..].fill(0);
             }
         })
     }),
     ("one byte of the type missing", |lent| {
         after(lent, |lent, packed| {
-            if packed & 0xFF == 0 {
-                lent.parts().1[0][(packed >> 32) as usize - 1] ^= 8;
+            if number(packed) == 0 {
+                lent.parts().1[0][length(packed) - 1] ^= 8;
             }
         })
     }),

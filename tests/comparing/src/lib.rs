@@ -1,6 +1,7 @@
 //! What the comparisons have in common: what is known of a program, the
-//! programs written by hand and those broken, the buffers that are lent, what
-//! is counted, and the process and the stack on which all this is done.
+//! programs written by hand and those broken, the buffers that are lent, an
+//! answer as one number, what is counted, and the process and the stack on
+//! which all this is done.
 
 pub mod cases;
 pub mod counts;
@@ -9,6 +10,7 @@ pub mod guarded;
 pub mod known;
 pub mod lent;
 pub mod one_kind;
+pub mod packed;
 pub mod planted;
 pub mod process;
 pub mod stack;

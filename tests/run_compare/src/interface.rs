@@ -1,15 +1,15 @@
 //! What a run is lent, and its answer as one number.
 
+pub use comparing::packed::number;
+use comparing::packed::{self, bits, put};
 use evaluator::Answer;
 use program_files::Refusal;
 
 /// The working memories, in the order in which they are lent, with their
 /// least lengths.
-pub const WORKING: [(&str, usize); 12] = [
+pub const WORKING: [(&str, usize); 10] = [
     ("nodes", 65_536),
     ("stack", 32_768),
-    ("waiting", 8_194),
-    ("labels", 1_024),
     ("types", 1_152),
     ("frames", 32_776),
     ("gates", 32_768),
@@ -64,9 +64,8 @@ pub const SHORT: Answer = Answer::Refused(Refusal {
     place: 0,
 });
 
-/// Bits 0 to 4 the refusal's number, 0 if finished. Finished: bits 5 to 16 the
-/// gates, 17 to 30 the length of the listing, 31 to 62 the steps. Refused:
-/// bits 5 to 20 the place.
+/// Finished: bits 6 to 17 the gates, 18 to 31 the length of the listing, 32 to
+/// 63 the steps.
 pub fn pack(answer: &Answer) -> u64 {
     match answer {
         Answer::Finished {
@@ -74,33 +73,19 @@ pub fn pack(answer: &Answer) -> u64 {
             gates,
             listing,
         } => pack_finished(*steps, *gates, listing.len()),
-        Answer::Refused(refusal) => pack_refused(refusal),
+        Answer::Refused(refusal) => packed::refused(refusal),
     }
 }
 
 pub fn pack_finished(steps: u32, gates: usize, length: usize) -> u64 {
-    ((gates as u64) << 5) + ((length as u64) << 17) + (u64::from(steps) << 31)
-}
-
-pub fn pack_refused(refusal: &Refusal) -> u64 {
-    u64::from(refusal.number) + ((refusal.place as u64) << 5)
-}
-
-/// The number of a packed answer.
-pub fn number(packed: u64) -> u8 {
-    (packed & 0x1F) as u8
+    put(gates as u64, 6, 12) + put(length as u64, 18, 14) + put(u64::from(steps), 32, 32)
 }
 
 /// The answer in words.
-pub fn in_words(packed: u64) -> String {
-    let bits = |from: u32, count: u32| (packed >> from) & ((1 << count) - 1);
-    match number(packed) {
-        0 => format!(
-            "finished, steps {}, gates {}, length {} ({packed:#018x})",
-            bits(31, 32),
-            bits(5, 12),
-            bits(17, 14),
-        ),
-        number => format!("refused {number}, place {} ({packed:#018x})", bits(5, 16)),
-    }
+pub fn in_words(answer: u64) -> String {
+    packed::in_words(answer, || {
+        let [gates, length, steps] =
+            [(6, 12), (18, 14), (32, 32)].map(|(from, count)| bits(answer, from, count));
+        format!("finished, steps {steps}, gates {gates}, length {length}")
+    })
 }

@@ -13,7 +13,7 @@ mod library {
     pub const NAME: &str = "library";
 
     extern "C" {
-        fn run_packed(
+        fn gawipsol_run(
             file_ptr: *const u8,
             file_len: usize,
             limit: u32,
@@ -23,10 +23,6 @@ mod library {
             nodes_len: usize,
             stack_ptr: *mut u8,
             stack_len: usize,
-            waiting_ptr: *mut u8,
-            waiting_len: usize,
-            labels_ptr: *mut u8,
-            labels_len: usize,
             types_ptr: *mut u8,
             types_len: usize,
             frames_ptr: *mut u8,
@@ -53,11 +49,10 @@ mod library {
         out: &mut [u8],
         working: [&mut [u8]; WORKING.len()],
     ) -> u64 {
-        let [nodes, stack, waiting, labels, types, frames, gates, closed, first, second, third, fourth] =
-            working;
+        let [nodes, stack, types, frames, gates, closed, first, second, third, fourth] = working;
         // Each pointer and length are those of one slice, and no two overlap.
         unsafe {
-            run_packed(
+            gawipsol_run(
                 file.as_ptr(),
                 file.len(),
                 limit,
@@ -67,10 +62,6 @@ mod library {
                 nodes.len(),
                 stack.as_mut_ptr(),
                 stack.len(),
-                waiting.as_mut_ptr(),
-                waiting.len(),
-                labels.as_mut_ptr(),
-                labels.len(),
                 types.as_mut_ptr(),
                 types.len(),
                 frames.as_mut_ptr(),
@@ -94,7 +85,8 @@ mod library {
 
 #[cfg(feature = "port")]
 mod stand_in {
-    use crate::interface::{is_short, pack, pack_finished, pack_refused, LEAST, SHORT, WORKING};
+    use crate::interface::{is_short, pack, pack_finished, LEAST, SHORT, WORKING};
+    use comparing::packed;
     use port::{Answer, Memory};
     use std::cell::RefCell;
 
@@ -130,7 +122,7 @@ mod stand_in {
                 gates,
                 length,
             } => pack_finished(steps, gates, length),
-            Answer::Refused(refusal) => pack_refused(&refusal),
+            Answer::Refused(refusal) => packed::refused(&refusal),
         }
     }
 }

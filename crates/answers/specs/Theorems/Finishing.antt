@@ -1,7 +1,7 @@
 -- What is known where an accepted program of wire type finishes.
 use Prim.Native.Nat.{ℕ, _+_, _*_, _≤_}
 use native.Mathlib.Omega.{arith}
-use mathlib.Core.Path.{_≡_, sym, _∙_, ap, subst}
+use mathlib.Core.Path.{_≡_, refl, sym, _∙_, ap, subst}
 use mathlib.Core.List.{List, []}
 use lib.Dec.{T as IsTrue}
 use lib.ListN.{length, length-append}
@@ -12,11 +12,11 @@ use Rattle.rules.specs.Typing.{LabelContext, split-end, _∣_⊢_∶_, by-label
 use Rattle.rules.specs.Steps.{frame, Configuration, configuration, start}
 use Rattle.rules.specs.Sizes.{totalGates, most-gates, Row, no-step, one-more}
 use Rattle.rules.specs.Demand3.{frame-has, outermost, ProgramHas, program-has, Finished, finished, ClosedSound}
-use Rattle.rules.specs.Demand3.{CircuitsSound, circuits-sound, AllGone, all-gone}
+use Rattle.rules.specs.Demand3.{CircuitsSound, circuits-sound, GoneToTuple, gone-to-tuple}
 use Rattle.rules.specs.Runs.{at-finish, advanced}
 use Rattle.rules.specs.Theorems.Deterministic.{tupleOf-tuple}
 use Rattle.rules.specs.Theorems.Runs.{outermostInputs, finish-means, start-inputs-kept}
-use Rattle.rules.specs.Theorems.Safety.{demand3}
+use Rattle.rules.specs.Theorems.Safety.{start-has, demand3-from}
 use Rattle.evaluation.specs.Theorems.Typed.{labels-typed}
 use Rattle.program.specs.Theorems.Accepting.{read-sound}
 use Rattle.typing.specs.Answers.{labelsOf, termOf, accepts, checkOf}
@@ -35,7 +35,7 @@ pub record FinishedRun (L : List Wire) (A : Ty) (c : Configuration) : Type 0 whe
   pub outputs-typed : [] ∣ loose L gates ⊢ tuple outputs ∶ A
   pub sound : Sound L gates
   pub takes-earlier : TakesEarlier L gates
-  pub gone-once : GoneOnce L gates outputs
+  pub gone-once : GoneOnce L gates (labels outputs)
   pub closed-sound : ClosedSound closed
   -- 01, "Program file": "L labels (0 to 64)".
   pub few-inputs : length L ≤ 64
@@ -74,20 +74,20 @@ labels-few f A h =
 
 -- The start of an accepted file has the type that the check gave.
 pub start-typed : (f : List ℕ) (A : Ty) → checkOf f ≡ accepts A → ProgramHas A (start (labelsOf f) (termOf f))
-start-typed f A h = demand3 {allowance = most-gates} (check-derives f A .0 h .1) no-step .type-kept
+start-typed f A h = start-has (labelsOf f) (check-derives f A .0 h .1)
 
 -- The facts of a finish, from what demand 3 says of it.
 finish-facts : {L : List Wire} {A : Ty} {c : Configuration}
     → Finished c
     → ProgramHas A c
     → CircuitsSound c
-    → AllGone c
+    → GoneToTuple c
     → outermostInputs c ≡ L
     → totalGates c ≤ most-gates
     → length L ≤ 64
     → FinishedRun L A c
 finish-facts {L} {A} (finished {K = K} v) (program-has (outermost (frame-has {I = I} {gs = gs} {M = M} s d)) k)
-    (circuits-sound o ks) (all-gone r p g) same few-gates few-inputs =
+    (circuits-sound o ks) (gone-to-tuple r p g) same few-gates few-inputs =
     subst (λ J. FinishedRun J A (configuration (frame (circuit I gs) M) [] K)) same
     (let t = subst (λ N. [] ∣ loose I gs ⊢ N ∶ A) p d in
     record {
@@ -105,6 +105,18 @@ finish-facts {L} {A} (finished {K = K} v) (program-has (outermost (frame-has {I 
       few-outputs = outputs-few r t;
     })
 
+-- The facts of the finish of any typed configuration of wire type.
+pub typed-finish : {A : Ty} (c : Configuration)
+    → ProgramHas A c
+    → IsTrue (isWireType A)
+    → Finished c
+    → totalGates c ≤ most-gates
+    → length (outermostInputs c) ≤ 64
+    → FinishedRun (outermostInputs c) A c
+typed-finish c typed wire-type at-end few-gates few-inputs =
+    let safe = demand3-from {allowance = most-gates} typed no-step in
+    finish-facts at-end typed (safe .circuits) (safe .gone-to-outputs wire-type at-end) refl few-gates few-inputs
+
 -- The facts of the finish of an accepted program of wire type, after any row of steps that fit.
 pub finished-facts : (f : List ℕ) (A : Ty) (n : ℕ) (c : Configuration)
     → checkOf f ≡ accepts A
@@ -113,8 +125,8 @@ pub finished-facts : (f : List ℕ) (A : Ty) (n : ℕ) (c : Configuration)
     → Finished c
     → FinishedRun (labelsOf f) A c
 finished-facts f A n c accepted wire-type row at-end =
-    let safe = demand3 (check-derives f A .0 accepted .1) row in
-    finish-facts at-end (safe .type-kept) (safe .circuits) (safe .gone wire-type at-end)
+    let safe = demand3-from (start-typed f A accepted) row in
+    finish-facts at-end (safe .type-kept) (safe .circuits) (safe .gone-to-outputs wire-type at-end)
     (start-inputs-kept (labelsOf f) (termOf f) row)
     (gates-few (labelsOf f) (termOf f) row)
     (labels-few f A accepted)

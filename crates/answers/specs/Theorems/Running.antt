@@ -16,17 +16,18 @@ use Rattle.rules.specs.Demand3.{ProgramHas, finished}
 use Rattle.rules.specs.Runs.{Ending, at-finish, still-running, does-not-fit, Reached, advanced}
 use Rattle.rules.specs.Theorems.Deterministic.{tuple-value, tupleOf-tuple}
 use Rattle.rules.specs.Theorems.Runs.{FinishesAt, UnfinishedAt, ExceedsAt, EndingMeans, finish-means, running-means, not-fitting-means}
-use Rattle.program.specs.Refusals.{refusalNumber}
-use Rattle.program.specs.declared.Refusal.{Refusal}
-use Rattle.program.specs.declared.Refusal.the-variants.{Run}
+use Rattle.refusals.specs.Refusals.{refusalNumber, refusalPlace}
+use Rattle.refusals.specs.declared.Refusal.{Refusal}
+use Rattle.refusals.specs.declared.Refusal.the-variants.{Form, Typing, Run}
 use Rattle.typing.specs.Answers.{labelsOf, termOf, Judged, accepts, refuses, checkOf}
 use Rattle.typing.specs.Theorems.Checked.{accepted-is-safe}
-use Rattle.listing.specs.Listing.{listing}
+use Rattle.listing.specs.Lengths.{listing-fits}
+use Rattle.listing.specs.Listing.{most-bytes, listing}
 use Rattle.answers.specs.Answers.{Ran, ran, declines, listedAs, endedAs, ranTo, ranAs, runOf}
 use Rattle.answers.specs.Safe.{ListedSound, RunIsSafe}
 use Rattle.answers.specs.Demand2.{AcceptedWires, StepsTo, Finishes, NoWireType, LimitDone, SizeExceeded, OfCheck}
 use Rattle.answers.specs.Demand2.{RunMeans}
-use Rattle.answers.specs.Theorems.Families.{check-family}
+use Rattle.answers.specs.Theorems.Families.{most-places, CheckBounds, check-bounds, check-family}
 use Rattle.answers.specs.Theorems.Finishing.{FinishedRun, start-typed, reached-facts, finish-listed}
 
 -- FROM THE ANSWER TO THE RULES
@@ -259,16 +260,16 @@ run-22 f limit = (λ h. onward (declined-as f limit (Run 22 0) h), back)
 
 -- A refusal of the check is handed up, and a refusal of its families comes from the check alone.
 pub run-refused : (f : List ℕ) (limit : ℕ) (x : Refusal)
-    → OfCheck x
-    → (runOf f limit ≡ declines x) ↔ (checkOf f ≡ refuses x)
+    → (checkOf f ≡ refuses x) ↔ ((runOf f limit ≡ declines x) × OfCheck x)
 unfolding runOf
-run-refused f limit x of-check = (λ h. onward (declined-as f limit x h), λ h. ap (ranAs f limit) h)
+run-refused f limit x =
+    (λ h. (ap (ranAs f limit) h, check-family f x h), λ h. onward (h .1) (declined-as f limit x (h .0)))
   where
-    onward : DeclinesAs f limit x → checkOf f ≡ refuses x
-    onward (by-check h) = h
-    onward (by-type p h) = absurd (subst OfCheck p of-check)
-    onward (by-limit p h) = absurd (subst OfCheck p of-check)
-    onward (by-size p h) = absurd (subst OfCheck p of-check)
+    onward : OfCheck x → DeclinesAs f limit x → checkOf f ≡ refuses x
+    onward of-check (by-check h) = h
+    onward of-check (by-type p h) = absurd (subst OfCheck p of-check)
+    onward of-check (by-limit p h) = absurd (subst OfCheck p of-check)
+    onward of-check (by-size p h) = absurd (subst OfCheck p of-check)
 
 -- There is no other refusal of a run.
 pub run-declines : (f : List ℕ) (limit : ℕ) (x : Refusal)
@@ -281,6 +282,46 @@ run-declines f limit x h = of (declined-as f limit x h)
     of (by-type p h) = inr (inl p)
     of (by-limit p h) = inr (inr (inl p))
     of (by-size p h) = inr (inr (inr p))
+
+-- A refusal of the check, or 20 to 22 of the run family.
+abbrev pub OfRun : Refusal → Type 0
+OfRun (Form number place) = OfCheck (Form number place)
+OfRun (Typing number place) = OfCheck (Typing number place)
+OfRun (Run number place) = (20 ≤ number) × (number ≤ 22)
+
+pub of-check : (x : Refusal) → OfCheck x → OfRun x
+of-check (Form number place) h = h
+of-check (Typing number place) h = h
+of-check (Run number place) h = absurd h
+
+-- How large the numbers of a run's answer are: steps within the limit, gates and listing within their sizes.
+abbrev pub RunBounds : ℕ → Ran → Type 0
+RunBounds limit (ran steps gates bytes) = (steps ≤ limit) × (gates ≤ most-gates) × (length bytes ≤ most-bytes)
+RunBounds limit (declines x) = OfRun x × (refusalPlace x ≤ most-places)
+
+pub run-bounds : (f : List ℕ) (limit : ℕ) → RunBounds limit (runOf f limit)
+run-bounds f limit = of (runOf f limit) (run-as f limit)
+  where
+    declined : (x : Refusal) → DeclinesAs f limit x → OfRun x × (refusalPlace x ≤ most-places)
+    declined x (by-check h) = let b = subst CheckBounds h (check-bounds f) in (of-check x (b .0), b .1)
+    declined x (by-type p h) =
+        subst (λ y. OfRun y × (refusalPlace y ≤ most-places)) (sym p) ((omega arith, omega arith), omega arith)
+    declined x (by-limit p h) =
+        subst (λ y. OfRun y × (refusalPlace y ≤ most-places)) (sym p) ((omega arith, omega arith), omega arith)
+    declined x (by-size p h) =
+        subst (λ y. OfRun y × (refusalPlace y ≤ most-places)) (sym p) ((omega arith, omega arith), omega arith)
+
+    of : (r : Ran) → AnswersAs f limit r → RunBounds limit r
+    of (ran steps gates bytes) a =
+        let facts = a .facts in
+        let same : gates ≡ length (facts .gates) = a .gates-are in
+        let few : length (facts .gates) ≤ most-gates = facts .few-gates in (
+          a .in-time,
+          omega arith,
+          subst (λ l. length l ≤ most-bytes) (sym (a .bytes-are))
+              (listing-fits (labelsOf f) (facts .gates) (facts .outputs) (facts .few-inputs) few (facts .few-outputs)),
+        )
+    of (declines x) a = declined x a
 
 -- Demand 2 of every run.
 pub run-means : (f : List ℕ) (limit : ℕ) → RunMeans f limit

@@ -7,7 +7,7 @@ use Rattle.memory.specs.Words.{words}
 use Rattle.memory.specs.Laws.{same-words}
 use Rattle.nodes.specs.Nodes.{nodesIn}
 use Rattle.circuits.specs.Layout.{rowsIn, fourResults}
-use Rattle.circuits.specs.Rows.{same-rows}
+use Rattle.circuits.specs.Rows.{same-rows, row-put}
 use Rattle.apply_of_constant.specs.Redexes.{Applied}
 use Rattle.apply_of_constant.specs.Outcomes.{constant-taken}
 use Rattle.apply_of_constant.proofs.append_constant.Statement.{statement}
@@ -75,7 +75,7 @@ returns c =
       collected = c .before .before .before .before .before .before .before .before .before .before .before .before .before .before .before .before .before .before .before .before .before .collect-labels .ensures;
       copied = c .before .before .before .before .before .before .before .before .before .before .before .before .before .before .before .before .copy-gates .ensures;
       loaded = c .before .before .before .before .before .before .before .before .before .load-constant .ensures;
-      framed = c .before .before .before .put-row .ensures;
+      framed = row-put _ _ _ _ _ _ _ (c .before .before .before .put-row .ensures);
       rows-kept = same-rows gs gs′ (c .before .before .before .before .before .before .before .before .before .before .before .before .before .before .before .before .copy-gates .kept .0);
     })
 

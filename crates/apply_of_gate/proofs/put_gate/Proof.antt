@@ -21,7 +21,7 @@ returns c = λ v k e stands whole room. (
   words (c .before .before .before .before .before .before .before .collect-labels .last .1 .1 .1 .0),
   c .before .before .before .before .before .before .before .collect-labels .result,
   c .before .before .before .before .before .before .before .collect-labels .ensures v k e stands whole room,
-  c .before .before .append-gate .ensures,
+  c .before .before .append-gate .ensures .1,
 )
 
 pub put-gate-spec : {M : Type 1} → statement M

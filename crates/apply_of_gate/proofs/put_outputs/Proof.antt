@@ -6,6 +6,7 @@ use borrow.Author.Needs.{needs}
 use Rattle.rules.specs.Types.{wires}
 use Rattle.nodes.specs.Nodes.{nodesIn}
 use Rattle.circuits.specs.Layout.{rowsIn, no-wire}
+use Rattle.circuits.specs.Rows.{row-put}
 use Rattle.apply_of_gate.specs.Stepping.{outputs-written}
 use Rattle.apply_of_gate.proofs.put_outputs.Statement.{statement}
 use Rattle.apply_of_gate.proofs.put_outputs.Tie as tie
@@ -54,7 +55,7 @@ returns c = λ T U e room few.
     (c .before .before .before .before .before .before .before .before .row-word3 .ensures)
     few′
     (w .ensures T U e room few′)
-    (c .before .before .put-row .ensures)
+    (row-put _ _ _ _ _ _ _ (c .before .before .put-row .ensures))
 
 pub put-outputs-spec : {M : Type 1} → statement M
 put-outputs-spec =

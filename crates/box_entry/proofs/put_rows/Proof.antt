@@ -1,5 +1,7 @@
 -- `box_entry::put_rows` meets its contract. Assumes nothing.
 use borrow.Author.Needs.{needs}
+use Rattle.walking.specs.Rows.{row-put as stack-row-put}
+use Rattle.circuits.specs.Rows.{row-put}
 use Rattle.box_entry.proofs.put_rows.Statement.{statement}
 use Rattle.box_entry.proofs.put_rows.Tie as tie
 
@@ -19,7 +21,10 @@ same-length-2 : tie.Need-same-length-2
 same-length-2 c = search needs
 
 returns : tie.Need-returns
-returns c = (c .before .before .before .before .before .before .put-row .ensures, c .before .before .put-row2 .ensures)
+returns c = (
+  stack-row-put _ _ _ _ _ _ (c .before .before .before .before .before .before .put-row .ensures),
+  row-put _ _ _ _ _ _ _ (c .before .before .put-row2 .ensures),
+)
 
 pub put-rows-spec : {M : Type 1} → statement M
 put-rows-spec =

@@ -1,7 +1,8 @@
 -- `box_entry::write_application` meets its contract. Assumes nothing.
 use Prim.Native.Nat.{_+_}
 use native.Mathlib.Omega.{arith}
-use Rattle.nodes.specs.Nodes.{nodesIn, length-nodesIn}
+use Rattle.nodes.specs.Nodes.{nodesIn, length-nodesIn, node-put}
+use Rattle.nodes.specs.Bytes.{nodes-copied}
 use Rattle.circuits.specs.Tuples.{wires-few}
 use Rattle.box_entry.specs.Laws.{application-written}
 use borrow.Author.Needs.{needs}
@@ -54,8 +55,8 @@ returns c = λ T t wire-type stands body counted room small.
     wire-type
     room
     tuple
-    (c .before .before .before .before .before .before .copy-nodes .ensures)
-    (c .before .before .put-node .ensures)
+    (nodes-copied _ _ _ _ _ (c .before .before .before .before .before .before .copy-nodes .ensures))
+    (node-put _ _ _ _ _ (c .before .before .put-node .ensures))
 
 pub write-application-spec : {M : Type 1} → statement M
 write-application-spec =

@@ -5,7 +5,7 @@ use mathlib.Core.Path.{_∙_, ap}
 use lib.ListN.{set}
 use borrow.Author.Needs.{needs}
 use Rattle.circuits.specs.Layout.{row, rowsIn, closed-from}
-use Rattle.circuits.specs.Rows.{same-rows}
+use Rattle.circuits.specs.Rows.{same-rows, row-put as put-row}
 use Rattle.box_exit.proofs.put_circuit.Statement.{statement}
 use Rattle.box_exit.proofs.put_circuit.Tie as tie
 
@@ -36,7 +36,7 @@ returns c =
       moved = gates .ensures;
       as-many-rows = same-rows (a .gates .now) (gates .last .0) (gates .kept .0);
       row-put =
-          c .before .before .put-row .ensures
+          put-row _ _ _ _ _ _ _ (c .before .before .put-row .ensures)
           ∙ ap
           (λ p. set (rowsIn (a .closed .now)) (a .counts .boxes)
           (row (p % 65536) ((closed-from + a .counts .closed) % 65536) (a .exit .gates % 65536) (a .exit .nodes % 65536)))

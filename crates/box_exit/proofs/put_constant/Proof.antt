@@ -4,7 +4,7 @@ use mathlib.Core.Path.{_∙_, ap}
 use lib.ListN.{set}
 use borrow.Author.Needs.{needs}
 use Rattle.evaluation.specs.Trees.{node}
-use Rattle.nodes.specs.Nodes.{nodesIn}
+use Rattle.nodes.specs.Nodes.{nodesIn, node-put}
 use Rattle.box_exit.proofs.put_constant.Statement.{statement}
 use Rattle.box_exit.proofs.put_constant.Tie as tie
 
@@ -35,7 +35,7 @@ returns c =
     let right = c .before .before .before .before .before .before .before .before .before .less .ensures in
     let depth = c .before .before .before .before .less2 .ensures in
     let frames = c .before .before .before .less3 .ensures in (
-      c .before .before .before .before .before .before .before .put-node .ensures
+      node-put _ _ _ _ _ (c .before .before .before .before .before .before .before .put-node .ensures)
           ∙ ap (λ i. set (nodesIn (a .nodes .now)) i (node 32 (a .registers .counts .boxes % 65536))) right,
       cc,
     )

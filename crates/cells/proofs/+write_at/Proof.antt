@@ -2,11 +2,12 @@
 -- Assumes nothing.
 use Prim.Native.Nat.{_+_, _-_, _%_}
 use native.Mathlib.Omega.{arith}
-use mathlib.Core.Path.{_≡_, refl, sym, _∙_, subst, subst₂}
+use mathlib.Core.Path.{_≡_, refl, sym, _∙_, ap, subst, subst₂}
 use lib.ListN.{length, set, length-set}
 use borrow.Author.Needs.{needs}
 use Rattle.memory.specs.Words.{words}
 use Rattle.cells.specs.Cells.{cellKind, cellFirst, cellSecond}
+use Rattle.cells.specs.Compare.{shareOf}
 use Rattle.cells.specs.Write.{SaysWroteAt, no-room, no-entries, wrote-wire, wrote-one, wrote-two}
 use Prim.Native.Nat.{ℕ, _<_}
 use borrow.Fn.Kinds.{In}
@@ -17,6 +18,7 @@ use Rattle.cells.proofs.+write_at.Lts-write_at as write-at-lts
 use Rattle.cells.proofs.cell_first.Reads as cell-first-reads
 use Rattle.cells.proofs.cell_kind.Reads as cell-kind-reads
 use Rattle.cells.proofs.cell_second.Reads as cell-second-reads
+use Rattle.cells.proofs.share.Reads as share-reads
 use Rattle.cells.proofs.+write_at.{statement}
 use Rattle.cells.proofs.+write_at.Tie.{close}
 
@@ -27,14 +29,15 @@ abbrev write-at-at : ℕ → In 2 write-at-kinds.ps
 write-at-at t = and 2 write-at-kinds.ps (is 2 write-at-kinds.ps μ-write-at t) write-at.Pre
 
 abbrev write-at-below : ℕ → In 2 write-at-kinds.ps
-write-at-below t =
-    and 2 write-at-kinds.ps (falls 2 write-at-kinds.ps _<_ μ-write-at t) write-at.Pre
+write-at-below t = and 2 write-at-kinds.ps (falls 2 write-at-kinds.ps _<_ μ-write-at t) write-at.Pre
 
 write-at-returns : (t : ℕ) → write-at-lts.Need-returns (
   cell-kind-reads.Asked,
   cell-kind-reads.Learnt,
   cell-first-reads.Asked,
   cell-first-reads.Learnt,
+  share-reads.Asked,
+  share-reads.Learnt,
   write-at-below t,
   write-at.Post,
   cell-second-reads.Asked,
@@ -51,6 +54,8 @@ write-at-cell-kind-requires : (t : ℕ) → write-at-lts.Need-cell-kind-requires
   cell-kind-reads.Learnt,
   cell-first-reads.Asked,
   cell-first-reads.Learnt,
+  share-reads.Asked,
+  share-reads.Learnt,
   write-at-below t,
   write-at.Post,
   cell-second-reads.Asked,
@@ -63,6 +68,8 @@ write-at-cast-out : (t : ℕ) → write-at-lts.Need-cast-out (
   cell-kind-reads.Learnt,
   cell-first-reads.Asked,
   cell-first-reads.Learnt,
+  share-reads.Asked,
+  share-reads.Learnt,
   write-at-below t,
   write-at.Post,
   cell-second-reads.Asked,
@@ -75,6 +82,8 @@ write-at-slice-write-out : (t : ℕ) → write-at-lts.Need-slice-write-out (
   cell-kind-reads.Learnt,
   cell-first-reads.Asked,
   cell-first-reads.Learnt,
+  share-reads.Asked,
+  share-reads.Learnt,
   write-at-below t,
   write-at.Post,
   cell-second-reads.Asked,
@@ -87,6 +96,8 @@ write-at-add-result : (t : ℕ) → write-at-lts.Need-add-result (
   cell-kind-reads.Learnt,
   cell-first-reads.Asked,
   cell-first-reads.Learnt,
+  share-reads.Asked,
+  share-reads.Learnt,
   write-at-below t,
   write-at.Post,
   cell-second-reads.Asked,
@@ -99,6 +110,8 @@ write-at-same-length : (t : ℕ) → write-at-lts.Need-same-length (
   cell-kind-reads.Learnt,
   cell-first-reads.Asked,
   cell-first-reads.Learnt,
+  share-reads.Asked,
+  share-reads.Learnt,
   write-at-below t,
   write-at.Post,
   cell-second-reads.Asked,
@@ -111,6 +124,8 @@ write-at-returns-2 : (t : ℕ) → write-at-lts.Need-returns-2 (
   cell-kind-reads.Learnt,
   cell-first-reads.Asked,
   cell-first-reads.Learnt,
+  share-reads.Asked,
+  share-reads.Learnt,
   write-at-below t,
   write-at.Post,
   cell-second-reads.Asked,
@@ -133,6 +148,8 @@ write-at-add-result-2 : (t : ℕ) → write-at-lts.Need-add-result-2 (
   cell-kind-reads.Learnt,
   cell-first-reads.Asked,
   cell-first-reads.Learnt,
+  share-reads.Asked,
+  share-reads.Learnt,
   write-at-below t,
   write-at.Post,
   cell-second-reads.Asked,
@@ -145,6 +162,8 @@ write-at-same-length-2 : (t : ℕ) → write-at-lts.Need-same-length-2 (
   cell-kind-reads.Learnt,
   cell-first-reads.Asked,
   cell-first-reads.Learnt,
+  share-reads.Asked,
+  share-reads.Learnt,
   write-at-below t,
   write-at.Post,
   cell-second-reads.Asked,
@@ -157,6 +176,8 @@ write-at-returns-3 : (t : ℕ) → write-at-lts.Need-returns-3 (
   cell-kind-reads.Learnt,
   cell-first-reads.Asked,
   cell-first-reads.Learnt,
+  share-reads.Asked,
+  share-reads.Learnt,
   write-at-below t,
   write-at.Post,
   cell-second-reads.Asked,
@@ -165,8 +186,7 @@ write-at-returns-3 : (t : ℕ) → write-at-lts.Need-returns-3 (
 write-at-returns-3 t c =
     let s = c .before .before .before .before .before .before .args in
     let w = words (s .work .now) in
-    let out = s .out .now in
-    let k = c .before .before .cell-kind .ensures in (
+    let out = s .out .now in (
       no-entries w (s .most) (s .i) (s .at) out (set out (s .at) (c .before .before .cell-kind .result % 256)) (s .at + 1) (c .if3 .taken),
       length-set out (s .at) (c .before .before .cell-kind .result % 256),
     )
@@ -176,6 +196,8 @@ write-at-cell-first-requires : (t : ℕ) → write-at-lts.Need-cell-first-requir
   cell-kind-reads.Learnt,
   cell-first-reads.Asked,
   cell-first-reads.Learnt,
+  share-reads.Asked,
+  share-reads.Learnt,
   write-at-below t,
   write-at.Post,
   cell-second-reads.Asked,
@@ -183,77 +205,104 @@ write-at-cell-first-requires : (t : ℕ) → write-at-lts.Need-cell-first-requir
 ) (write-at-at t) write-at.Post
 write-at-cell-first-requires t c κs = tt
 
+write-at-sub-share : (t : ℕ) → write-at-lts.Need-sub-share (
+  cell-kind-reads.Asked,
+  cell-kind-reads.Learnt,
+  cell-first-reads.Asked,
+  cell-first-reads.Learnt,
+  share-reads.Asked,
+  share-reads.Learnt,
+  write-at-below t,
+  write-at.Post,
+  cell-second-reads.Asked,
+  cell-second-reads.Learnt,
+) (write-at-at t) write-at.Post
+write-at-sub-share t c = omega (arith, c .before .if3 .left)
+
+write-at-share-requires : (t : ℕ) → write-at-lts.Need-share-requires (
+  cell-kind-reads.Asked,
+  cell-kind-reads.Learnt,
+  cell-first-reads.Asked,
+  cell-first-reads.Learnt,
+  share-reads.Asked,
+  share-reads.Learnt,
+  write-at-below t,
+  write-at.Post,
+  cell-second-reads.Asked,
+  cell-second-reads.Learnt,
+) (write-at-at t) write-at.Post
+write-at-share-requires t c κs = tt
+
 write-at-add-write-at : (t : ℕ) → write-at-lts.Need-add-write-at (
   cell-kind-reads.Asked,
   cell-kind-reads.Learnt,
   cell-first-reads.Asked,
   cell-first-reads.Learnt,
+  share-reads.Asked,
+  share-reads.Learnt,
   write-at-below t,
   write-at.Post,
   cell-second-reads.Asked,
   cell-second-reads.Learnt,
 ) (write-at-at t) write-at.Post
-write-at-add-write-at t c = omega (arith, c .before .before .before .before .before .if1 .left)
-
-write-at-sub-write-at : (t : ℕ) → write-at-lts.Need-sub-write-at (
-  cell-kind-reads.Asked,
-  cell-kind-reads.Learnt,
-  cell-first-reads.Asked,
-  cell-first-reads.Learnt,
-  write-at-below t,
-  write-at.Post,
-  cell-second-reads.Asked,
-  cell-second-reads.Learnt,
-) (write-at-at t) write-at.Post
-write-at-sub-write-at t c = omega (arith, c .before .before .if3 .left)
+write-at-add-write-at t c = omega (arith, c .before .before .before .before .before .before .if1 .left)
 
 write-at-write-at-requires : (t : ℕ) → write-at-lts.Need-write-at-requires (
   cell-kind-reads.Asked,
   cell-kind-reads.Learnt,
   cell-first-reads.Asked,
   cell-first-reads.Learnt,
+  share-reads.Asked,
+  share-reads.Learnt,
   write-at-below t,
   write-at.Post,
   cell-second-reads.Asked,
   cell-second-reads.Learnt,
 ) (write-at-at t) write-at.Post
-write-at-write-at-requires t c κs = (omega (arith, c .before .before .if3 .left, c .before .before .before .before .before .before .before .before .pre .0), tt)
+write-at-write-at-requires t c κs = (omega (arith, c .before .before .before .if3 .left, c .before .share .ensures, c .before .before .before .before .before .before .before .before .before .pre .0), tt)
 
 write-at-same-length-3 : (t : ℕ) → write-at-lts.Need-same-length-3 (
   cell-kind-reads.Asked,
   cell-kind-reads.Learnt,
   cell-first-reads.Asked,
   cell-first-reads.Learnt,
+  share-reads.Asked,
+  share-reads.Learnt,
   write-at-below t,
   write-at.Post,
   cell-second-reads.Asked,
   cell-second-reads.Learnt,
 ) (write-at-at t) write-at.Post
-write-at-same-length-3 t c =
-    c .before .before .before .write-at .ensures .1 ∙ length-set (c .before .before .before .before .before .before .before .before .before .before .before .before .args .out .now) (c .before .before .before .before .before .before .before .before .before .before .before .before .args .at) (c .before .before .before .before .before .before .before .before .cell-kind .result % 256)
+write-at-same-length-3 t c = c .before .before .before .write-at .ensures .1 ∙ length-set (c .before .before .before .before .before .before .before .before .before .before .before .before .before .args .out .now) (c .before .before .before .before .before .before .before .before .before .before .before .before .before .args .at) (c .before .before .before .before .before .before .before .before .before .cell-kind .result % 256)
 
 write-at-returns-4 : (t : ℕ) → write-at-lts.Need-returns-4 (
   cell-kind-reads.Asked,
   cell-kind-reads.Learnt,
   cell-first-reads.Asked,
   cell-first-reads.Learnt,
+  share-reads.Asked,
+  share-reads.Learnt,
   write-at-below t,
   write-at.Post,
   cell-second-reads.Asked,
   cell-second-reads.Learnt,
 ) (write-at-at t) write-at.Post
 write-at-returns-4 t c =
-    let s = c .before .before .before .before .before .before .before .before .before .before .before .before .args in
+    let s = c .before .before .before .before .before .before .before .before .before .before .before .before .before .args in
     let w = words (s .work .now) in
     let out = s .out .now in
-    let k = c .before .before .before .before .before .before .before .before .cell-kind .ensures in
+    let k = c .before .before .before .before .before .before .before .before .before .cell-kind .ensures in
+    let size = c .before .before .before .before .before .share .ensures ∙ ap (λ x. shareOf w x (s .most - 1)) (c .before .before .before .before .before .before .cell-first .ensures) in
     let one = c .before .before .before .write-at in
-    let first : SaysWroteAt w (s .most - 1) (cellFirst w (s .i)) (s .at + 1) (set out (s .at) (cellKind w (s .i) % 256))
+    let half = subst₂
+    (λ x z. SaysWroteAt w (c .before .before .before .before .before .share .result) x (s .at + 1) (set out (s .at) (z % 256)) (one .last .1 .1 .0) (one .result))
+    (c .before .before .before .before .before .before .cell-first .ensures) k (one .ensures .0) in
+    let first : SaysWroteAt w (shareOf w (cellFirst w (s .i)) (s .most - 1)) (cellFirst w (s .i)) (s .at + 1) (set out (s .at) (cellKind w (s .i) % 256))
     (one .last .1 .1 .0) (one .result)
-    = subst₂
-    (λ x z. SaysWroteAt w (s .most - 1) x (s .at + 1) (set out (s .at) (z % 256)) (one .last .1 .1 .0) (one .result))
-    (c .before .before .before .before .before .cell-first .ensures) k (one .ensures .0) in
-    let kept : length (one .last .1 .1 .0) ≡ length out = one .ensures .1 ∙ length-set out (s .at) (c .before .before .before .before .before .before .before .before .cell-kind .result % 256) in
+    = subst
+    (λ x. SaysWroteAt w x (cellFirst w (s .i)) (s .at + 1) (set out (s .at) (cellKind w (s .i) % 256)) (one .last .1 .1 .0) (one .result))
+    size half in
+    let kept : length (one .last .1 .1 .0) ≡ length out = one .ensures .1 ∙ length-set out (s .at) (c .before .before .before .before .before .before .before .before .before .cell-kind .result % 256) in
     (wrote-one w (s .most) (s .i) (s .at) out (one .last .1 .1 .0) (one .result) (sym k ∙ c .if4 .taken) first, kept)
 
 write-at-cell-second-requires : (t : ℕ) → write-at-lts.Need-cell-second-requires (
@@ -261,6 +310,8 @@ write-at-cell-second-requires : (t : ℕ) → write-at-lts.Need-cell-second-requ
   cell-kind-reads.Learnt,
   cell-first-reads.Asked,
   cell-first-reads.Learnt,
+  share-reads.Asked,
+  share-reads.Learnt,
   write-at-below t,
   write-at.Post,
   cell-second-reads.Asked,
@@ -268,35 +319,55 @@ write-at-cell-second-requires : (t : ℕ) → write-at-lts.Need-cell-second-requ
 ) (write-at-at t) write-at.Post
 write-at-cell-second-requires t c κs = tt
 
-write-at-sub-write-at-2 : (t : ℕ) → write-at-lts.Need-sub-write-at-2 (
+write-at-sub-write-at : (t : ℕ) → write-at-lts.Need-sub-write-at (
   cell-kind-reads.Asked,
   cell-kind-reads.Learnt,
   cell-first-reads.Asked,
   cell-first-reads.Learnt,
+  share-reads.Asked,
+  share-reads.Learnt,
   write-at-below t,
   write-at.Post,
   cell-second-reads.Asked,
   cell-second-reads.Learnt,
 ) (write-at-at t) write-at.Post
-write-at-sub-write-at-2 t c = omega (arith, c .before .before .before .before .before .before .before .before .if3 .left)
+write-at-sub-write-at t c = omega (arith, c .before .before .before .before .before .before .before .before .before .if3 .left)
+
+write-at-sub-write-at-2 : (t : ℕ) → write-at-lts.Need-sub-write-at-2 (
+  cell-kind-reads.Asked,
+  cell-kind-reads.Learnt,
+  cell-first-reads.Asked,
+  cell-first-reads.Learnt,
+  share-reads.Asked,
+  share-reads.Learnt,
+  write-at-below t,
+  write-at.Post,
+  cell-second-reads.Asked,
+  cell-second-reads.Learnt,
+) (write-at-at t) write-at.Post
+write-at-sub-write-at-2 t c = omega (arith, c .before .before .before .before .before .before .before .share .ensures)
 
 write-at-write-at-requires-2 : (t : ℕ) → write-at-lts.Need-write-at-requires-2 (
   cell-kind-reads.Asked,
   cell-kind-reads.Learnt,
   cell-first-reads.Asked,
   cell-first-reads.Learnt,
+  share-reads.Asked,
+  share-reads.Learnt,
   write-at-below t,
   write-at.Post,
   cell-second-reads.Asked,
   cell-second-reads.Learnt,
 ) (write-at-at t) write-at.Post
-write-at-write-at-requires-2 t c κs = (omega (arith, c .before .before .before .before .before .before .before .before .if3 .left, c .before .before .before .before .before .before .before .before .before .before .before .before .before .before .pre .0), tt)
+write-at-write-at-requires-2 t c κs = (omega (arith, c .before .before .before .before .before .before .before .before .before .if3 .left, c .before .before .before .before .before .before .before .share .ensures, c .before .before .before .before .before .before .before .before .before .before .before .before .before .before .before .pre .0), tt)
 
 write-at-same-length-4 : (t : ℕ) → write-at-lts.Need-same-length-4 (
   cell-kind-reads.Asked,
   cell-kind-reads.Learnt,
   cell-first-reads.Asked,
   cell-first-reads.Learnt,
+  share-reads.Asked,
+  share-reads.Learnt,
   write-at-below t,
   write-at.Post,
   cell-second-reads.Asked,
@@ -305,38 +376,47 @@ write-at-same-length-4 : (t : ℕ) → write-at-lts.Need-same-length-4 (
 write-at-same-length-4 t c =
     c .before .before .write-at2 .ensures .1
     ∙ c .before .before .before .before .before .before .before .before .write-at .ensures .1
-    ∙ length-set (c .before .before .before .before .before .before .before .before .before .before .before .before .before .before .before .before .before .args .out .now) (c .before .before .before .before .before .before .before .before .before .before .before .before .before .before .before .before .before .args .at) (c .before .before .before .before .before .before .before .before .before .before .before .before .before .cell-kind .result % 256)
+    ∙ length-set (c .before .before .before .before .before .before .before .before .before .before .before .before .before .before .before .before .before .before .args .out .now) (c .before .before .before .before .before .before .before .before .before .before .before .before .before .before .before .before .before .before .args .at) (c .before .before .before .before .before .before .before .before .before .before .before .before .before .before .cell-kind .result % 256)
 
 write-at-returns-5 : (t : ℕ) → write-at-lts.Need-returns-5 (
   cell-kind-reads.Asked,
   cell-kind-reads.Learnt,
   cell-first-reads.Asked,
   cell-first-reads.Learnt,
+  share-reads.Asked,
+  share-reads.Learnt,
   write-at-below t,
   write-at.Post,
   cell-second-reads.Asked,
   cell-second-reads.Learnt,
 ) (write-at-at t) write-at.Post
 write-at-returns-5 t c =
-    let s = c .before .before .before .before .before .before .before .before .before .before .before .before .before .before .before .before .before .args in
+    let s = c .before .before .before .before .before .before .before .before .before .before .before .before .before .before .before .before .before .before .args in
     let w = words (s .work .now) in
     let out = s .out .now in
-    let k = c .before .before .before .before .before .before .before .before .before .before .before .before .before .cell-kind .ensures in
+    let k = c .before .before .before .before .before .before .before .before .before .before .before .before .before .before .cell-kind .ensures in
+    let size = c .before .before .before .before .before .before .before .before .before .before .share .ensures ∙ ap (λ x. shareOf w x (s .most - 1)) (c .before .before .before .before .before .before .before .before .before .before .before .cell-first .ensures) in
     let one = c .before .before .before .before .before .before .before .before .write-at in
-    let first : SaysWroteAt w (s .most - 1) (cellFirst w (s .i)) (s .at + 1) (set out (s .at) (cellKind w (s .i) % 256))
+    let half = subst₂
+    (λ x z. SaysWroteAt w (c .before .before .before .before .before .before .before .before .before .before .share .result) x (s .at + 1) (set out (s .at) (z % 256)) (one .last .1 .1 .0) (one .result))
+    (c .before .before .before .before .before .before .before .before .before .before .before .cell-first .ensures) k (one .ensures .0) in
+    let first : SaysWroteAt w (shareOf w (cellFirst w (s .i)) (s .most - 1)) (cellFirst w (s .i)) (s .at + 1) (set out (s .at) (cellKind w (s .i) % 256))
     (one .last .1 .1 .0) (one .result)
-    = subst₂
-    (λ x z. SaysWroteAt w (s .most - 1) x (s .at + 1) (set out (s .at) (z % 256)) (one .last .1 .1 .0) (one .result))
-    (c .before .before .before .before .before .before .before .before .before .before .cell-first .ensures) k (one .ensures .0) in
-    let kept : length (one .last .1 .1 .0) ≡ length out = one .ensures .1 ∙ length-set out (s .at) (c .before .before .before .before .before .before .before .before .before .before .before .before .before .cell-kind .result % 256) in
+    = subst
+    (λ x. SaysWroteAt w x (cellFirst w (s .i)) (s .at + 1) (set out (s .at) (cellKind w (s .i) % 256)) (one .last .1 .1 .0) (one .result))
+    size half in
+    let kept : length (one .last .1 .1 .0) ≡ length out = one .ensures .1 ∙ length-set out (s .at) (c .before .before .before .before .before .before .before .before .before .before .before .before .before .before .cell-kind .result % 256) in
     let two = c .before .before .write-at2 in
-    let second : SaysWroteAt w (s .most - 1) (cellSecond w (s .i)) (one .result) (one .last .1 .1 .0)
+    let other = subst
+    (λ x. SaysWroteAt w (s .most - 1 - c .before .before .before .before .before .before .before .before .before .before .share .result) x (one .result) (one .last .1 .1 .0) (two .last .1 .1 .0) (two .result))
+    (c .before .before .before .before .cell-second .ensures) (two .ensures .0) in
+    let second : SaysWroteAt w (s .most - 1 - shareOf w (cellFirst w (s .i)) (s .most - 1)) (cellSecond w (s .i)) (one .result) (one .last .1 .1 .0)
     (two .last .1 .1 .0) (two .result)
     = subst
-    (λ x. SaysWroteAt w (s .most - 1) x (one .result) (one .last .1 .1 .0) (two .last .1 .1 .0) (two .result))
-    (c .before .before .before .before .cell-second .ensures) (two .ensures .0) in (
+    (λ x. SaysWroteAt w (s .most - 1 - x) (cellSecond w (s .i)) (one .result) (one .last .1 .1 .0) (two .last .1 .1 .0) (two .result))
+    size other in (
       wrote-two w (s .most) (s .i) (s .at) out (one .last .1 .1 .0) (two .last .1 .1 .0) (one .result) (two .result)
-          (omega (arith, k, c .before .before .before .before .before .before .before .before .before .before .before .before .if2 .left))
+          (omega (arith, k, c .before .before .before .before .before .before .before .before .before .before .before .before .before .if2 .left))
           (λ e. c .before .before .before .before .before .if4 .left (k ∙ e))
           first kept second,
       two .ensures .1 ∙ kept,
@@ -348,6 +428,8 @@ pub +write-at-spec : {M : Type 1} → statement M
   cell-kind-reads.Learnt,
   cell-first-reads.Asked,
   cell-first-reads.Learnt,
+  share-reads.Asked,
+  share-reads.Learnt,
   write-at-below t,
   write-at.Post,
   cell-second-reads.Asked,
@@ -366,12 +448,14 @@ pub +write-at-spec : {M : Type 1} → statement M
     (write-at-same-length-2 t)
     (write-at-returns-3 t)
     (write-at-cell-first-requires t)
+    (write-at-sub-share t)
+    (write-at-share-requires t)
     (write-at-add-write-at t)
-    (write-at-sub-write-at t)
     (write-at-write-at-requires t)
     (write-at-same-length-3 t)
     (write-at-returns-4 t)
     (write-at-cell-second-requires t)
+    (write-at-sub-write-at t)
     (write-at-sub-write-at-2 t)
     (write-at-write-at-requires-2 t)
     (write-at-same-length-4 t)

@@ -1,5 +1,5 @@
 -- `cells::box_parts` meets its contract: one law for each test. Assumes nothing.
-use mathlib.Core.Path.{_≡_, sym, _∙_, ap, subst, subst₂}
+use mathlib.Core.Path.{_≡_, refl, sym, _∙_, ap, subst, subst₂}
 use borrow.Author.Tests.{not-true, not-false}
 use Rattle.memory.specs.Words.{words}
 use Rattle.cells.specs.declared.Parts.the-variants.{Both}
@@ -18,7 +18,7 @@ returns c =
     let s = c .before .before .before .args in
     let w = words (s .work .now) in
     let k = c .before .cell-kind .ensures in
-    box-no-reusable w (s .t) (s .a) λ e. c .if1 .taken (k ∙ e)
+    (box-no-reusable w (s .t) (s .a) (λ e. c .if1 .taken (k ∙ e)), tt)
 
 cell-first-requires : tie.Need-cell-first-requires
 cell-first-requires c κs = search needs
@@ -31,9 +31,11 @@ returns-2 c =
     let s = c .before .before .before .before .before .before .args in
     let w = words (s .work .now) in
     let k = c .before .before .before .before .cell-kind .ensures in
-    let h = sym k ∙ c .before .before .before .if1 .left in
-    box-no-function w (s .t) (s .a) h
-    λ e. c .if2 .taken (c .before .cell-kind2 .ensures ∙ ap (cellKind w) (c .before .before .cell-first .ensures) ∙ e)
+    let h = sym k ∙ c .before .before .before .if1 .left in (
+      box-no-function w (s .t) (s .a) h
+          (λ e. c .if2 .taken (c .before .cell-kind2 .ensures ∙ ap (cellKind w) (c .before .before .cell-first .ensures) ∙ e)),
+      tt,
+    )
 
 cell-first-requires-2 : tie.Need-cell-first-requires-2
 cell-first-requires-2 c κs = search needs
@@ -50,9 +52,11 @@ returns-3 c =
     let f = c .before .before .before .before .before .cell-first .ensures in
     let h′ : cellKind w (cellFirst w (s .a)) ≡ 3
     = ap (cellKind w) (sym f) ∙ sym (c .before .before .before .before .cell-kind2 .ensures) ∙ c .before .before .before .if2 .left in
-    let input = c .before .before .cell-first2 .ensures ∙ ap (cellFirst w) f in
-    box-other-input w (s .t) (s .a) h h′
-    (subst₂ (λ x t. SaysSameType w (s .t) x t) input (not-true _ (c .if3 .taken)) (c .before .same-type .ensures))
+    let input = c .before .before .cell-first2 .ensures ∙ ap (cellFirst w) f in (
+      box-other-input w (s .t) (s .a) h h′
+          (subst₂ (λ x t. SaysSameType w (s .t) x t) input (not-true _ (c .if3 .taken)) (c .before .same-type .ensures)),
+      tt,
+    )
 
 is-wire-type-requires : tie.Need-is-wire-type-requires
 is-wire-type-requires c κs = search needs
@@ -67,9 +71,11 @@ returns-4 c =
     let h′ : cellKind w (cellFirst w (s .a)) ≡ 3
     = ap (cellKind w) (sym f) ∙ sym (c .before .before .before .before .before .before .cell-kind2 .ensures) ∙ c .before .before .before .before .before .if2 .left in
     let input = c .before .before .before .before .cell-first2 .ensures ∙ ap (cellFirst w) f in
-    let same = subst₂ (λ x t. SaysSameType w (s .t) x t) input (not-false _ (c .before .before .if3 .left)) (c .before .before .before .same-type .ensures) in
-    box-no-wires w (s .t) (s .a) h h′ same
-    (subst (λ t. SaysIsWireType w (s .t) t) (not-true _ (c .if4 .taken)) (c .before .is-wire-type .ensures))
+    let same = subst₂ (λ x t. SaysSameType w (s .t) x t) input (not-false _ (c .before .before .if3 .left)) (c .before .before .before .same-type .ensures) in (
+      box-no-wires w (s .t) (s .a) h h′ same
+          (subst (λ t. SaysIsWireType w (s .t) t) (not-true _ (c .if4 .taken)) (c .before .is-wire-type .ensures)),
+      tt,
+    )
 
 cell-second-requires : tie.Need-cell-second-requires
 cell-second-requires c κs = search needs
@@ -89,9 +95,11 @@ returns-5 c =
     let input = c .before .before .before .before .before .before .before .cell-first2 .ensures ∙ ap (cellFirst w) f in
     let same = subst₂ (λ x t. SaysSameType w (s .t) x t) input (not-false _ (c .before .before .before .before .before .if3 .left)) (c .before .before .before .before .before .before .same-type .ensures) in
     let wires = subst (λ t. SaysIsWireType w (s .t) t) (not-false _ (c .before .before .before .if4 .left)) (c .before .before .before .before .is-wire-type .ensures) in
-    let output = c .before .before .cell-second .ensures ∙ ap (cellSecond w) f in
-    box-no-result-wires w (s .t) (s .a) h h′ same wires
-    (subst₂ (λ x t. SaysIsWireType w x t) output (not-true _ (c .if5 .taken)) (c .before .is-wire-type2 .ensures))
+    let output = c .before .before .cell-second .ensures ∙ ap (cellSecond w) f in (
+      box-no-result-wires w (s .t) (s .a) h h′ same wires
+          (subst₂ (λ x t. SaysIsWireType w x t) output (not-true _ (c .if5 .taken)) (c .before .is-wire-type2 .ensures)),
+      tt,
+    )
 
 returns-6 : tie.Need-returns-6
 returns-6 c =
@@ -105,12 +113,14 @@ returns-6 c =
     let input = c .before .before .before .before .before .before .before .cell-first2 .ensures ∙ ap (cellFirst w) f in
     let same = subst₂ (λ x t. SaysSameType w (s .t) x t) input (not-false _ (c .before .before .before .before .before .if3 .left)) (c .before .before .before .before .before .before .same-type .ensures) in
     let wires = subst (λ t. SaysIsWireType w (s .t) t) (not-false _ (c .before .before .before .if4 .left)) (c .before .before .before .before .is-wire-type .ensures) in
-    let output = c .before .before .cell-second .ensures ∙ ap (cellSecond w) f in
-    subst
-    (λ x. SaysBox w (s .t) (s .a) (Both (s .t) x))
-    (sym output)
-    (box-gives w (s .t) (s .a) h h′ same wires
-    (subst₂ (λ x t. SaysIsWireType w x t) output (not-false _ (c .if5 .left)) (c .before .is-wire-type2 .ensures)))
+    let output = c .before .before .cell-second .ensures ∙ ap (cellSecond w) f in (
+      subst
+          (λ x. SaysBox w (s .t) (s .a) (Both (s .t) x))
+          (sym output)
+          (box-gives w (s .t) (s .a) h h′ same wires
+          (subst₂ (λ x t. SaysIsWireType w x t) output (not-false _ (c .if5 .left)) (c .before .is-wire-type2 .ensures))),
+      (refl, output),
+    )
 
 pub box-parts-spec : {M : Type 1} → statement M
 box-parts-spec =

@@ -2,6 +2,7 @@
 use mathlib.Core.Path.{_≡_, refl, subst}
 use Rattle.memory.specs.Words.{words}
 use Rattle.cells.specs.declared.Parts.the-variants.{Both, Neither}
+use Rattle.cells.specs.Cells.{cellFirst, cellSecond, PartsAre}
 use Rattle.cells.specs.Rules.{SaysBox, box-fails, box-makes}
 use borrow.Author.Needs.{needs}
 use Rattle.cells.proofs.box_type.Statement.{statement}
@@ -24,7 +25,7 @@ returns c =
     let s = c .before .before .before .before .before .args in
     let w = words (s .work .now) in
     let e : c .before .before .box-parts .result ≡ Neither = c .enum-told .given .1 in
-    (box-fails w (s .n) (s .t) (s .a) (subst (λ r. SaysBox w (s .t) (s .a) r) e (c .before .before .box-parts .ensures)), refl)
+    (box-fails w (s .n) (s .t) (s .a) (subst (λ r. SaysBox w (s .t) (s .a) r) e (c .before .before .box-parts .ensures .0)), refl)
 
 two-parts-requires : tie.Need-two-parts-requires
 two-parts-requires c κs = search needs
@@ -39,10 +40,12 @@ returns-2 c =
     let p = c .before .before .before .before .before .parts .given in
     let e : c .before .before .before .before .before .before .before .box-parts .result ≡ Both (p .0 .0) (p .0 .1 .0) = p .1 in
     let found : SaysBox w (s .t) (s .a) (Both (p .0 .0) (p .0 .1 .0))
-    = subst (λ r. SaysBox w (s .t) (s .a) r) e (c .before .before .before .before .before .before .before .box-parts .ensures) in
+    = subst (λ r. SaysBox w (s .t) (s .a) r) e (c .before .before .before .before .before .before .before .box-parts .ensures .0) in
+    let are : PartsAre (s .t) (cellSecond w (cellFirst w (s .a))) (Both (p .0 .0) (p .0 .1 .0))
+    = subst (λ r. PartsAre (s .t) (cellSecond w (cellFirst w (s .a))) r) e (c .before .before .before .before .before .before .before .box-parts .ensures .1) in
     let two = c .before .before .two-parts in (
       box-makes w (words (two .last .0)) (s .n) (s .t) (s .a) (p .0 .0) (p .0 .1 .0) (two .result) found (two .ensures .0),
-      two .ensures .1,
+      cc (two .ensures .1, are .0, are .1),
     )
 
 pub box-type-spec : {M : Type 1} → statement M

@@ -2,6 +2,7 @@
 use native.Mathlib.Omega.{arith}
 use mathlib.Core.Path.{refl}
 use Rattle.memory.specs.Words.{words}
+use Rattle.cells.specs.Rows.{cell-put}
 use Rattle.cells.specs.Rules.{too-large-lift, makes-lift}
 use borrow.Author.Needs.{needs}
 use Rattle.cells.proofs.lift_type.Statement.{statement}
@@ -43,8 +44,8 @@ returns-3 c =
     let x = c .before .before .before .before .before .before .cell-size in
     let new = c .before .before .new-cell in (
       makes-lift (words (s .work .now)) (s .n) (s .a) (x .result) (x .ensures .0)
-          (words (new .last .0)) 0 (c .before .before .before .before .before .if1 .left) (new .ensures .0),
-      new .ensures .1,
+          (words (new .last .0)) 0 (c .before .before .before .before .before .if1 .left) (cell-put _ _ _ _ _ _ _ (new .ensures)),
+      cc (new .ensures, x .ensures .0),
     )
 
 pub lift-type-spec : {M : Type 1} → statement M

@@ -1,5 +1,6 @@
 -- `cells::load_entry` meets its contract: the new cell's parts are the cells behind it. Assumes nothing.
 use Rattle.memory.specs.Words.{words}
+use Rattle.cells.specs.Rows.{cell-put}
 use Rattle.cells.specs.Load.{entry-loaded}
 use borrow.Author.Needs.{needs}
 use Rattle.cells.proofs.load_entry.Statement.{statement}
@@ -32,8 +33,8 @@ returns c =
     let second = c .before .before .before .before .less2 in
     let all = c .before .before .before .before .before .before .before .before .entry-size in (
       entry-loaded (words (s .work .now)) (words (new .last .0)) (s .n) (s .kind) (first .result) (second .result) (all .result) (size .result)
-          (first .ensures) (size .ensures .0) (second .ensures) (all .ensures) (new .ensures .0),
-      new .ensures .1,
+          (first .ensures) (size .ensures .0) (second .ensures) (all .ensures) (cell-put _ _ _ _ _ _ _ (new .ensures)),
+      new .kept .0,
     )
 
 pub load-entry-spec : {M : Type 1} → statement M

@@ -1,12 +1,11 @@
 -- `cells::new_cell` meets its contract: four words are put; past the end of the buffer nothing changes.
 -- Assumes nothing.
-use Prim.Native.Nat.{_+_, _*_, _%_}
+use Prim.Native.Nat.{_<_, _/_}
 use native.Mathlib.Omega.{arith}
-use mathlib.Core.Path.{refl, sym, _∙_, ap}
-use lib.ListN.{set}
-use Rattle.memory.specs.Words.{words}
-use Rattle.memory.specs.Laws.{length-words}
-use Rattle.cells.specs.Rows.{withCell, past-the-end}
+use mathlib.Core.Path.{sym}
+use mathlib.Core.List.{[], _∷_}
+use lib.ListN.{length}
+use Rattle.memory.specs.Laws.{put-past, put-first, put-more}
 use borrow.Author.Needs.{needs}
 use Rattle.cells.proofs.new_cell.Statement.{statement}
 use Rattle.cells.proofs.new_cell.Tie as tie
@@ -14,10 +13,7 @@ use Rattle.cells.proofs.new_cell.Tie as tie
 returns : tie.Need-returns
 returns c =
     let s = c .before .before .args in
-    let m = s .work .now in (
-      sym (past-the-end (words m) (s .n) (s .kind) (s .first) (s .second) (s .size) (omega (arith, length-words m))),
-      refl,
-    )
+    sym (put-past 4 (s .work .now) (s .n) (s .kind ∷ s .first ∷ s .second ∷ s .size ∷ []) (omega (arith, c .if1 .taken)))
 
 mul-put : tie.Need-mul-put
 mul-put c = search needs
@@ -56,21 +52,21 @@ same-length : tie.Need-same-length
 same-length c = search needs
 
 returns-2 : tie.Need-returns-2
-unfolding withCell
 returns-2 c =
     let s = c .before .before .before .before .before .before .before .before .before .before .before .before .before .before .before .before .before .before .args in
-    let n = s .n in
-    let one = c .before .before .before .before .before .before .before .before .before .before .before .before .before .before .put .ensures in
-    let two = c .before .before .before .before .before .before .before .before .before .before .put2 .ensures in
-    let three = c .before .before .before .before .before .before .put3 .ensures in
-    let four = c .before .before .put4 .ensures in (
-      four .0
-          ∙ ap (λ t. set t (4 * n + 3) (s .size % 65536))
-          (three .0
-          ∙ ap (λ t. set t (4 * n + 2) (s .second % 65536))
-          (two .0 ∙ ap (λ t. set t (4 * n + 1) (s .first % 65536)) (one .0))),
-      four .1 ∙ three .1 ∙ two .1 ∙ one .1,
-    )
+    let m = s .work .now in
+    let one = c .before .before .before .before .before .before .before .before .before .before .before .before .before .before .put in
+    let two = c .before .before .before .before .before .before .before .before .before .before .put2 in
+    let three = c .before .before .before .before .before .before .put3 in
+    let four = c .before .before .put4 in
+    let inside : s .n < length m / 8 = omega (arith, c .before .before .before .before .before .before .before .before .before .before .before .before .before .before .before .before .if1 .left) in
+    put-more 4 m (three .last .0) (four .last .0) (s .n) (s .kind ∷ s .first ∷ s .second ∷ []) (s .size) inside (omega arith)
+    (put-more 4 m (two .last .0) (three .last .0) (s .n) (s .kind ∷ s .first ∷ []) (s .second) inside (omega arith)
+    (put-more 4 m (one .last .0) (two .last .0) (s .n) (s .kind ∷ []) (s .first) inside (omega arith)
+    (put-first 4 m (one .last .0) (s .n) (s .kind) inside (omega arith) (one .ensures))
+    (two .ensures))
+    (three .ensures))
+    (four .ensures)
 
 pub new-cell-spec : {M : Type 1} → statement M
 new-cell-spec =

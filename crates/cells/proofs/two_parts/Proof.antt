@@ -2,6 +2,7 @@
 use native.Mathlib.Omega.{arith}
 use mathlib.Core.Path.{refl}
 use Rattle.memory.specs.Words.{words}
+use Rattle.cells.specs.Rows.{cell-put}
 use Rattle.cells.specs.Rules.{too-large, makes-cell}
 use borrow.Author.Needs.{needs}
 use Rattle.cells.proofs.two_parts.Statement.{statement}
@@ -53,8 +54,8 @@ returns-3 c =
     let y = c .before .before .before .before .before .before .cell-size2 in
     let new = c .before .before .new-cell in (
       makes-cell (words (s .work .now)) (s .n) (s .kind) (s .a) (s .b) (x .result) (y .result) (x .ensures .0) (y .ensures .0)
-          (words (new .last .0)) (c .before .before .before .before .before .if1 .left) (new .ensures .0),
-      new .ensures .1,
+          (words (new .last .0)) (c .before .before .before .before .before .if1 .left) (cell-put _ _ _ _ _ _ _ (new .ensures)),
+      cc (new .ensures, x .ensures .0, y .ensures .0),
     )
 
 pub two-parts-spec : {M : Type 1} → statement M

@@ -5,6 +5,7 @@ use Rattle.memory.specs.Words.{words}
 use Rattle.memory.specs.Laws.{same-words}
 use Rattle.nodes.specs.Nodes.{nodesIn, length-nodesIn, same-nodes}
 use Rattle.circuits.specs.Layout.{rowsIn}
+use Rattle.circuits.specs.Rows.{row-put}
 use Rattle.loading.specs.Loading.{too-short, loaded}
 use borrow.Author.Needs.{needs}
 use Rattle.loading.proofs.load.Statement.{statement}
@@ -90,7 +91,7 @@ returns-2 c =
     (same-nodes (s .nodes .now) (first .last .1 .0) (first .kept .1 .0))
     (same-words (s .types .now) (second .last .1 .0) (second .kept .1 .0))
     (same-words (second .last .1 .0) (third .last .1 .0) (third .kept .1 .0))
-    (frame .ensures)
+    (row-put _ _ _ _ _ _ _ (frame .ensures))
     (c .registers-at2 .ensures)
 
 pub load-spec : {M : Type 1} → statement M

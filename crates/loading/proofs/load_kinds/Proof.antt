@@ -6,6 +6,7 @@ use mathlib.Core.Path.{_≡_, refl, _∙_, ap}
 use lib.ListN.{length}
 use Rattle.program.specs.Format.{kindAt}
 use Rattle.memory.specs.Words.{words}
+use Rattle.memory.specs.Laws.{word-put}
 use Rattle.nodes.specs.Regions.{over}
 use Rattle.loading.specs.Trees.{valuesFrom}
 use Rattle.loading.specs.Writing.{none-written, kind-written}
@@ -62,8 +63,8 @@ loop-again c =
           (l .inv .1 room)
           (w .ensures .0 ∙ c .before .before .before .before .kind-at .ensures)
           (w .ensures .1)
-          (put .ensures .0),
-      put .ensures .1 ∙ l .inv .2,
+          (word-put _ _ _ _ (put .ensures)),
+      put .kept .0 ∙ l .inv .2,
     )
 
 same-length : tie.Need-same-length Inv-loop μ-loop

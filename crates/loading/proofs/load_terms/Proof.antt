@@ -4,7 +4,7 @@ use Prim.Native.Nat.{_-_, _≤_}
 use native.Mathlib.Omega.{arith}
 use mathlib.Core.Path.{_≡_, refl, _∙_, ap}
 use lib.ListN.{length}
-use Rattle.nodes.specs.Nodes.{nodesIn, length-nodesIn}
+use Rattle.nodes.specs.Nodes.{nodesIn, length-nodesIn, node-put}
 use Rattle.nodes.specs.Regions.{over}
 use Rattle.loading.specs.Trees.{valuesFrom, nodeFrom}
 use Rattle.loading.specs.Writing.{none-written, node-written, argument-word}
@@ -84,7 +84,7 @@ loop-again c =
           (w .ensures .1)
           (a .ensures .0 ∙ argument-word (s .file .now) (s .first) (s .terms) _ (start .pre .0))
           (a .ensures .1)
-          (put .ensures),
+          (node-put _ _ _ _ _ (put .ensures)),
       put .kept .0 ∙ l .inv .2,
     )
 

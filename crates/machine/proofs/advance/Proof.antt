@@ -1,15 +1,14 @@
 -- `machine::advance` meets its contract. The invariant: so many steps are done, and what is left comes to what the whole comes
--- to. The measure is the number of steps that may still be taken. Assumes nothing.
+-- to; the two local memories keep their lengths. The measure is the number of steps that may still be taken. Assumes nothing.
 use Prim.Native.Nat.{_-_, _≤_, _<_}
 use native.Mathlib.Omega.{arith}
-use mathlib.Core.Path.{_≡_, refl, _∙_, subst}
+use mathlib.Core.Path.{_≡_, refl, sym, _∙_, subst}
 use lib.Dec.{leb}
 use lib.ListN.{length}
 use borrow.Author.Needs.{needs}
 use borrow.Author.Tests.{leb-false}
-use Rattle.rules.specs.Sizes.{most-nodes}
 use Rattle.memory.specs.Words.{words}
-use Rattle.memory.specs.Laws.{same-words}
+use Rattle.memory.specs.Laws.{length-words}
 use Rattle.nodes.specs.Nodes.{nodesIn}
 use Rattle.walking.specs.Rows.{rowsIn as stackRowsIn}
 use Rattle.circuits.specs.Layout.{rowsIn, fourResults}
@@ -23,21 +22,17 @@ use Rattle.machine.proofs.advance.Lts as lts
 use Rattle.machine.proofs.turn.Reads as turn-reads
 
 abbrev Inv-loop : tie.InvT-loop
-Inv-loop k allowance nodes₀ stack₀ waiting₀ labels₀ types frames₀ gates₀ closed₀ first₀ second₀ third₀ fourth₀ steps₀ now₀ nodes stack waiting labels frames gates closed first second third fourth steps now =
+Inv-loop k allowance nodes₀ stack₀ types frames₀ gates₀ closed₀ first₀ second₀ third₀ fourth₀ waiting₀ labels₀ steps₀ now₀ nodes stack frames gates closed first second third fourth waiting labels steps now =
     (steps ≤ k)
-    × (most-nodes < length (words waiting₀)
-    → 512 ≤ length (words labels₀)
-    → AllUnderway allowance k steps
+    × AllUnderway allowance k steps
     (memory (nodesIn nodes₀) (stackRowsIn stack₀) (rowsIn gates₀) (rowsIn closed₀) (rowsIn frames₀) (words types)
     (fourResults (words first₀) (words second₀) (words third₀) (words fourth₀)))
     now₀
     (memory (nodesIn nodes) (stackRowsIn stack) (rowsIn gates) (rowsIn closed) (rowsIn frames) (words types)
     (fourResults (words first) (words second) (words third) (words fourth)))
-    now)
+    now
     × (length nodes ≡ length nodes₀)
     × (length stack ≡ length stack₀)
-    × (length waiting ≡ length waiting₀)
-    × (length labels ≡ length labels₀)
     × (length frames ≡ length frames₀)
     × (length gates ≡ length gates₀)
     × (length closed ≡ length closed₀)
@@ -45,17 +40,18 @@ Inv-loop k allowance nodes₀ stack₀ waiting₀ labels₀ types frames₀ gate
     × (length second ≡ length second₀)
     × (length third ≡ length third₀)
     × (length fourth ≡ length fourth₀)
+    × (length waiting ≡ 8194)
+    × (length labels ≡ 1024)
 
 abbrev μ-loop : tie.MeasureT-loop
-μ-loop k allowance nodes₀ stack₀ waiting₀ labels₀ types frames₀ gates₀ closed₀ first₀ second₀ third₀ fourth₀ steps₀ now₀ nodes stack waiting labels frames gates closed first second third fourth steps now =
+μ-loop k allowance nodes₀ stack₀ types frames₀ gates₀ closed₀ first₀ second₀ third₀ fourth₀ waiting₀ labels₀ steps₀ now₀ nodes stack frames gates closed first second third fourth waiting labels steps now =
     k - steps
 
--- src/lib.rt:150:5
 loop-holds : tie.Need-loop-holds Inv-loop μ-loop
 loop-holds c =
-    let s = c .before .before .before .before .before .before .before .before .before .before .before .before .args in (
+    let s = c .before .before .before .before .before .before .before .before .before .before .args in (
       omega arith,
-      λ scratch labels. none-underway (s .allowance) (s .k)
+      none-underway (s .allowance) (s .k)
           (memory (nodesIn (s .nodes .now)) (stackRowsIn (s .stack .now)) (rowsIn (s .gates .now)) (rowsIn (s .closed .now)) (rowsIn (s .frames .now)) (words (s .types .now))
           (fourResults (words (s .first .now)) (words (s .second .now)) (words (s .third .now)) (words (s .fourth .now))))
           (s .registers),
@@ -72,41 +68,42 @@ loop-holds c =
       refl,
     )
 
--- src/lib.rt:151:13
+slice-aggregate-turn : tie.Need-slice-aggregate-turn Inv-loop μ-loop
+slice-aggregate-turn c = sym (c .before .before .before .loop .inv .11)
+
+slice-aggregate-turn-2 : tie.Need-slice-aggregate-turn-2 Inv-loop μ-loop
+slice-aggregate-turn-2 c = sym (c .before .before .before .before .loop .inv .12)
+
 turn-requires : tie.Need-turn-requires Inv-loop μ-loop
 turn-requires c κs = tt
 
--- src/lib.rt:156:28
 enum-known-turned : tie.Need-enum-known-turned Inv-loop μ-loop
 enum-known-turned c = search needs
 
--- src/lib.rt:158:17
 add-steps : tie.Need-add-steps Inv-loop μ-loop
 add-steps c =
-    let s = c .before .before .before .before .before .before .before .before .before .before .before .before .before .before .before .before .before .before .before .before .before .before .before .before .before .before .before .before .before .before .before .before .before .before .before .before .before .before .before .before .before .before .before .before .before .before .before .before .before .before .args in
-    let l = c .before .before .before .before .before .before .before .before .before .before .before .before .before .before .before .before .before .before .before .before .before .before .before .before .before .before .before .before .before .before .before .before .before .before .before .before .before .loop in
-    let t = c .before .before .before .before .before .before .before .before .before .before .before .before .before .before .before .before .before .before .before .before .before .before .before .before .before .turn in
+    let s = c .before .before .before .before .before .before .before .before .before .before .before .before .before .before .before .before .before .before .before .before .before .before .before .before .before .before .before .before .before .before .before .before .before .before .before .before .before .before .before .before .before .before .before .before .before .before .args in
+    let l = c .before .before .before .before .before .before .before .before .before .before .before .before .before .before .before .before .before .before .before .before .before .before .before .before .before .before .before .before .before .before .before .before .before .before .before .loop in
+    let t = c .before .before .before .before .before .before .before .before .before .before .before .before .before .before .before .before .before .before .before .before .before .before .before .turn in
     let less : l .steps < s .k = leb-false (s .k) (l .steps) (subst (NotLast (leb (s .k) (l .steps))) (c .before .turned .given .1) (t .ensures .1)) in
-    omega (arith, less, c .before .before .before .before .before .before .before .before .before .before .before .before .before .before .before .before .before .before .before .before .before .before .before .before .before .before .before .before .before .before .before .before .before .before .before .before .before .before .before .before .before .before .before .before .before .before .before .before .before .before .fits .k)
+    omega (arith, less, c .before .before .before .before .before .before .before .before .before .before .before .before .before .before .before .before .before .before .before .before .before .before .before .before .before .before .before .before .before .before .before .before .before .before .before .before .before .before .before .before .before .before .before .before .before .before .fits .k)
 
--- src/lib.rt:150:5
 loop-less : tie.Need-loop-less Inv-loop μ-loop
 loop-less c =
-    let s = c .before .before .before .before .before .before .before .before .before .before .before .before .before .before .before .before .before .before .before .before .before .before .before .before .before .before .before .before .before .before .before .before .before .before .before .before .before .before .before .before .before .before .before .before .before .before .before .before .before .before .args in
-    let l = c .before .before .before .before .before .before .before .before .before .before .before .before .before .before .before .before .before .before .before .before .before .before .before .before .before .before .before .before .before .before .before .before .before .before .before .before .before .loop in
-    let t = c .before .before .before .before .before .before .before .before .before .before .before .before .before .before .before .before .before .before .before .before .before .before .before .before .before .turn in
+    let s = c .before .before .before .before .before .before .before .before .before .before .before .before .before .before .before .before .before .before .before .before .before .before .before .before .before .before .before .before .before .before .before .before .before .before .before .before .before .before .before .before .before .before .before .before .before .before .args in
+    let l = c .before .before .before .before .before .before .before .before .before .before .before .before .before .before .before .before .before .before .before .before .before .before .before .before .before .before .before .before .before .before .before .before .before .before .before .loop in
+    let t = c .before .before .before .before .before .before .before .before .before .before .before .before .before .before .before .before .before .before .before .before .before .before .before .turn in
     let less : l .steps < s .k = leb-false (s .k) (l .steps) (subst (NotLast (leb (s .k) (l .steps))) (c .before .turned .given .1) (t .ensures .1)) in
     omega (arith, less)
 
--- src/lib.rt:150:5
 loop-again : tie.Need-loop-again Inv-loop μ-loop
 loop-again c =
-    let s = c .before .before .before .before .before .before .before .before .before .before .before .before .before .before .before .before .before .before .before .before .before .before .before .before .before .before .before .before .before .before .before .before .before .before .before .before .before .before .before .before .before .before .before .before .before .before .before .before .before .before .args in
-    let l = c .before .before .before .before .before .before .before .before .before .before .before .before .before .before .before .before .before .before .before .before .before .before .before .before .before .before .before .before .before .before .before .before .before .before .before .before .before .loop in
-    let t = c .before .before .before .before .before .before .before .before .before .before .before .before .before .before .before .before .before .before .before .before .before .before .before .before .before .turn in
+    let s = c .before .before .before .before .before .before .before .before .before .before .before .before .before .before .before .before .before .before .before .before .before .before .before .before .before .before .before .before .before .before .before .before .before .before .before .before .before .before .before .before .before .before .before .before .before .before .args in
+    let l = c .before .before .before .before .before .before .before .before .before .before .before .before .before .before .before .before .before .before .before .before .before .before .before .before .before .before .before .before .before .before .before .before .before .before .before .loop in
+    let t = c .before .before .before .before .before .before .before .before .before .before .before .before .before .before .before .before .before .before .before .before .before .before .before .turn in
     let less : l .steps < s .k = leb-false (s .k) (l .steps) (subst (NotLast (leb (s .k) (l .steps))) (c .before .turned .given .1) (t .ensures .1)) in (
       omega (arith, less),
-      λ scratch labels. more-underway (s .allowance) (s .k) (l .steps)
+      more-underway (s .allowance) (s .k) (l .steps)
           (memory (nodesIn (s .nodes .now)) (stackRowsIn (s .stack .now)) (rowsIn (s .gates .now)) (rowsIn (s .closed .now)) (rowsIn (s .frames .now)) (words (s .types .now))
           (fourResults (words (s .first .now)) (words (s .second .now)) (words (s .third .now)) (words (s .fourth .now))))
           (memory (nodesIn (l .nodes)) (stackRowsIn (l .stack)) (rowsIn (l .gates)) (rowsIn (l .closed)) (rowsIn (l .frames)) (words (s .types .now))
@@ -114,108 +111,83 @@ loop-again c =
           (memory (nodesIn (t .last .1 .1 .1 .0)) (stackRowsIn (t .last .1 .1 .1 .1 .0)) (rowsIn (t .last .1 .1 .1 .1 .1 .1 .1 .1 .1 .0)) (rowsIn (t .last .1 .1 .1 .1 .1 .1 .1 .1 .1 .1 .0)) (rowsIn (t .last .1 .1 .1 .1 .1 .1 .1 .1 .0)) (words (s .types .now))
           (fourResults (words (t .last .1 .1 .1 .1 .1 .1 .1 .1 .1 .1 .1 .0)) (words (t .last .1 .1 .1 .1 .1 .1 .1 .1 .1 .1 .1 .1 .0)) (words (t .last .1 .1 .1 .1 .1 .1 .1 .1 .1 .1 .1 .1 .1 .0)) (words (t .last .1 .1 .1 .1 .1 .1 .1 .1 .1 .1 .1 .1 .1 .1 .0))))
           (s .registers) (l .now) (c .before .turned .given .0 .0) (leb (s .k) (l .steps)) (t .result)
-          (l .inv .0) refl (l .inv .1 scratch labels) (t .ensures .0 (omega (arith, scratch, same-words (s .waiting .now) (l .waiting) (l .inv .4))) (omega (arith, labels, same-words (s .labels .now) (l .labels) (l .inv .5)))) (c .before .turned .given .1),
+          (l .inv .0) refl (l .inv .1) (t .ensures .0 (omega (arith, length-words (l .waiting), l .inv .11)) (omega (arith, length-words (l .labels), l .inv .12))) (c .before .turned .given .1),
       t .kept .1 .1 .1 .0 ∙ l .inv .2,
       t .kept .1 .1 .1 .1 .0 ∙ l .inv .3,
-      t .kept .1 .1 .1 .1 .1 .0 ∙ l .inv .4,
-      t .kept .1 .1 .1 .1 .1 .1 .0 ∙ l .inv .5,
-      t .kept .1 .1 .1 .1 .1 .1 .1 .1 .0 ∙ l .inv .6,
-      t .kept .1 .1 .1 .1 .1 .1 .1 .1 .1 .0 ∙ l .inv .7,
-      t .kept .1 .1 .1 .1 .1 .1 .1 .1 .1 .1 .0 ∙ l .inv .8,
-      t .kept .1 .1 .1 .1 .1 .1 .1 .1 .1 .1 .1 .0 ∙ l .inv .9,
-      t .kept .1 .1 .1 .1 .1 .1 .1 .1 .1 .1 .1 .1 .0 ∙ l .inv .10,
-      t .kept .1 .1 .1 .1 .1 .1 .1 .1 .1 .1 .1 .1 .1 .0 ∙ l .inv .11,
-      t .kept .1 .1 .1 .1 .1 .1 .1 .1 .1 .1 .1 .1 .1 .1 .0 ∙ l .inv .12,
+      t .kept .1 .1 .1 .1 .1 .1 .1 .1 .0 ∙ l .inv .4,
+      t .kept .1 .1 .1 .1 .1 .1 .1 .1 .1 .0 ∙ l .inv .5,
+      t .kept .1 .1 .1 .1 .1 .1 .1 .1 .1 .1 .0 ∙ l .inv .6,
+      t .kept .1 .1 .1 .1 .1 .1 .1 .1 .1 .1 .1 .0 ∙ l .inv .7,
+      t .kept .1 .1 .1 .1 .1 .1 .1 .1 .1 .1 .1 .1 .0 ∙ l .inv .8,
+      t .kept .1 .1 .1 .1 .1 .1 .1 .1 .1 .1 .1 .1 .1 .0 ∙ l .inv .9,
+      t .kept .1 .1 .1 .1 .1 .1 .1 .1 .1 .1 .1 .1 .1 .1 .0 ∙ l .inv .10,
+      t .kept .1 .1 .1 .1 .1 .0 ∙ l .inv .11,
+      t .kept .1 .1 .1 .1 .1 .1 .0 ∙ l .inv .12,
     )
 
--- src/lib.rt:160:28
 enum-known-turned-2 : tie.Need-enum-known-turned-2 Inv-loop μ-loop
 enum-known-turned-2 c = search needs
 
--- src/lib.rt:161:17
 same-length : tie.Need-same-length Inv-loop μ-loop
 same-length c =
-    let l = c .before .before .before .before .before .before .before .before .before .before .before .before .before .before .before .before .before .before .before .before .before .before .before .before .before .before .before .before .before .before .before .before .before .before .before .before .before .loop in
-    let t = c .before .before .before .before .before .before .before .before .before .before .before .before .before .before .before .before .before .before .before .before .before .before .before .before .before .turn in
+    let l = c .before .before .before .before .before .before .before .before .before .before .before .before .before .before .before .before .before .before .before .before .before .before .before .before .before .before .before .before .before .before .before .before .before .before .before .loop in
+    let t = c .before .before .before .before .before .before .before .before .before .before .before .before .before .before .before .before .before .before .before .before .before .before .before .turn in
     t .kept .1 .1 .1 .0 ∙ l .inv .2
 
--- src/lib.rt:161:17
 same-length-2 : tie.Need-same-length-2 Inv-loop μ-loop
 same-length-2 c =
-    let l = c .before .before .before .before .before .before .before .before .before .before .before .before .before .before .before .before .before .before .before .before .before .before .before .before .before .before .before .before .before .before .before .before .before .before .before .before .before .loop in
-    let t = c .before .before .before .before .before .before .before .before .before .before .before .before .before .before .before .before .before .before .before .before .before .before .before .before .before .turn in
+    let l = c .before .before .before .before .before .before .before .before .before .before .before .before .before .before .before .before .before .before .before .before .before .before .before .before .before .before .before .before .before .before .before .before .before .before .before .loop in
+    let t = c .before .before .before .before .before .before .before .before .before .before .before .before .before .before .before .before .before .before .before .before .before .before .before .turn in
     t .kept .1 .1 .1 .1 .0 ∙ l .inv .3
 
--- src/lib.rt:161:17
 same-length-3 : tie.Need-same-length-3 Inv-loop μ-loop
 same-length-3 c =
-    let l = c .before .before .before .before .before .before .before .before .before .before .before .before .before .before .before .before .before .before .before .before .before .before .before .before .before .before .before .before .before .before .before .before .before .before .before .before .before .loop in
-    let t = c .before .before .before .before .before .before .before .before .before .before .before .before .before .before .before .before .before .before .before .before .before .before .before .before .before .turn in
-    t .kept .1 .1 .1 .1 .1 .0 ∙ l .inv .4
+    let l = c .before .before .before .before .before .before .before .before .before .before .before .before .before .before .before .before .before .before .before .before .before .before .before .before .before .before .before .before .before .before .before .before .before .before .before .loop in
+    let t = c .before .before .before .before .before .before .before .before .before .before .before .before .before .before .before .before .before .before .before .before .before .before .before .turn in
+    t .kept .1 .1 .1 .1 .1 .1 .1 .1 .0 ∙ l .inv .4
 
--- src/lib.rt:161:17
 same-length-4 : tie.Need-same-length-4 Inv-loop μ-loop
 same-length-4 c =
-    let l = c .before .before .before .before .before .before .before .before .before .before .before .before .before .before .before .before .before .before .before .before .before .before .before .before .before .before .before .before .before .before .before .before .before .before .before .before .before .loop in
-    let t = c .before .before .before .before .before .before .before .before .before .before .before .before .before .before .before .before .before .before .before .before .before .before .before .before .before .turn in
-    t .kept .1 .1 .1 .1 .1 .1 .0 ∙ l .inv .5
+    let l = c .before .before .before .before .before .before .before .before .before .before .before .before .before .before .before .before .before .before .before .before .before .before .before .before .before .before .before .before .before .before .before .before .before .before .before .loop in
+    let t = c .before .before .before .before .before .before .before .before .before .before .before .before .before .before .before .before .before .before .before .before .before .before .before .turn in
+    t .kept .1 .1 .1 .1 .1 .1 .1 .1 .1 .0 ∙ l .inv .5
 
--- src/lib.rt:161:17
 same-length-5 : tie.Need-same-length-5 Inv-loop μ-loop
 same-length-5 c =
-    let l = c .before .before .before .before .before .before .before .before .before .before .before .before .before .before .before .before .before .before .before .before .before .before .before .before .before .before .before .before .before .before .before .before .before .before .before .before .before .loop in
-    let t = c .before .before .before .before .before .before .before .before .before .before .before .before .before .before .before .before .before .before .before .before .before .before .before .before .before .turn in
-    t .kept .1 .1 .1 .1 .1 .1 .1 .1 .0 ∙ l .inv .6
+    let l = c .before .before .before .before .before .before .before .before .before .before .before .before .before .before .before .before .before .before .before .before .before .before .before .before .before .before .before .before .before .before .before .before .before .before .before .loop in
+    let t = c .before .before .before .before .before .before .before .before .before .before .before .before .before .before .before .before .before .before .before .before .before .before .before .turn in
+    t .kept .1 .1 .1 .1 .1 .1 .1 .1 .1 .1 .0 ∙ l .inv .6
 
--- src/lib.rt:161:17
 same-length-6 : tie.Need-same-length-6 Inv-loop μ-loop
 same-length-6 c =
-    let l = c .before .before .before .before .before .before .before .before .before .before .before .before .before .before .before .before .before .before .before .before .before .before .before .before .before .before .before .before .before .before .before .before .before .before .before .before .before .loop in
-    let t = c .before .before .before .before .before .before .before .before .before .before .before .before .before .before .before .before .before .before .before .before .before .before .before .before .before .turn in
-    t .kept .1 .1 .1 .1 .1 .1 .1 .1 .1 .0 ∙ l .inv .7
+    let l = c .before .before .before .before .before .before .before .before .before .before .before .before .before .before .before .before .before .before .before .before .before .before .before .before .before .before .before .before .before .before .before .before .before .before .before .loop in
+    let t = c .before .before .before .before .before .before .before .before .before .before .before .before .before .before .before .before .before .before .before .before .before .before .before .turn in
+    t .kept .1 .1 .1 .1 .1 .1 .1 .1 .1 .1 .1 .0 ∙ l .inv .7
 
--- src/lib.rt:161:17
 same-length-7 : tie.Need-same-length-7 Inv-loop μ-loop
 same-length-7 c =
-    let l = c .before .before .before .before .before .before .before .before .before .before .before .before .before .before .before .before .before .before .before .before .before .before .before .before .before .before .before .before .before .before .before .before .before .before .before .before .before .loop in
-    let t = c .before .before .before .before .before .before .before .before .before .before .before .before .before .before .before .before .before .before .before .before .before .before .before .before .before .turn in
-    t .kept .1 .1 .1 .1 .1 .1 .1 .1 .1 .1 .0 ∙ l .inv .8
+    let l = c .before .before .before .before .before .before .before .before .before .before .before .before .before .before .before .before .before .before .before .before .before .before .before .before .before .before .before .before .before .before .before .before .before .before .before .loop in
+    let t = c .before .before .before .before .before .before .before .before .before .before .before .before .before .before .before .before .before .before .before .before .before .before .before .turn in
+    t .kept .1 .1 .1 .1 .1 .1 .1 .1 .1 .1 .1 .1 .0 ∙ l .inv .8
 
--- src/lib.rt:161:17
 same-length-8 : tie.Need-same-length-8 Inv-loop μ-loop
 same-length-8 c =
-    let l = c .before .before .before .before .before .before .before .before .before .before .before .before .before .before .before .before .before .before .before .before .before .before .before .before .before .before .before .before .before .before .before .before .before .before .before .before .before .loop in
-    let t = c .before .before .before .before .before .before .before .before .before .before .before .before .before .before .before .before .before .before .before .before .before .before .before .before .before .turn in
-    t .kept .1 .1 .1 .1 .1 .1 .1 .1 .1 .1 .1 .0 ∙ l .inv .9
+    let l = c .before .before .before .before .before .before .before .before .before .before .before .before .before .before .before .before .before .before .before .before .before .before .before .before .before .before .before .before .before .before .before .before .before .before .before .loop in
+    let t = c .before .before .before .before .before .before .before .before .before .before .before .before .before .before .before .before .before .before .before .before .before .before .before .turn in
+    t .kept .1 .1 .1 .1 .1 .1 .1 .1 .1 .1 .1 .1 .1 .0 ∙ l .inv .9
 
--- src/lib.rt:161:17
 same-length-9 : tie.Need-same-length-9 Inv-loop μ-loop
 same-length-9 c =
-    let l = c .before .before .before .before .before .before .before .before .before .before .before .before .before .before .before .before .before .before .before .before .before .before .before .before .before .before .before .before .before .before .before .before .before .before .before .before .before .loop in
-    let t = c .before .before .before .before .before .before .before .before .before .before .before .before .before .before .before .before .before .before .before .before .before .before .before .before .before .turn in
-    t .kept .1 .1 .1 .1 .1 .1 .1 .1 .1 .1 .1 .1 .0 ∙ l .inv .10
+    let l = c .before .before .before .before .before .before .before .before .before .before .before .before .before .before .before .before .before .before .before .before .before .before .before .before .before .before .before .before .before .before .before .before .before .before .before .loop in
+    let t = c .before .before .before .before .before .before .before .before .before .before .before .before .before .before .before .before .before .before .before .before .before .before .before .turn in
+    t .kept .1 .1 .1 .1 .1 .1 .1 .1 .1 .1 .1 .1 .1 .1 .0 ∙ l .inv .10
 
--- src/lib.rt:161:17
-same-length-10 : tie.Need-same-length-10 Inv-loop μ-loop
-same-length-10 c =
-    let l = c .before .before .before .before .before .before .before .before .before .before .before .before .before .before .before .before .before .before .before .before .before .before .before .before .before .before .before .before .before .before .before .before .before .before .before .before .before .loop in
-    let t = c .before .before .before .before .before .before .before .before .before .before .before .before .before .before .before .before .before .before .before .before .before .before .before .before .before .turn in
-    t .kept .1 .1 .1 .1 .1 .1 .1 .1 .1 .1 .1 .1 .1 .0 ∙ l .inv .11
-
--- src/lib.rt:161:17
-same-length-11 : tie.Need-same-length-11 Inv-loop μ-loop
-same-length-11 c =
-    let l = c .before .before .before .before .before .before .before .before .before .before .before .before .before .before .before .before .before .before .before .before .before .before .before .before .before .before .before .before .before .before .before .before .before .before .before .before .before .loop in
-    let t = c .before .before .before .before .before .before .before .before .before .before .before .before .before .before .before .before .before .before .before .before .before .before .before .before .before .turn in
-    t .kept .1 .1 .1 .1 .1 .1 .1 .1 .1 .1 .1 .1 .1 .1 .0 ∙ l .inv .12
-
--- src/lib.rt:161:17
 returns : tie.Need-returns Inv-loop μ-loop
 returns c =
-    let s = c .before .before .before .before .before .before .before .before .before .before .before .before .before .before .before .before .before .before .before .before .before .before .before .before .before .before .before .before .before .before .before .before .before .before .before .before .before .before .before .before .before .before .before .before .before .before .before .before .before .before .args in
-    let l = c .before .before .before .before .before .before .before .before .before .before .before .before .before .before .before .before .before .before .before .before .before .before .before .before .before .before .before .before .before .before .before .before .before .before .before .before .before .loop in
-    let t = c .before .before .before .before .before .before .before .before .before .before .before .before .before .before .before .before .before .before .before .before .before .before .before .before .before .turn in
-    λ scratch labels. all-advanced (s .allowance) (s .k) (l .steps)
+    let s = c .before .before .before .before .before .before .before .before .before .before .before .before .before .before .before .before .before .before .before .before .before .before .before .before .before .before .before .before .before .before .before .before .before .before .before .before .before .before .before .before .before .before .before .before .before .before .args in
+    let l = c .before .before .before .before .before .before .before .before .before .before .before .before .before .before .before .before .before .before .before .before .before .before .before .before .before .before .before .before .before .before .before .before .before .before .before .loop in
+    let t = c .before .before .before .before .before .before .before .before .before .before .before .before .before .before .before .before .before .before .before .before .before .before .before .turn in
+    all-advanced (s .allowance) (s .k) (l .steps)
     (memory (nodesIn (s .nodes .now)) (stackRowsIn (s .stack .now)) (rowsIn (s .gates .now)) (rowsIn (s .closed .now)) (rowsIn (s .frames .now)) (words (s .types .now))
     (fourResults (words (s .first .now)) (words (s .second .now)) (words (s .third .now)) (words (s .fourth .now))))
     (memory (nodesIn (l .nodes)) (stackRowsIn (l .stack)) (rowsIn (l .gates)) (rowsIn (l .closed)) (rowsIn (l .frames)) (words (s .types .now))
@@ -223,7 +195,7 @@ returns c =
     (memory (nodesIn (t .last .1 .1 .1 .0)) (stackRowsIn (t .last .1 .1 .1 .1 .0)) (rowsIn (t .last .1 .1 .1 .1 .1 .1 .1 .1 .1 .0)) (rowsIn (t .last .1 .1 .1 .1 .1 .1 .1 .1 .1 .1 .0)) (rowsIn (t .last .1 .1 .1 .1 .1 .1 .1 .1 .0)) (words (s .types .now))
     (fourResults (words (t .last .1 .1 .1 .1 .1 .1 .1 .1 .1 .1 .1 .0)) (words (t .last .1 .1 .1 .1 .1 .1 .1 .1 .1 .1 .1 .1 .0)) (words (t .last .1 .1 .1 .1 .1 .1 .1 .1 .1 .1 .1 .1 .1 .0)) (words (t .last .1 .1 .1 .1 .1 .1 .1 .1 .1 .1 .1 .1 .1 .1 .0))))
     (s .registers) (l .now) (c .before .turned2 .given .0 .1 .0) (leb (s .k) (l .steps)) (t .result) (c .before .turned2 .given .0 .0)
-    (l .inv .0) refl (l .inv .1 scratch labels) (t .ensures .0 (omega (arith, scratch, same-words (s .waiting .now) (l .waiting) (l .inv .4))) (omega (arith, labels, same-words (s .labels .now) (l .labels) (l .inv .5)))) (c .before .turned2 .given .1)
+    (l .inv .0) refl (l .inv .1) (t .ensures .0 (omega (arith, length-words (l .waiting), l .inv .11)) (omega (arith, length-words (l .labels), l .inv .12))) (c .before .turned2 .given .1)
 
 pub advance-spec : {M : Type 1} → statement M
 advance-spec =
@@ -232,6 +204,8 @@ advance-spec =
     Inv-loop
     μ-loop
     loop-holds
+    slice-aggregate-turn
+    slice-aggregate-turn-2
     turn-requires
     enum-known-turned
     add-steps
@@ -247,6 +221,4 @@ advance-spec =
     same-length-7
     same-length-8
     same-length-9
-    same-length-10
-    same-length-11
     returns)

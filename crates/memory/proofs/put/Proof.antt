@@ -1,12 +1,11 @@
 -- `memory::put` meets its contract: the two bytes of word i are the low 16 bits. Assumes nothing.
-use Prim.Native.Nat.{_+_, _*_, _%_, _/_}
+use Prim.Native.Nat.{suc, _+_, _*_, _%_, _/_}
 use native.Mathlib.Omega.{arith}
-use mathlib.Core.Path.{refl, sym, ap, _∙_}
+use mathlib.Core.Path.{_≡_, sym, ap, _∙_}
+use mathlib.Core.List.{[], _∷_}
 use lib.ListN.{set, length-set}
-use lib.Seq.{set-out}
 use borrow.Author.Needs.{needs}
-use Rattle.memory.specs.Words.{words}
-use Rattle.memory.specs.Laws.{length-words, set-word, two-bytes}
+use Rattle.memory.specs.Laws.{put-within, put-past}
 use Rattle.memory.proofs.put.Statement.{statement}
 use Rattle.memory.proofs.put.Tie as tie
 
@@ -36,18 +35,17 @@ same-length c = search needs
 
 returns : tie.Need-returns
 returns c =
-    let a = c .before .args in (
-      set-word (a .memory .now) (a .i) (a .value % 256) (a .value / 256 % 256) (c .if1 .taken)
-          ∙ ap (λ v. set (words (a .memory .now)) (a .i) v) (two-bytes (a .value)),
-      simp length-set,
-    )
+    let a = c .before .args in
+    let m = a .memory .now in
+    let v = a .value in
+    let high : 2 * a .i + 1 ≡ suc (2 * a .i) = omega arith in
+    ap (λ j. set (set m (2 * a .i) (v % 256)) j (v / 256 % 256)) high
+    ∙ sym (put-within 1 m (a .i) (v ∷ []) (c .if1 .taken))
 
 returns-2 : tie.Need-returns-2
 returns-2 c =
-    let a = c .before .args in (
-      sym (set-out (words (a .memory .now)) (a .i) (a .value % 65536) (omega (arith, length-words (a .memory .now)))),
-      refl,
-    )
+    let a = c .before .args in
+    sym (put-past 1 (a .memory .now) (a .i) (a .value ∷ []) (c .if1 .left))
 
 pub put-spec : {M : Type 1} → statement M
 put-spec =

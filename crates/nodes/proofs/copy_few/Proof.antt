@@ -1,28 +1,25 @@
 -- `nodes::copy_few` meets its contract. The invariant: the first i nodes are copied. The measure is what is left of the
 -- count. Assumes nothing.
-use Prim.Native.Nat.{_-_, _≤_}
+use Prim.Native.Nat.{_+_, _*_, _-_, _≤_}
 use native.Mathlib.Omega.{arith}
-use mathlib.Core.Path.{_≡_, refl, _∙_, ap}
-use lib.ListN.{length, take, drop}
-use Rattle.nodes.specs.Nodes.{nodesIn, no-node, length-nodesIn}
-use Rattle.nodes.specs.Regions.{over}
-use Rattle.nodes.specs.Copies.{Clear, copied-none, copied-more}
+use mathlib.Core.Path.{_≡_, refl, sym, _∙_, ap, ap₂}
+use lib.ListN.{length}
+use Rattle.nodes.specs.Copying.{copied}
+use Rattle.nodes.specs.Copies.{copied-on}
 use Rattle.nodes.proofs.copy_few.Statement.{statement}
 use Rattle.nodes.proofs.copy_few.Tie as tie
 
 abbrev Inv-loop : tie.InvT-loop
 Inv-loop nodes₀ from to count i₀ nodes i =
     (i ≤ count)
-    × (Clear from to count → nodesIn nodes ≡ over (nodesIn nodes₀) to (take i (drop from (nodesIn nodes₀))))
+    × (nodes ≡ copied nodes₀ (4 * from) (4 * to) (4 * i))
     × (length nodes ≡ length nodes₀)
 
 abbrev μ-loop : tie.MeasureT-loop
 μ-loop nodes₀ from to count i₀ nodes i = count - i
 
 loop-holds : tie.Need-loop-holds Inv-loop μ-loop
-loop-holds c =
-    let s = c .before .args in
-    (omega arith, λ clear. copied-none (nodesIn (s .nodes .now)) (s .from) (s .to), refl)
+loop-holds c = (omega arith, refl, refl)
 
 add-copy-node : tie.Need-add-copy-node Inv-loop μ-loop
 add-copy-node c = omega arith
@@ -43,19 +40,16 @@ loop-again : tie.Need-loop-again Inv-loop μ-loop
 loop-again c =
     let s = c .before .before .before .before .before .before .before .args in
     let l = c .before .before .before .before .before .loop in
-    let m = s .nodes .now in (
+    let m = s .nodes .now in
+    let source : 4 * (s .from + l .i) ≡ 4 * s .from + 4 * l .i = omega arith in
+    let place : 4 * (s .to + l .i) ≡ 4 * s .to + 4 * l .i = omega arith in
+    let more : 4 * l .i + 4 ≡ 4 * (l .i + 1) = omega arith in (
       omega arith,
-      λ clear.
-          copied-more no-node (nodesIn m) (s .from) (s .to) (s .count)
-          (omega (arith, length-nodesIn m))
-          (omega (arith, length-nodesIn m))
-          (nodesIn (l .nodes))
-          (nodesIn (c .before .before .copy-node .last .0))
-          (l .i)
-          clear
-          (c .before .before .before .before .loop-test .taken)
-          (l .inv .1 clear)
-          (c .before .before .copy-node .ensures),
+      c .before .before .copy-node .ensures
+          ∙ ap₂ (λ j k. copied (l .nodes) j k 4) source place
+          ∙ ap (λ x. copied x (4 * s .from + 4 * l .i) (4 * s .to + 4 * l .i) 4) (l .inv .1)
+          ∙ sym (copied-on m (4 * s .from) (4 * s .to) (4 * l .i) 4)
+          ∙ ap (copied m (4 * s .from) (4 * s .to)) more,
       c .before .before .copy-node .kept .0 ∙ l .inv .2,
     )
 
@@ -67,8 +61,7 @@ returns c =
     let s = c .before .before .before .args in
     let l = c .before .loop in
     let all : l .i ≡ s .count = omega arith in
-    λ clear. l .inv .1 clear
-    ∙ ap (λ j. over (nodesIn (s .nodes .now)) (s .to) (take j (drop (s .from) (nodesIn (s .nodes .now))))) all
+    l .inv .1 ∙ ap (λ j. copied (s .nodes .now) (4 * s .from) (4 * s .to) (4 * j)) all
 
 pub copy-few-spec : {M : Type 1} → statement M
 copy-few-spec =

@@ -1,19 +1,17 @@
 -- `nodes::copy_many` meets its contract. The invariant: the first i bytes are copied. The measure is what is left of
 -- them. Assumes nothing.
-use Prim.Native.Nat.{_+_, _*_, _-_, _≤_}
+use Prim.Native.Nat.{suc, _+_, _*_, _-_, _≤_}
 use native.Mathlib.Omega.{arith}
 use mathlib.Core.Path.{_≡_, refl, _∙_, ap}
-use lib.ListN.{length, getD, set, take, drop, length-set}
-use Rattle.nodes.specs.Regions.{over}
-use Rattle.nodes.specs.Copies.{Clear, copied-none, copied-more}
-use Rattle.nodes.specs.Bytes.{copied-bytes, clear-bytes}
+use lib.ListN.{length, getD, set, length-set}
+use Rattle.nodes.specs.Copying.{copied}
 use Rattle.nodes.proofs.copy_many.Statement.{statement}
 use Rattle.nodes.proofs.copy_many.Tie as tie
 
 abbrev Inv-loop : tie.InvT-loop
 Inv-loop nodes₀ from to count source at size i₀ nodes i =
     (i ≤ 4 * count)
-    × (Clear from to count → nodes ≡ over nodes₀ (4 * to) (take i (drop (4 * from) nodes₀)))
+    × (nodes ≡ copied nodes₀ (4 * from) (4 * to) i)
     × (length nodes ≡ length nodes₀)
 
 abbrev μ-loop : tie.MeasureT-loop
@@ -29,9 +27,7 @@ mul-size : tie.Need-mul-size Inv-loop μ-loop
 mul-size c = omega arith
 
 loop-holds : tie.Need-loop-holds Inv-loop μ-loop
-loop-holds c =
-    let s = c .args in
-    (omega arith, λ clear. copied-none (s .nodes .now) (4 * s .from) (4 * s .to), refl)
+loop-holds c = (omega arith, refl, refl)
 
 add-nodes : tie.Need-add-nodes Inv-loop μ-loop
 add-nodes c = omega arith
@@ -57,19 +53,10 @@ loop-again c =
     let l = c .before .before .loop in
     let m = s .nodes .now in
     let k = 4 * s .to + l .i in
-    let x = getD (l .nodes) (4 * s .from + l .i) 0 in (
+    let x = getD (l .nodes) (4 * s .from + l .i) 0 in
+    let more : suc (l .i) ≡ l .i + 1 = omega arith in (
       omega arith,
-      λ clear.
-          copied-more 0 m (4 * s .from) (4 * s .to) (4 * s .count)
-          (omega arith)
-          (omega arith)
-          (l .nodes)
-          (set (l .nodes) k x)
-          (l .i)
-          (clear-bytes (s .from) (s .to) (s .count) clear)
-          (c .before .loop-test .taken)
-          (l .inv .1 clear)
-          refl,
+      ap (λ t. set t k (getD t (4 * s .from + l .i) 0)) (l .inv .1) ∙ ap (copied m (4 * s .from) (4 * s .to)) more,
       length-set (l .nodes) k x ∙ l .inv .2,
     )
 
@@ -82,9 +69,7 @@ returns c =
     let l = c .before .loop in
     let m = s .nodes .now in
     let all : l .i ≡ 4 * s .count = omega arith in
-    λ clear.
-    copied-bytes m (l .nodes) (s .from) (s .to) (s .count) (omega arith) (omega arith)
-    (l .inv .1 clear ∙ ap (λ j. over m (4 * s .to) (take j (drop (4 * s .from) m))) all)
+    l .inv .1 ∙ ap (copied m (4 * s .from) (4 * s .to)) all
 
 pub copy-many-spec : {M : Type 1} → statement M
 copy-many-spec =

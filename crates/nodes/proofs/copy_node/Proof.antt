@@ -1,7 +1,7 @@
 -- `nodes::copy_node` meets its contract: the four bytes of the one node become those of the other. Assumes nothing.
 use native.Mathlib.Omega.{arith}
 use lib.ListN.{length-set}
-use Rattle.nodes.specs.Nodes.{copy-bytes}
+use Rattle.nodes.specs.Bytes.{copy-bytes}
 use borrow.Author.Needs.{needs}
 use Rattle.nodes.proofs.copy_node.Statement.{statement}
 use Rattle.nodes.proofs.copy_node.Tie as tie
@@ -60,7 +60,7 @@ same-length c = search needs
 returns : tie.Need-returns
 returns c =
     let s = c .before .before .before .before .args in
-    copy-bytes (s .nodes .now) (s .from) (s .to) (omega arith) (omega arith)
+    copy-bytes (s .nodes .now) (s .from) (s .to)
 
 pub copy-node-spec : {M : Type 1} → statement M
 copy-node-spec =

@@ -1,10 +1,10 @@
 -- `nodes::put_node` meets its contract: all four bytes of node i are put. Assumes nothing.
-use Prim.Native.Nat.{_%_}
 use native.Mathlib.Omega.{arith}
 use mathlib.Core.Path.{sym}
+use mathlib.Core.List.{[], _∷_}
 use lib.ListN.{length-set}
-use Rattle.evaluation.specs.Trees.{node}
-use Rattle.nodes.specs.Nodes.{put-bytes, set-past-in}
+use Rattle.memory.specs.Laws.{put-past}
+use Rattle.nodes.specs.Nodes.{put-bytes}
 use borrow.Author.Needs.{needs}
 use Rattle.nodes.proofs.put_node.Statement.{statement}
 use Rattle.nodes.proofs.put_node.Tie as tie
@@ -12,7 +12,7 @@ use Rattle.nodes.proofs.put_node.Tie as tie
 returns : tie.Need-returns
 returns c =
     let s = c .before .args in
-    sym (set-past-in (s .nodes .now) (s .i) (node (s .kind % 65536) (s .argument % 65536)) (c .if1 .taken))
+    sym (put-past 2 (s .nodes .now) (s .i) (s .kind ∷ s .argument ∷ []) (c .if1 .taken))
 
 mul-at : tie.Need-mul-at
 mul-at c = search needs

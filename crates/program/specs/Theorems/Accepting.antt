@@ -9,9 +9,8 @@ use native.Mathlib.Decide.{decLt}
 use lib.Dec.{T as IsTrue, eqb, ltb}
 use lib.ListN.{length}
 use borrow.Author.Tests.{eq-eqb, lt-ltb}
-use Rattle.rules.specs.Types.{Wire, Bit, Qubit, Ty, isWireType, entries}
-use Rattle.rules.specs.Gates.{nth}
-use Rattle.rules.specs.GateCodes.{isGate, wireCode}
+use Rattle.rules.specs.Types.{Wire, Bit, Qubit, Ty, isWireType, entries, wireCode}
+use Rattle.rules.specs.Gates.{nth, isGate}
 use Rattle.rules.specs.Terms.{Term}
 use Rattle.rules.specs.Sizes.{nodes}
 use Rattle.program.specs.Format.{labelCount, typeCount, termCount, firstTerm, entryCount, kindAt, argumentAt}

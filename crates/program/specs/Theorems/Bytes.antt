@@ -6,9 +6,8 @@ use native.Mathlib.Omega.{arith}
 use lib.Dec.{T as IsTrue, ltb, ltb→lt, lt→ltb}
 use lib.ListN.{length, replicate}
 use lib.Pow.{areBytes}
-use Rattle.rules.specs.Types.{Wire, Bit, Qubit, Ty, wire, _⊗_, _⊸_, !_, Circ, entries}
-use Rattle.rules.specs.Gates.{GateType, nth, gateTable}
-use Rattle.rules.specs.GateCodes.{isSome, isGate, wireCode, typeCodes}
+use Rattle.rules.specs.Types.{Wire, Bit, Qubit, Ty, wire, _⊗_, _⊸_, !_, Circ, entries, wireCode, typeCodes}
+use Rattle.rules.specs.Gates.{GateType, nth, gateTable, isSome, isGate}
 use Rattle.rules.specs.Terms.{Term, variable, label, gate, constant, abstraction, application, pair, let-in, lift}
 use Rattle.rules.specs.Terms.{force, box, apply}
 use Rattle.rules.specs.Sizes.{nodes}

@@ -7,13 +7,12 @@ use native.Mathlib.Omega.{arith}
 use native.Mathlib.Decide.{decLt}
 use lib.Dec.{T as IsTrue}
 use lib.ListN.{length, getD, replicate, length-append, length-map, length-replicate, List·getD-append}
-use Rattle.rules.specs.Types.{Wire, Bit, Qubit, Ty, wire, _⊗_, _⊸_, !_, Circ, isWireType, entries}
+use Rattle.rules.specs.Types.{Wire, Bit, Qubit, Ty, wire, _⊗_, _⊸_, !_, Circ, isWireType, entries, wireCode, typeCodes}
 use Rattle.rules.specs.Gates.{nth}
-use Rattle.rules.specs.GateCodes.{wireCode, typeCodes}
 use Rattle.rules.specs.Terms.{Term, variable, label, gate, constant, abstraction, application, pair, let-in, lift}
 use Rattle.rules.specs.Terms.{force, box, apply}
 use Rattle.rules.specs.Sizes.{nodes}
-use Rattle.rules.specs.Inference.{source}
+use Rattle.rules.specs.Counting.{source}
 use Rattle.program.specs.Format.{wordAt, labelCount, typeCount, termCount, firstTerm, entryCount, kindAt, argumentAt}
 use Rattle.program.specs.Reading.{readOf}
 use Rattle.program.specs.declared.ReadAnswer.the-variants.{Accepted}

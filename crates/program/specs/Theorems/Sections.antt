@@ -9,9 +9,8 @@ use native.Mathlib.Decide.{decLt}
 use lib.Dec.{T as IsTrue, eqb, ltb, eqb→eq, ltb→lt}
 use lib.ListN.{length}
 use borrow.Author.Tests.{not-false}
-use Rattle.rules.specs.Types.{Wire, Bit, Qubit, Ty, _⊗_, _⊸_, !_, Circ, isWireType}
-use Rattle.rules.specs.Gates.{nth}
-use Rattle.rules.specs.GateCodes.{isGate, wireCode}
+use Rattle.rules.specs.Types.{Wire, Bit, Qubit, Ty, _⊗_, _⊸_, !_, Circ, isWireType, wireCode}
+use Rattle.rules.specs.Gates.{nth, isGate}
 use Rattle.rules.specs.Terms.{Term, abstraction, application, pair, let-in, lift, force, box, apply}
 use Rattle.program.specs.Format.{labelCount, typeCount, termCount, firstTerm, entryCount, kindAt, argumentAt}
 use Rattle.program.specs.Format.{labelShape, typeShape, termShape, shapeAt, isKnown, shapeAllows}

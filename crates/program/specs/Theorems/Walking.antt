@@ -11,7 +11,7 @@ use Rattle.rules.specs.Terms.{Term}
 use Rattle.rules.specs.Sizes.{nodes}
 use Rattle.program.specs.Format.{labelCount, firstTerm, kindAt, argumentAt, typeShape, termShape}
 use Rattle.program.specs.Walks.{walkFrom, partsAt, partsOf, wireParts}
-use Rattle.rules.specs.Inference.{source}
+use Rattle.rules.specs.Counting.{source}
 use Rattle.program.specs.Trees.{TypeAt, bit-at, qubit-at, tensor-at, function-at, reusable-at, circ-at}
 use Rattle.program.specs.Trees.{TermAt, variable-at, label-at, abstraction-at, application-at, pair-at, let-at}
 use Rattle.program.specs.Trees.{lift-at, force-at, box-at, apply-at, gate-at, closedUnder}

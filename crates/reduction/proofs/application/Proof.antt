@@ -6,6 +6,7 @@ use borrow.Author.Needs.{needs}
 use Rattle.memory.specs.Words.{words}
 use Rattle.evaluation.specs.Walks.{at-application}
 use Rattle.nodes.specs.Nodes.{nodesIn}
+use Rattle.nodes.specs.Bytes.{nodes-copied}
 use Rattle.walking.specs.Rows.{rowsIn, rowAt, rowNode, rowStart}
 use Rattle.substitution.specs.Contractions.{applicationBody}
 use Rattle.substitution.specs.declared.Region.{Region}
@@ -105,7 +106,7 @@ returns-2 c =
     steps-answered at-application ns ns′ rs r (c .taken .result) (takenTo r at to) (c .taken .ensures)
     (application-taken ns ns₁ rs r at second source (c .before .before .before .before .before .before .before .before .before .before .before .before .before .before .before .before .before .before .applied-to .result) (c .before .before .before .before .before .before .before .before .before .before .before .before .before .before .before .before .most-between .result) at-is second-is source-is
     (c .before .before .before .before .before .before .before .before .before .before .before .before .before .before .before .before .before .before .applied-to .ensures) (c .before .before .before .before .before .before .before .before .before .before .before .before .before .before .before .before .most-between .ensures) (length (words (a .waiting .now))) enough (c .before .before .before .before .before .before .before .before .before .before .before .before .before .write-reduct .result)
-    (c .before .before .before .before .before .before .before .before .before .before .before .before .before .write-reduct .ensures) ns′ (fits .0 .0) to (fits .1) (c .before .before .before .before .before .less3 .ensures) (c .before .before .before .copy-nodes .ensures))
+    (c .before .before .before .before .before .before .before .before .before .before .before .before .before .write-reduct .ensures) ns′ (fits .0 .0) to (fits .1) (c .before .before .before .before .before .less3 .ensures) (nodes-copied _ _ _ _ _ (c .before .before .before .copy-nodes .ensures)))
 
 pub application-spec : {M : Type 1} → statement M
 application-spec =

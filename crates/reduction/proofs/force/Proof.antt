@@ -3,6 +3,7 @@ use mathlib.Core.Path.{_∙_, ap}
 use borrow.Author.Needs.{needs}
 use Rattle.evaluation.specs.Walks.{at-force}
 use Rattle.nodes.specs.Nodes.{nodesIn}
+use Rattle.nodes.specs.Bytes.{nodes-copied}
 use Rattle.walking.specs.Rows.{rowsIn, rowAt, rowNode}
 use Rattle.reduction.specs.Taking.{takenTo}
 use Rattle.reduction.specs.Reductions.{steps-answered, force-steps}
@@ -53,7 +54,7 @@ returns c =
     (found .row-node .ensures .0 ∙ ap (λ i. rowNode (rowAt rs i)) (top .less .ensures))
     (counted .less2 .ensures)
     (placed .less3 .ensures)
-    (copied .copy-nodes .ensures))
+    (nodes-copied _ _ _ _ _ (copied .copy-nodes .ensures)))
 
 pub force-spec : {M : Type 1} → statement M
 force-spec =

@@ -5,6 +5,7 @@ use borrow.Author.Needs.{needs}
 use Rattle.memory.specs.Words.{words}
 use Rattle.evaluation.specs.Walks.{at-let}
 use Rattle.nodes.specs.Nodes.{nodesIn}
+use Rattle.nodes.specs.Bytes.{nodes-copied}
 use Rattle.walking.specs.Rows.{rowsIn, rowAt, rowNode}
 use Rattle.substitution.specs.Contractions.{letBody}
 use Rattle.reduction.specs.Taking.{takenTo}
@@ -102,7 +103,7 @@ returns-2 c =
     (let-taken ns ns₁ rs r at (c .before .before .before .before .before .before .before .before .before .before .before .before .before .before .before .before .before .before .before .before .before .before .subtree-end .result) (c .before .before .before .before .before .before .before .before .before .before .before .before .before .before .before .before .before .before .before .subtree-end2 .result) k source (c .before .before .before .before .before .before .before .before .before .before .before .before .before .before .before .before .before .before .before .before .before .halves .result)
     (c .before .before .before .before .before .before .before .before .before .before .before .before .before .before .before .before .most-between .result) at-is (c .before .before .before .before .before .before .before .before .before .before .before .before .before .before .before .before .before .before .before .before .before .before .subtree-end .ensures) (c .before .before .before .before .before .before .before .before .before .before .before .before .before .before .before .before .before .before .before .subtree-end2 .ensures) (c .before .before .before .before .before .before .before .before .before .before .before .before .before .before .before .before .before .before .less2 .ensures) refl (c .before .before .before .before .before .before .before .before .before .before .before .before .before .before .before .before .before .before .before .before .before .halves .ensures)
     (c .before .before .before .before .before .before .before .before .before .before .before .before .before .before .before .before .most-between .ensures) (length (words (a .waiting .now))) enough (c .before .before .before .before .before .before .before .before .before .before .before .before .before .write-reduct .result) (c .before .before .before .before .before .before .before .before .before .before .before .before .before .write-reduct .ensures) ns′
-    (fits .0 .0) to (fits .1) (c .before .before .before .before .before .less3 .ensures) (c .before .before .before .copy-nodes .ensures))
+    (fits .0 .0) to (fits .1) (c .before .before .before .before .before .less3 .ensures) (nodes-copied _ _ _ _ _ (c .before .before .before .copy-nodes .ensures)))
 
 pub let-in-spec : {M : Type 1} → statement M
 let-in-spec =

@@ -5,7 +5,7 @@ use lib.ListN.{length}
 use borrow.Author.Needs.{needs}
 use Rattle.rules.specs.Gates.{gateTable}
 use Rattle.rules.specs.GateCodes.{inputWires, wiresIn}
-use Rattle.rules.proofs.GateTable.{of-no-gate, number-in}
+use Rattle.rules.proofs.GateTable.{of-no-gate, entry-at}
 use Rattle.rules.proofs.wires_in.Statement.{statement}
 use Rattle.rules.proofs.wires_in.Tie as tie
 
@@ -18,7 +18,8 @@ wide-requires c κs = search needs
 returns : tie.Need-returns
 unfolding wiresIn
 returns c =
-    c .wide .ensures ∙ number-in (λ g. length (inputWires g)) gateTable (c .before .before .args .n) (c .before .if1 .taken)
+    c .wide .ensures
+    ∙ entry-at (λ g. length (inputWires g)) 0 gateTable (c .before .before .args .n) (c .before .if1 .taken)
 
 returns-2 : tie.Need-returns-2
 unfolding wiresIn

@@ -5,7 +5,7 @@ use lib.ListN.{length}
 use borrow.Author.Needs.{needs}
 use Rattle.rules.specs.Gates.{gateTable, outputWires}
 use Rattle.rules.specs.GateCodes.{wiresOut}
-use Rattle.rules.proofs.GateTable.{of-no-gate, number-in}
+use Rattle.rules.proofs.GateTable.{of-no-gate, entry-at}
 use Rattle.rules.proofs.wires_out.Statement.{statement}
 use Rattle.rules.proofs.wires_out.Tie as tie
 
@@ -18,7 +18,8 @@ wide-requires c κs = search needs
 returns : tie.Need-returns
 unfolding wiresOut
 returns c =
-    c .wide .ensures ∙ number-in (λ g. length (outputWires g)) gateTable (c .before .before .args .n) (c .before .if1 .taken)
+    c .wide .ensures
+    ∙ entry-at (λ g. length (outputWires g)) 0 gateTable (c .before .before .args .n) (c .before .if1 .taken)
 
 returns-2 : tie.Need-returns-2
 unfolding wiresOut

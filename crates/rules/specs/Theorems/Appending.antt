@@ -11,12 +11,15 @@ use lib.Dec.{T as IsTrue, eqb, leb, leb→le}
 use lib.ListN.{length, length-append}
 use Rattle.rules.specs.Types.{Wire, Ty, wire, _⊗_, _⊸_, !_, Circ, isWireType, wires, entries, most-entries}
 use Rattle.rules.specs.Gates.{GateType, _to_, gateTable, nth, gateType, outputWires, gateOutputs}
-use Rattle.rules.specs.Terms.{Tuple, single, both, labels, tupleFrom, Gate, _on_, constant, tuple}
-use Rattle.rules.specs.Circuits.{outputs, numbers, madeBy, taken, one-if, count, OfTypes, no-wire, next-wire}
+use Rattle.rules.specs.Terms.{Tuple, single, both, labels, tupleFrom, Gate, _on_, Term, variable, label, gate}
+use Rattle.rules.specs.Terms.{constant, abstraction, application, pair, let-in, lift, force, box, apply, tuple, termLabels}
+use Rattle.rules.specs.Circuits.{outputs, numbers, madeBy, taken, count, OfTypes, wires-end, next-wire}
 use Rattle.rules.specs.Circuits.{TakesEarlier, no-gate, next-gate, Sound, if-none, loose, GoneOnce}
 use Rattle.rules.specs.Circuits.{rename, renameGate, renameTuple, gateBoxed}
 use Rattle.rules.specs.Typing.{LabelContext, Shares, nowhere, left, right, copied, split-end, Never, SplitsLabels}
 use Rattle.rules.specs.Typing.{parameters-end, OnlyLabel, Bounded, _∣_⊢_∶_, by-label, by-circ, by-tuple}
+use Rattle.rules.specs.Inference.{labelUses}
+use Rattle.rules.specs.Theorems.Counting.{closed→plain, has→counted, plain-unused}
 use Rattle.rules.specs.Theorems.Wires.{Compared, equal, unequal, compared, one-if-equal, one-if-unequal}
 use Rattle.rules.specs.Theorems.Wires.{count-append, count-map, count-map-none, count-above}
 use Rattle.rules.specs.Theorems.Wires.{count-between, numbers-append, nth-append-right, nth-append-left}
@@ -132,39 +135,66 @@ abbrev pub present : Option Wire → ℕ
 present none = 0
 present (some α) = 1
 
-present-shares : {a a₁ a₂ : Option Wire} → Shares Never a a₁ a₂ → present a ≡ present a₁ + present a₂
-present-shares nowhere = refl
-present-shares left = refl
-present-shares right = refl
-present-shares (copied n) = absurd n
+uses-of-two : (ℓ : ℕ) (M N : Term)
+    → count ℓ (termLabels M) ≡ labelUses ℓ M → count ℓ (termLabels N) ≡ labelUses ℓ N
+    → count ℓ (termLabels M ++ termLabels N) ≡ labelUses ℓ M + labelUses ℓ N
+uses-of-two ℓ M N p q = count-append ℓ (termLabels M) (termLabels N) ∙ ap₂ _+_ p q
 
--- A typed label tuple holds each label of its context once, and no other.
+-- A label stands in a term as often as the term uses it.
+uses-counted : (ℓ : ℕ) (M : Term) → count ℓ (termLabels M) ≡ labelUses ℓ M
+uses-counted ℓ (variable n) = refl
+uses-counted ℓ (label k) = omega arith
+uses-counted ℓ (gate n) = refl
+uses-counted ℓ (constant b) = refl
+uses-counted ℓ (abstraction A M) = uses-counted ℓ M
+uses-counted ℓ (application M N) = uses-of-two ℓ M N (uses-counted ℓ M) (uses-counted ℓ N)
+uses-counted ℓ (pair M N) = uses-of-two ℓ M N (uses-counted ℓ M) (uses-counted ℓ N)
+uses-counted ℓ (let-in M N) = uses-of-two ℓ M N (uses-counted ℓ M) (uses-counted ℓ N)
+uses-counted ℓ (lift M) = uses-counted ℓ M
+uses-counted ℓ (force M) = uses-counted ℓ M
+uses-counted ℓ (box T M) = uses-counted ℓ M
+uses-counted ℓ (apply M N) = uses-of-two ℓ M N (uses-counted ℓ M) (uses-counted ℓ N)
+
+-- A typed term holds each label of its context once, and no other.
+pub labels-once : {Q : LabelContext} {M : Term} {A : Ty}
+    → [] ∣ Q ⊢ M ∶ A → (ℓ : ℕ) → count ℓ (termLabels M) ≡ present (Q ℓ)
+labels-once {Q} {M} d ℓ = uses-counted ℓ M ∙ of (Q ℓ) refl
+  where
+    of : (a : Option Wire) → Q ℓ ≡ a → labelUses ℓ M ≡ present a
+    of none p = plain-unused (closed→plain d) ℓ p
+    of (some α) p = has→counted d .labels-once ℓ α p
+
+-- The labels of a label tuple are those of the term that it is.
+pub labels-of-tuple : (r : Tuple) → termLabels (tuple r) ≡ labels r
+labels-of-tuple (single ℓ) = refl
+labels-of-tuple (both t u) = ap₂ _++_ (labels-of-tuple t) (labels-of-tuple u)
+
 pub tuple-labels-once : (r : Tuple) {Q : LabelContext} {U : Ty}
     → [] ∣ Q ⊢ tuple r ∶ U → (ℓ : ℕ) → count ℓ (labels r) ≡ present (Q ℓ)
-tuple-labels-once (single k) {Q = Q} (by-label {α = α} p o) ℓ = of-test (eqb ℓ k) (compared ℓ k)
-  where
-    of-test : (b : Bool) → Compared ℓ k b → one-if b + 0 ≡ present (Q ℓ)
-    of-test _ (equal q) = rw q (rw (o .0) refl)
-    of-test _ (unequal f) = rw (o .1 ℓ f) refl
-tuple-labels-once (both t u) (by-tuple b split-end s d e) ℓ =
-    count-append ℓ (labels t) (labels u)
-    ∙ ap₂ _+_ (tuple-labels-once t d ℓ) (tuple-labels-once u e ℓ)
-    ∙ sym (present-shares (s ℓ))
+tuple-labels-once r d ℓ = ap (count ℓ) (sym (labels-of-tuple r)) ∙ labels-once d ℓ
 
 present-within : (M : List Wire) (w : ℕ) → w < length M → present (nth M w) ≡ 1
 present-within M w h = let a = nth-within M w h in rw (a .1) refl
 
--- 01: "each wire has gone exactly once", to a gate or to one place of the result, if the result is a typed label tuple.
-pub gone-once : (I : List Wire) (gs : List Gate) (r : Tuple) {U : Ty}
+-- Each wire has gone exactly once, to a gate or to one place of a typed term.
+pub gone-once : (I : List Wire) (gs : List Gate) {M : Term} {A : Ty}
     → ((w : ℕ) → count w (taken gs) ≤ 1)
-    → [] ∣ loose I gs ⊢ tuple r ∶ U
-    → GoneOnce I gs r
-gone-once I gs r once d w h = of-count (count w (taken gs)) (once w) (tuple-labels-once r d w)
+    → [] ∣ loose I gs ⊢ M ∶ A
+    → GoneOnce I gs (termLabels M)
+gone-once I gs {M} once d w h =
+    count-append w (taken gs) (termLabels M) ∙ of-count (count w (taken gs)) (once w) (labels-once d w)
   where
-    of-count : (c : ℕ) → c ≤ 1 → count w (labels r) ≡ present (if-none c (nth (I ++ outputs gs) w))
-        → c + count w (labels r) ≡ 1
+    of-count : (c : ℕ) → c ≤ 1 → count w (termLabels M) ≡ present (if-none c (nth (I ++ outputs gs) w))
+        → c + count w (termLabels M) ≡ 1
     of-count zero l p = omega (arith, present-within (I ++ outputs gs) w h)
     of-count (suc c) l p = omega arith
+
+-- The same where the term is a label tuple.
+pub tuple-gone-once : (I : List Wire) (gs : List Gate) (r : Tuple) {U : Ty}
+    → ((w : ℕ) → count w (taken gs) ≤ 1)
+    → [] ∣ loose I gs ⊢ tuple r ∶ U
+    → GoneOnce I gs (labels r)
+tuple-gone-once I gs r once d = subst (GoneOnce I gs) (labels-of-tuple r) (gone-once I gs once d)
 
 shares-some-left : {a a₁ a₂ : Option Wire} {α : Wire} → Shares Never a a₁ a₂ → a₁ ≡ some α → a ≡ some α
 shares-some-left nowhere p = p
@@ -180,12 +210,12 @@ shares-some-right (copied n) p = absurd n
 
 of-types-append : {types : List Wire} {xs ys : List ℕ} {αs βs : List Wire}
     → OfTypes types xs αs → OfTypes types ys βs → OfTypes types (xs ++ ys) (αs ++ βs)
-of-types-append no-wire e = e
+of-types-append wires-end e = e
 of-types-append (next-wire p d) e = next-wire p (of-types-append d e)
 
 of-types-below : {types : List Wire} {ws : List ℕ} {αs : List Wire}
     → OfTypes types ws αs → (v : ℕ) → length types ≤ v → count v ws ≡ 0
-of-types-below no-wire v h = refl
+of-types-below wires-end v h = refl
 of-types-below {types} (next-wire {w = w} p d) v h =
     let l = nth-some-within types w p in
     omega (arith, one-if-unequal v w (omega arith), of-types-below d v h)
@@ -195,7 +225,7 @@ labels-of-types : (k : Tuple) {Q : LabelContext} {T : Ty} (types : List Wire)
     → ((ℓ : ℕ) (α : Wire) → Q ℓ ≡ some α → nth types ℓ ≡ some α)
     → [] ∣ Q ⊢ tuple k ∶ T
     → OfTypes types (labels k) (wires T)
-labels-of-types (single ℓ) types known (by-label {α = α} p o) = next-wire (known ℓ α (o .0)) no-wire
+labels-of-types (single ℓ) types known (by-label {α = α} p o) = next-wire (known ℓ α (o .0)) wires-end
 labels-of-types (both t u) types known (by-tuple b split-end s d e) =
     of-types-append
     (labels-of-types t types (λ ℓ α p. known ℓ α (shares-some-left (s ℓ) p)) d)
@@ -240,7 +270,7 @@ append-taken ℓs b ((n on ws) ∷ gs) hs =
 -- A renamed wire has the type that it had.
 rename-type : {M : List Wire} {ℓs : List ℕ} {αs : List Wire}
     → OfTypes M ℓs αs → (X : List Wire) (w : ℕ) → nth (M ++ X) (rename ℓs (length M) w) ≡ nth (αs ++ X) w
-rename-type {M} no-wire X w = nth-append-right M X w
+rename-type {M} wires-end X w = nth-append-right M X w
 rename-type {M} (next-wire {w = ℓ} p d) X zero = nth-append-left M X ℓ (nth-some-within M ℓ p) ∙ p
 rename-type (next-wire p d) X (suc w) = rename-type d X w
 
@@ -248,7 +278,7 @@ rename-types : {M : List Wire} {ℓs : List ℕ} {αs : List Wire} → OfTypes M
     {ws : List ℕ} {βs : List Wire}
     → OfTypes (αs ++ X) ws βs
     → OfTypes (M ++ X) (map (rename ℓs (length M)) ws) βs
-rename-types o X no-wire = no-wire
+rename-types o X wires-end = wires-end
 rename-types o X (next-wire {w = w} p d) = next-wire (rename-type o X w ∙ p) (rename-types o X d)
 
 -- The copied gates take wires made before them, of their types.
@@ -574,7 +604,7 @@ table-fitting = tt
 numbers-of-types : (types : List Wire) (n : ℕ) (αs : List Wire)
     → ((w : ℕ) → nth types (n + w) ≡ nth αs w)
     → OfTypes types (numbers n (length αs)) αs
-numbers-of-types types n [] known = no-wire
+numbers-of-types types n [] known = wires-end
 numbers-of-types types n (α ∷ αs) known =
     next-wire
     (ap (nth types) (sym (add-zero n)) ∙ known 0)

@@ -17,9 +17,11 @@ use Rattle.rules.specs.Typing.{split-end, _then_, Never, SplitsLabels, P
 use Rattle.rules.specs.Typing.{Variable, here, past-absent, past-parameter, NoLabel, OnlyLabel, _∣_⊢_∶_, by-var}
 use Rattle.rules.specs.Typing.{by-label, by-gate, by-circ, by-abs, by-app, by-tuple, by-let, by-lift, by-force}
 use Rattle.rules.specs.Typing.{by-box, by-apply}
-use Rattle.rules.specs.Inference.{uses, labelUses, Linear, Plain, plain-var, plain-label, plain-gate, plain-circ}
-use Rattle.rules.specs.Inference.{plain-abs, plain-app, plain-tuple, plain-let, plain-lift, plain-force, plain-box}
-use Rattle.rules.specs.Inference.{plain-apply, BoundOnce, NoneCrosses, Counted}
+use Rattle.rules.specs.Inference.{uses, labelUses}
+use Rattle.rules.specs.Counting.{Plain, plain-var, plain-label, plain-gate, plain-circ}
+use Rattle.rules.specs.Inference.{Linear}
+use Rattle.rules.specs.Counting.{plain-abs, plain-app, plain-tuple, plain-let, plain-lift, plain-force, plain-box}
+use Rattle.rules.specs.Counting.{plain-apply, BoundOnce, NoneCrosses, Counted}
 
 -- The context of a part of a term against the types of all variables in scope: a variable that is the part's own has
 -- its type there, one that another part has is left out.
@@ -534,7 +536,7 @@ plain→has {Γ} {Δ} {Q} P p q (plain-apply {M = M} {N = N} d e) v l b c =
     (plain→has P (part-right (s .2) p) (labels-right Q (t .0) (t .1) P (t .2) q) e (s .4) (t .4) (b .1) (c .1))
 
 -- A label that is not there is not used by a term that has a plain type.
-plain-unused : {Γ : List Ty} {Q : LabelContext} {M : Term} {A : Ty}
+pub plain-unused : {Γ : List Ty} {Q : LabelContext} {M : Term} {A : Ty}
     → Plain Γ Q M A → (ℓ : ℕ) → Q ℓ ≡ none → labelUses ℓ M ≡ 0
 plain-unused (plain-var e) ℓ n = refl
 plain-unused {Q = Q} (plain-label {ℓ = k} {α = α} e) ℓ n = go (eqb ℓ k) refl

@@ -14,10 +14,11 @@ use Rattle.rules.specs.Contexts.{EvaluationContext, hole, application-le
 use Rattle.rules.specs.Contexts.{pair-right, let-first, force-of, box-of, apply-left, apply-right, plug}
 use Rattle.rules.specs.Steps.{Frame, frame, Configuration, configuration, _⟶_, β-reduction, let-step, force-step}
 use Rattle.rules.specs.Steps.{apply-gate, apply-constant, box-entry, box-exit}
-use Rattle.rules.specs.Next.{Found, is-value, reducible, free, within, both-values, find, joined, tupleOf}
+use Rattle.rules.specs.Next.{Found, is-value, reducible, free, within, find, joined, tupleOf}
 use Rattle.rules.specs.Next.{View, abstraction-view, pair-view, lift-view, gate-view, constant-view, other-view}
 use Rattle.rules.specs.Next.{view, stepApplication, stepLet, stepForce, stepBox, append, appendGate, stepApply}
 use Rattle.rules.specs.Next.{stepRedex, closeBox, closeRedex, closeFound, exit, stepFound, next}
+use Rattle.rules.specs.Values.{both-values}
 
 -- A proto-redex (000, definition 2.16): P ::= V W | let ⟨x, y⟩ = V in N | force V | box_T V | apply(V, W).
 pub data Proto : Term → Type 0 where

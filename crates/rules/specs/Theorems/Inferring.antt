@@ -11,10 +11,12 @@ use Rattle.rules.specs.Gates.{GateType, _to_, gateType}
 use Rattle.rules.specs.Terms.{Term, variable, label, gate, constant, abstraction}
 use Rattle.rules.specs.Terms.{application, pair, let-in, lift, force, box, apply}
 use Rattle.rules.specs.Typing.{LabelContext, Bounded, _∣_⊢_∶_}
-use Rattle.rules.specs.Inference.{Plain, plain-var, plain-label, plain-gate, plain-circ, plain-abs, plain-app}
-use Rattle.rules.specs.Inference.{plain-tuple, plain-let, plain-lift, plain-force, plain-box, plain-apply}
-use Rattle.rules.specs.Inference.{Counted, source, asPair, asFunction, asReusable, asCirc, given, if-true, isYes}
-use Rattle.rules.specs.Inference.{same, if-bounded, gateNodeType, infer}
+use Rattle.rules.specs.Counting.{Plain, plain-var, plain-label, plain-gate, plain-circ, plain-abs, plain-app}
+use Rattle.rules.specs.Counting.{plain-tuple, plain-let, plain-lift, plain-force, plain-box, plain-apply}
+use Rattle.rules.specs.Inference.{asPair, asFunction, asReusable, asCirc, given, if-true, isYes}
+use Rattle.rules.specs.Counting.{Counted, source}
+use Rattle.rules.specs.Inference.{same, if-bounded, gateNodeType}
+use Rattle.rules.specs.Inference.{infer}
 use Rattle.rules.specs.Theorems.Counting.{closed→plain, has→counted, counted→has}
 
 -- If something follows, there was something that it follows from.

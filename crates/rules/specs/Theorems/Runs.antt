@@ -1,6 +1,7 @@
 -- What comes of taking steps one after another is what the rules say, in each of the three endings.
 use Prim.Native.Nat.{ℕ, zero, suc, _+_, _-_, _≤_, _<_}
 use native.Mathlib.Omega.{arith}
+use native.Mathlib.Nat.{zero-add, suc-add}
 use mathlib.Core.Path.{_≡_, refl, sym, _∙_, ap, ap₂, subst}
 use mathlib.Core.Logic.{_⊎_, inl, inr}
 use mathlib.Core.Bool.{Bool, true, false, _&&_}
@@ -334,6 +335,134 @@ not-fitting-means allowance k c typed = record { says = says-so; only = only-so 
         ∙ ap (λ m. advanced allowance m n d) some-left
         ∙ exceeding-ends allowance (k - suc n) n d (h .following) (step→next (h .step))
         (false-fits allowance (h .following) (h .exceeds))
+
+-- What fits with an allowance of gates fits with a larger one.
+fits-more : {a b : ℕ} {c : Configuration} → a ≤ b → Fits a c → Fits b c
+fits-more {a} {b} h f =
+    record {
+      nodes-fit = f .nodes-fit;
+      gates-fit = omega (arith, f .gates-fit);
+      boxes-fit = f .boxes-fit;
+    }
+
+-- A turn that fits with a smaller allowance, where what comes after it is the same with both.
+module _ (a b k n : ℕ) (c : Configuration) (less : a ≤ b)
+    (later : (d : Configuration)
+    → (advanced a k (suc n) d .ending ≡ does-not-fit → ⊥)
+    → advanced a k (suc n) d ≡ advanced b k (suc n) d) where
+  same-if-fitting : (d : Configuration) (t : Bool)
+      → fits a d ≡ t
+      → (turnTo t n c (advanced a k (suc n) d) .ending ≡ does-not-fit → ⊥)
+      → turnTo t n c (advanced a k (suc n) d) ≡ turnTo (fits b d) n c (advanced b k (suc n) d)
+  same-if-fitting d true p h =
+      let fitting : Fits a d = fits-true a d (subst IsTrue (sym p) tt) in
+      let more : fits b d ≡ true = is-true (fits b d) (true-fits b d (fits-more less fitting)) in
+      later d h ∙ ap (λ t. turnTo t n c (advanced b k (suc n) d)) (sym more)
+  same-if-fitting d false p h = absurd (h refl)
+
+  same-turn : (d : Option Configuration)
+      → (oneTurn a (advanced a k (suc n)) n c d .ending ≡ does-not-fit → ⊥)
+      → oneTurn a (advanced a k (suc n)) n c d ≡ oneTurn b (advanced b k (suc n)) n c d
+  same-turn none h = refl
+  same-turn (some d) h = same-if-fitting d (fits a d) refl h
+
+-- The allowance matters only where it is exceeded: steps that end otherwise end alike with a larger one.
+pub larger-allowance : (a b k n : ℕ) (c : Configuration)
+    → a ≤ b
+    → (advanced a k n c .ending ≡ does-not-fit → ⊥)
+    → advanced a k n c ≡ advanced b k n c
+larger-allowance a b zero n c less h = refl
+larger-allowance a b (suc k) n c less h =
+    same-turn a b k n c less (λ d. larger-allowance a b k (suc n) d less) (next c) h
+
+-- What comes of at most R more steps after what came of earlier ones: of those that had ended, the same.
+abbrev pub continuedAs : ℕ → ℕ → Reached → Ending → Reached
+continuedAs allowance R r at-finish = r
+continuedAs allowance R r still-running = advanced allowance R (r .steps) (r .reached)
+continuedAs allowance R r does-not-fit = r
+
+abbrev pub continued : ℕ → ℕ → Reached → Reached
+continued allowance R r = continuedAs allowance R r (r .ending)
+
+-- At most S steps and then at most R more are at most S + R.
+pub in-two-parts : (allowance S R n : ℕ) (c : Configuration)
+    → advanced allowance (S + R) n c ≡ continued allowance R (advanced allowance S n c)
+in-two-parts allowance zero R n c =
+    ap (λ k. advanced allowance k n c) (zero-add R) ∙ of (next c) refl
+  where
+    of : (d : Option Configuration)
+        → next c ≡ d
+        → advanced allowance R n c ≡ continued allowance R (lastTurn n c d)
+    of none p = none-ends allowance R n c p
+    of (some d) p = refl
+in-two-parts allowance (suc S) R n c =
+    ap (λ k. advanced allowance k n c) (suc-add S R) ∙ of (next c) (in-two-parts allowance S R (suc n))
+  where
+    fitting : (d : Configuration) (t : Bool)
+        → advanced allowance (S + R) (suc n) d ≡ continued allowance R (advanced allowance S (suc n) d)
+        → turnTo t n c (advanced allowance (S + R) (suc n) d)
+        ≡ continued allowance R (turnTo t n c (advanced allowance S (suc n) d))
+    fitting d true later = later
+    fitting d false later = refl
+
+    of : (d : Option Configuration)
+        → ((e : Configuration)
+        → advanced allowance (S + R) (suc n) e ≡ continued allowance R (advanced allowance S (suc n) e))
+        → oneTurn allowance (advanced allowance (S + R) (suc n)) n c d
+        ≡ continued allowance R (oneTurn allowance (advanced allowance S (suc n)) n c d)
+    of none later = refl
+    of (some d) later = fitting d (fits allowance d) (later d)
+
+-- Steps that go on at the end are as many as were asked for.
+pub running-steps : (allowance S n : ℕ) (c : Configuration)
+    → advanced allowance S n c .ending ≡ still-running
+    → advanced allowance S n c .steps ≡ n + S
+running-steps allowance zero n c h = of (next c) h
+  where
+    of : (d : Option Configuration) → lastTurn n c d .ending ≡ still-running → lastTurn n c d .steps ≡ n + zero
+    of none e = let z : _≡_ {A = ℕ} 0 1 = cc in absurd (omega arith)
+    of (some d) e = omega arith
+running-steps allowance (suc S) n c h = of (next c) (running-steps allowance S (suc n)) h
+  where
+    Later : Configuration → Type 0
+    Later d =
+        advanced allowance S (suc n) d .ending ≡ still-running
+        → advanced allowance S (suc n) d .steps ≡ suc n + S
+
+    fitting : (d : Configuration) (t : Bool)
+        → Later d
+        → turnTo t n c (advanced allowance S (suc n) d) .ending ≡ still-running
+        → turnTo t n c (advanced allowance S (suc n) d) .steps ≡ n + suc S
+    fitting d true later e = let more = later e in omega arith
+    fitting d false later e = let z : _≡_ {A = ℕ} 0 1 = cc in absurd (omega arith)
+
+    of : (d : Option Configuration)
+        → ((e : Configuration) → Later e)
+        → oneTurn allowance (advanced allowance S (suc n)) n c d .ending ≡ still-running
+        → oneTurn allowance (advanced allowance S (suc n)) n c d .steps ≡ n + suc S
+    of none later e = let z : _≡_ {A = ℕ} 0 1 = cc in absurd (omega arith)
+    of (some d) later e = fitting d (fits allowance d) (later d) e
+
+-- If S steps end in d and there is a next one, going on from d with at most R more comes to what at most S + R come to.
+pub going-on : (allowance S R n m : ℕ) (c d : Configuration)
+    → advanced allowance S n c ≡ ended still-running m d
+    → (m ≡ n + S) × (advanced allowance R m d ≡ advanced allowance (S + R) n c)
+going-on allowance S R n m c d e = (
+  sym (ap (λ r. r .steps) e) ∙ running-steps allowance S n c (ap (λ r. r .ending) e),
+  sym (in-two-parts allowance S R n c ∙ ap (continued allowance R) e),
+)
+
+-- If at most S steps have ended otherwise, at most S + R end just so.
+pub ended-already : (allowance S R n : ℕ) (c : Configuration)
+    → (advanced allowance S n c .ending ≡ still-running → ⊥)
+    → advanced allowance (S + R) n c ≡ advanced allowance S n c
+ended-already allowance S R n c h =
+    in-two-parts allowance S R n c ∙ of (advanced allowance S n c) (advanced allowance S n c .ending) h
+  where
+    of : (r : Reached) (e : Ending) → (e ≡ still-running → ⊥) → continuedAs allowance R r e ≡ r
+    of r at-finish h = refl
+    of r still-running h = absurd (h refl)
+    of r does-not-fit h = refl
 
 -- A step keeps the inputs of the outermost circuit.
 pub inputs-kept : {c d : Configuration} → c ⟶ d → outermostInputs d ≡ outermostInputs c

@@ -1,33 +1,35 @@
 -- Preservation (000, theorem 2.17), progress (000, theorem 2.18) and demand 3, for stacked configurations.
-use Prim.Native.Nat.{ℕ, zero, suc, _≤_}
+use Prim.Native.Nat.{ℕ, suc}
 use native.Mathlib.Omega.{arith}
 use mathlib.Core.Path.{_≡_, refl, sym, _∙_, subst, fun-ext}
 use mathlib.Core.Logic.{_⊎_, inl, inr}
 use mathlib.Core.List.{List, [], _∷_}
-use mathlib.Core.Option.{Option, none, some}
+use mathlib.Core.Option.{none, some}
 use lib.Dec.{T as IsTrue}
-use Rattle.rules.specs.Types.{Wire, Ty, wire, _⊗_, _⊸_, !_, Circ, isWireType, wires}
-use Rattle.rules.specs.Gates.{GateType, _to_, nth, gateType}
-use Rattle.rules.specs.Terms.{Tuple, tupleFrom, Gate, Boxed, boxed, Term, variable, label, gate, constant}
+use Rattle.rules.specs.Types.{Wire, Ty, _⊗_, _⊸_, !_, Circ, isWireType, wires}
+use Rattle.rules.specs.Gates.{_to_, nth, gateType}
+use Rattle.rules.specs.Terms.{Tuple, tupleFrom, Gate, Boxed, boxed, Term, gate, constant}
 use Rattle.rules.specs.Terms.{abstraction, application, pair, let-in, lift, force, box, apply, value, tuple, substitute}
-use Rattle.rules.specs.Circuits.{Circuit, circuit, Sound, loose, GoneOnce, appended, returned, gateBoxed}
-use Rattle.rules.specs.Typing.{LabelContext, SplitsLabels, split-end, NoLabel, Bounded, _∣_⊢_∶_}
+use Rattle.rules.specs.Circuits.{Circuit, circuit, Sound, loose, appended, returned, gateBoxed}
+use Rattle.rules.specs.Typing.{LabelContext, split-end, NoLabel, Bounded, _∣_⊢_∶_}
 use Rattle.rules.specs.Typing.{by-var, by-label, by-gate, by-circ, by-abs, by-app, by-tuple, by-let, by-lift}
 use Rattle.rules.specs.Typing.{by-force, by-box, by-apply, parameters-end}
 use Rattle.rules.specs.Contexts.{EvaluationContext, hole, application-left, application-right, pair-left, pair-right}
 use Rattle.rules.specs.Contexts.{let-first, force-of, box-of, apply-left, apply-right, plug}
 use Rattle.rules.specs.Steps.{Frame, frame, Configuration, configuration, start, _⟶_, β-reduction, let-step}
 use Rattle.rules.specs.Steps.{force-step, apply-gate, apply-constant, box-entry, box-exit}
-use Rattle.rules.specs.Next.{both-values}
 use Rattle.rules.specs.Sizes.{Fits, Row, no-step, one-more}
 use Rattle.rules.specs.Demand3.{FrameHas, frame-has, FramesHave, outermost, opened, ClosedHave, none-closed, one-closed}
 use Rattle.rules.specs.Demand3.{ProgramHas, program-has, Finished, finished, OpenSound, none-open, one-open}
-use Rattle.rules.specs.Demand3.{ClosedSound, none-left, one-left, CircuitsSound, circuits-sound, AllGone, all-gone, Demand3}
+use Rattle.rules.specs.Demand3.{ClosedSound, none-left, one-left, CircuitsSound, circuits-sound}
+use Rattle.rules.specs.Demand3.{AllGone, all-gone, GoneToTuple, gone-to-tuple, Demand3}
+use Rattle.rules.specs.Values.{both-values}
 use Rattle.rules.specs.Theorems.Labels.{splits-none-left, splits-left-none}
 use Rattle.rules.specs.Theorems.Substitution.{copyable-no-label, substitute-one, substitute-two, canonical-function}
 use Rattle.rules.specs.Theorems.Substitution.{canonical-pair, canonical-reusable, canonical-circ, canonical-wires}
 use Rattle.rules.specs.Theorems.Substitution.{circ-wire-types, Plugged, plug-has}
-use Rattle.rules.specs.Theorems.Appending.{empty-sound, empty-loose, tupleFrom-has, gone-once, append-has, gate-has}
+use Rattle.rules.specs.Theorems.Appending.{empty-sound, empty-loose, tupleFrom-has, gone-once, tuple-gone-once}
+use Rattle.rules.specs.Theorems.Appending.{append-has, gate-has}
 use Rattle.rules.specs.Theorems.Counting.{unique-types}
 use Rattle.rules.specs.Theorems.Deterministic.{deterministic, same-box, value-no-step}
 
@@ -106,9 +108,6 @@ apply-redex {Q} {M = M} {N = N} {T = T} {U = U} d e v w =
         (gate-redex (c .0) k (subst (λ P. [] ∣ Q ⊢ P ∶ Circ T U) (c .1) d))
     of k (inr c) = subst (λ P. Redex (apply P (tuple k))) (sym (c .1)) (at-constant (c .0) k)
 
-and-true : (M N : Term) → IsTrue (value M) → IsTrue (value N) → IsTrue (value (pair M N))
-and-true M N v w = both-values M N v w
-
 -- Progress for a term: it is a value, or its next redex stands in an evaluation context.
 pub term-progress : {Q : LabelContext} {M : Term} {A : Ty} → [] ∣ Q ⊢ M ∶ A → Progress M
 term-progress (by-var h q) = elim h [ ]
@@ -127,7 +126,7 @@ term-progress (by-tuple {M = M} {N = N} b split-end s d e) = two (term-progress 
     two : Progress M → Progress N → Progress (pair M N)
     two (inr r) x = inr (inside M _ (λ E. pair-left E N) (λ P. pair P N) (λ E R. refl) refl r)
     two (inl v) (inr r) = inr (inside N _ (pair-right M v) (pair M) (λ E R. refl) refl r)
-    two (inl v) (inl w) = inl (and-true M N v w)
+    two (inl v) (inl w) = inl (both-values M N v w)
 term-progress (by-let {M = M} {N = N} split-end s d e) = one (term-progress d)
   where
     one : Progress M → Progress (let-in M N)
@@ -421,7 +420,7 @@ progress (program-has {K = K} (opened {gs = gs} {N = N} {P = P} {C = C} {X = X} 
     of (inr r) = reduces-step r
 
 -- The program at the start has its type.
-start-has : (L : List Wire) {M : Term} {A : Ty} → [] ∣ nth L ⊢ M ∶ A → ProgramHas A (start L M)
+pub start-has : (L : List Wire) {M : Term} {A : Ty} → [] ∣ nth L ⊢ M ∶ A → ProgramHas A (start L M)
 start-has L {M} {A} d =
     program-has
     (outermost (frame-has (empty-sound L) (subst (λ Q. [] ∣ Q ⊢ M ∶ A) (sym (empty-loose L)) d)))
@@ -450,7 +449,7 @@ constant-sound : {b : Boxed} {T U : Ty} {Q : LabelContext} {K : List Boxed}
     → [] ∣ Q ⊢ constant b ∶ Circ T U
     → ClosedSound K
     → ClosedSound (b ∷ K)
-constant-sound (by-circ {T = T} {gs = gs} {r = r} p q t b s d) k = one-left s (gone-once (wires T) gs r (s .taken-once) d) k
+constant-sound (by-circ {T = T} {gs = gs} {r = r} p q t b s d) k = one-left s (tuple-gone-once (wires T) gs r (s .taken-once) d) k
 
 closed-sound : {K : List Boxed} → ClosedHave K → ClosedSound K
 closed-sound none-closed = none-left
@@ -459,29 +458,39 @@ closed-sound (one-closed T U d k) = constant-sound d (closed-sound k)
 program-sound : {A : Ty} {c : Configuration} → ProgramHas A c → CircuitsSound c
 program-sound (program-has h k) = circuits-sound (frames-sound h) (closed-sound k)
 
--- At the finish of a program of wire type each wire has gone exactly once.
-program-gone : {A : Ty} {c : Configuration} → IsTrue (isWireType A) → Finished c → ProgramHas A c → AllGone c
-program-gone {A} t (finished v) (program-has (outermost (frame-has {I = I} {gs = gs} {M = M} s d)) k) =
+-- At the finish each wire has gone exactly once.
+program-gone : {A : Ty} {c : Configuration} → Finished c → ProgramHas A c → AllGone c
+program-gone (finished v) (program-has (outermost (frame-has {I = I} {gs = gs} s d)) k) =
+    all-gone (gone-once I gs (s .taken-once) d)
+
+-- If the program has a wire type, to a gate or to the label tuple that it finished as.
+program-gone-to-tuple : {A : Ty} {c : Configuration}
+    → IsTrue (isWireType A)
+    → Finished c
+    → ProgramHas A c
+    → GoneToTuple c
+program-gone-to-tuple {A} t (finished v) (program-has (outermost (frame-has {I = I} {gs = gs} {M = M} s d)) k) =
     let (r, p) = canonical-wires t v d in
-    all-gone r p (gone-once I gs r (s .taken-once) (subst (λ N. [] ∣ loose I gs ⊢ N ∶ A) p d))
+    gone-to-tuple r p (tuple-gone-once I gs r (s .taken-once) (subst (λ N. [] ∣ loose I gs ⊢ N ∶ A) p d))
 
 -- Where the program is finished there is no step.
 pub finished-stops : {c d : Configuration} → Finished c → c ⟶ d → ⊥
 finished-stops (finished v) s = value-no-step v s
 
--- DEMAND 3, for every program that the rules type with exactly its inputs as labels and every row of steps that fit.
-pub demand3 : {allowance : ℕ} {L : List Wire} {M : Term} {A : Ty} {n : ℕ} {c : Configuration}
-    → [] ∣ nth L ⊢ M ∶ A
-    → Row allowance (start L M) n c
-    → Demand3 allowance L M A n c
-demand3 {allowance} {L} {M} {A} {n} {c} d r =
-    let has : ProgramHas A c = row-keeps r (start-has L d) in
+-- DEMAND 3, for every configuration that has a type and every row of steps that fit from there.
+pub demand3-from : {allowance : ℕ} {c₀ : Configuration} {A : Ty} {n : ℕ} {c : Configuration}
+    → ProgramHas A c₀
+    → Row allowance c₀ n c
+    → Demand3 allowance c₀ A n c
+demand3-from {allowance} {c₀} {A} {n} {c} typed r =
+    let has : ProgramHas A c = row-keeps r typed in
     record {
       type-kept = has;
       goes-on = onward (progress has);
       circuits = program-sound has;
       ends = λ e s misfit f r′. longer s misfit r′;
-      gone = λ t f. program-gone t f has;
+      gone = λ f. program-gone f has;
+      gone-to-outputs = λ t f. program-gone-to-tuple t f has;
     }
   where
     onward : Finished c ⊎ ((e : Configuration) × (c ⟶ e))
@@ -493,8 +502,15 @@ demand3 {allowance} {L} {M} {A} {n} {c} d r =
     longer : {e f : Configuration}
         → c ⟶ e
         → (Fits allowance e → ⊥)
-        → Row allowance (start L M) (suc n) f
+        → Row allowance c₀ (suc n) f
         → ⊥
     longer {e} {f} s misfit (one-more r′ t fits) =
         let u : c ⟶ f = subst (λ x. x ⟶ f) (row-unique r′ r) t in
         misfit (subst (λ x. Fits allowance x) (deterministic u s) fits)
+
+-- So for every program that the rules type with exactly its inputs as labels, from its start.
+pub demand3 : {allowance : ℕ} {L : List Wire} {M : Term} {A : Ty} {n : ℕ} {c : Configuration}
+    → [] ∣ nth L ⊢ M ∶ A
+    → Row allowance (start L M) n c
+    → Demand3 allowance (start L M) A n c
+demand3 {L = L} d r = demand3-from (start-has L d) r

@@ -4,6 +4,7 @@ use native.Mathlib.Omega.{arith}
 use mathlib.Core.Path.{sym, _∙_, ap}
 use borrow.Author.Needs.{needs}
 use Rattle.memory.specs.Words.{words}
+use Rattle.memory.specs.Laws.{word-put}
 use Rattle.substitution.specs.Waiting.{stackOf, binders-few, one-pushed, two-pushed, waiting-none}
 use Rattle.substitution.proofs.wait_for_parts.Statement.{statement}
 use Rattle.substitution.proofs.wait_for_parts.Tie as tie
@@ -39,7 +40,7 @@ returns c =
           (a .binders + c .before .before .before .before .before .binders-of .result)
           (sym (c .before .before .before .before .before .before .parts-of .ensures .0) ∙ c .before .before .before .before .if1 .taken)
           (ap (λ x. a .binders + x) (c .before .before .before .before .before .binders-of .ensures))
-          (c .before .before .put .ensures .0),
+          (word-put _ _ _ _ (c .before .before .put .ensures)),
     )
 
 put-requires-2 : tie.Need-put-requires-2
@@ -71,8 +72,8 @@ returns-2 c =
           (a .binders + c .before .before .before .before .before .before .before .before .before .before .binders-of .result)
           (sym (c .before .before .before .before .before .before .before .before .before .before .before .parts-of .ensures .0) ∙ c .before .before .before .before .before .before .before .before .if2 .taken)
           (ap (λ x. a .binders + x) (c .before .before .before .before .before .before .before .before .before .before .binders-of .ensures))
-          (c .before .before .before .before .before .before .put2 .ensures .0)
-          (c .before .before .put3 .ensures .0),
+          (word-put _ _ _ _ (c .before .before .before .before .before .before .put2 .ensures))
+          (word-put _ _ _ _ (c .before .before .put3 .ensures)),
     )
 
 returns-3 : tie.Need-returns-3

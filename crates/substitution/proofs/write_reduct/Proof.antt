@@ -5,8 +5,9 @@ use native.Mathlib.Omega.{arith}
 use mathlib.Core.Path.{_≡_, refl, _∙_}
 use lib.ListN.{length}
 use Rattle.memory.specs.Words.{words}
-use Rattle.memory.specs.Laws.{same-words}
+use Rattle.memory.specs.Laws.{same-words, word-put}
 use Rattle.nodes.specs.Nodes.{nodesIn, length-nodesIn}
+use Rattle.nodes.specs.Bytes.{nodes-copied}
 use Rattle.substitution.specs.Reducts.{Ready, same-ready, Writing, writing-start, writing-next, writing-refused}
 use Rattle.substitution.specs.Reducts.{writing-end, nothing-waiting, nothing-left}
 use Rattle.substitution.proofs.write_reduct.Statement.{statement}
@@ -64,7 +65,7 @@ loop-holds c =
           (a .source)
           (a .values)
           (a .to)
-          (c .before .before .put .ensures .0)
+          (word-put _ _ _ _ (c .before .before .put .ensures))
           (omega (arith, ready .words-enough)),
     )
 
@@ -155,7 +156,7 @@ loop-again c =
           (same-words (c .before .before .before .before .before .before .before .before .before .before .before .before .before .before .before .before .put .last .0) (l .waiting) (l .inv .4)) (l .inv .2) (l .inv .5 ready) (c .before .before .before .before .before .before .before .before .next-piece .ensures)
           (nodesIn (c .before .before .copy-nodes .last .0))
           room
-          (c .before .before .copy-nodes .ensures),
+          (nodes-copied _ _ _ _ _ (c .before .before .copy-nodes .ensures)),
     )
 
 same-length-5 : tie.Need-same-length-5 Inv-loop μ-loop

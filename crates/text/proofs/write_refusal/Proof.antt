@@ -4,7 +4,7 @@ use borrow.Author.Needs.{needs}
 use Rattle.text.specs.Text.{ascii, decimal}
 use Rattle.text.specs.Writing.{puts-first}
 use Rattle.text.specs.Lines.{puts-line, puts-words}
-use Rattle.text.specs.Fitting.{holds-refusal}
+use Rattle.text.specs.Fitting.{refusal-fits}
 use Rattle.text.proofs.write_refusal.Statement.{statement}
 use Rattle.text.proofs.write_refusal.Tie as tie
 
@@ -37,7 +37,7 @@ returns c =
     (puts-words (n ∷ []) (p ∷ []) (c .before .before .before .before .before .before .before .before .before .before .put-number .ensures) (c .before .before .before .before .before .before .put-number2 .ensures))
     (c .before .before .put-byte .ensures)
     ) in
-    (written, holds-refusal (a .number) (a .place) (c .before .before .before .before .before .before .before .before .before .before .before .before .before .before .before .before .before .before .fits .number .fits) (c .before .before .before .before .before .before .before .before .before .before .before .before .before .before .before .before .before .before .fits .place .fits) written)
+    (written, refusal-fits (a .number) (a .place) (c .before .before .before .before .before .before .before .before .before .before .before .before .before .before .before .before .before .before .fits .number .fits) (c .before .before .before .before .before .before .before .before .before .before .before .before .before .before .before .before .before .before .fits .place .fits))
 
 pub write-refusal-spec : {M : Type 1} → statement M
 write-refusal-spec =

@@ -1,27 +1,29 @@
 -- `check` meets its contract: on each way through it, the answer and the bytes of both buffers. Assumes nothing.
+use Prim.Native.Nat.{ℕ}
+use mathlib.Core.List.{List}
+use Rattle.typing.specs.Demand2.{CheckMeans}
+use Rattle.typing.specs.Safe.{AcceptedIsSafe}
 use Rattle.typing.specs.Whole.{checks-short-out, checks-short-work, checks-refused, checks-accepted}
-use Rattle.typing.specs.Theorems.Checked.{accepted-is-safe}
+use Rattle.typing.specs.Theorems.Checked.{accepted-is-safe, check-means}
 use borrow.Author.Needs.{needs}
 use Rattle.typing.proofs.check.Statement.{statement}
 use Rattle.typing.proofs.check.Tie as tie
 
--- The last clause of the contract beside the other three.
-and-safe : {A B C D : Type 0} → A × (B × C) → D → A × (B × (C × D))
-and-safe p d = (p .0, (p .1 .0, (p .1 .1, d)))
+-- The last two clauses of the contract, which hold of every file, beside the other two.
+of-every-file : (f : List ℕ) {A B : Type 0} → A × B → A × (B × (AcceptedIsSafe f × CheckMeans f))
+of-every-file f p = (p .0, (p .1, (accepted-is-safe f, check-means f)))
 
 returns : tie.Need-returns
 returns c =
     let s = c .before .before .before .before .args in
-    and-safe
+    of-every-file (s .file .now)
     (checks-short-out (c .before .before .before .before .args .file .now) (c .before .before .before .before .args .out .now) (c .before .before .before .before .args .work .now) (c .if1 .taken))
-    (accepted-is-safe (s .file .now))
 
 returns-2 : tie.Need-returns-2
 returns-2 c =
     let s = c .before .before .before .before .before .args in
-    and-safe
+    of-every-file (s .file .now)
     (checks-short-work (c .before .before .before .before .before .args .file .now) (c .before .before .before .before .before .args .out .now) (c .before .before .before .before .before .args .work .now) (c .before .if1 .left) (c .if2 .taken))
-    (accepted-is-safe (s .file .now))
 
 check-core-requires : tie.Need-check-core-requires
 check-core-requires c κs = search needs
@@ -41,7 +43,7 @@ same-length c = search needs
 returns-3 : tie.Need-returns-3
 returns-3 c =
     let s = c .before .before .before .before .before .before .before .before .before .before .before .before .before .before .before .args in
-    and-safe
+    of-every-file (s .file .now)
     (checks-refused (s .file .now) (s .out .now) (s .work .now) (c .before .before .before .before .before .before .before .before .before .before .before .if1 .left) (c .before .before .before .before .before .before .before .before .before .before .if2 .left) (c .before .before .before .before .before .before .before .before .check-core .last .1 .0) (c .before .before .before .before .before .before .before .before .check-core .result)
     (c .before .before .before .before .before .before .before .before .check-core .ensures)
     (c .before .before .before .before .enum-told .given .0 .0)
@@ -51,7 +53,6 @@ returns-3 c =
     (c .before .before .before .before .before .before .before .before .check-core .kept .1 .0)
     (c .before .before .refuse .ensures .1)
     (c .before .before .refuse .ensures .0))
-    (accepted-is-safe (s .file .now))
 
 write-type-requires : tie.Need-write-type-requires
 write-type-requires c κs = search needs
@@ -68,7 +69,7 @@ same-length-3 c = search needs
 returns-4 : tie.Need-returns-4
 returns-4 c =
     let s = c .before .before .before .before .before .before .before .before .before .before .before .before .before .before .before .before .before .before .before .before .before .args in
-    and-safe
+    of-every-file (s .file .now)
     (checks-accepted (s .file .now) (s .out .now) (s .work .now) (c .before .before .before .before .before .before .before .before .before .before .before .before .before .before .before .before .before .if1 .left) (c .before .before .before .before .before .before .before .before .before .before .before .before .before .before .before .before .if2 .left) (c .before .before .before .before .before .before .before .before .before .before .before .before .before .before .check-core .last .1 .0) (c .before .before .before .before .before .before .before .before .before .before .before .before .before .before .check-core .result)
     (c .before .before .before .before .before .before .before .before .before .before .before .before .before .before .check-core .ensures)
     (c .before .before .before .before .before .before .before .before .before .before .core .given .0 .0)
@@ -79,7 +80,6 @@ returns-4 c =
     (c .before .before .before .before .before .before .write-type .ensures .0)
     (c .before .before .before .before .before .before .before .before .before .before .before .before .before .before .check-core .kept .1 .0)
     (c .before .before .clear .ensures))
-    (accepted-is-safe (s .file .now))
 
 pub check-spec : {M : Type 1} → statement M
 check-spec =

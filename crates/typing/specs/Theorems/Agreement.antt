@@ -18,21 +18,21 @@ use Rattle.rules.specs.Terms.{box, apply}
 use Rattle.rules.specs.Sizes.{nodes}
 use Rattle.rules.specs.Circuits.{one-if}
 use Rattle.rules.specs.Typing.{_∣_⊢_∶_}
-use Rattle.rules.specs.Inference.{uses, labelUses, Linear, Plain, plain-var, plain-label, plain-gate, plain-circ}
-use Rattle.rules.specs.Inference.{plain-abs, plain-app, plain-tuple, plain-let, plain-lift, plain-force, plain-box}
-use Rattle.rules.specs.Inference.{plain-apply, BoundOnce, NoneCrosses, Counted, source, asPair, asReusable, given}
+use Rattle.rules.specs.Inference.{uses, labelUses}
+use Rattle.rules.specs.Counting.{Plain, plain-var, plain-label, plain-gate, plain-circ}
+use Rattle.rules.specs.Inference.{Linear}
+use Rattle.rules.specs.Counting.{plain-abs, plain-app, plain-tuple, plain-let, plain-lift, plain-force, plain-box}
+use Rattle.rules.specs.Counting.{plain-apply, BoundOnce, NoneCrosses, Counted, source}
+use Rattle.rules.specs.Inference.{asPair, asReusable, given}
 use Rattle.rules.specs.Inference.{gateNodeType}
-use Rattle.rules.specs.Inference.{abstractionType, applicationType, pairType, liftType, boxType, applyType, infer}
+use Rattle.rules.specs.Inference.{abstractionType, applicationType, pairType, liftType, boxType, applyType}
+use Rattle.rules.specs.Inference.{infer}
 use Rattle.rules.specs.Theorems.Counting.{plain-unique, has→counted, counted→has}
 use Rattle.rules.specs.Theorems.Inferring.{infer→plain, plain→infer}
 use Rattle.typing.specs.Checking.{Binder, _under_, Checked, typed, fault, earlier, if-so, linear, usedWrongly}
 use Rattle.typing.specs.Checking.{crosses, followed, ruled, variableFound, labelFound, checkTerm, wrongLabel}
 use Rattle.typing.specs.Checking.{has-type, secondly, decided, verdict}
-
--- The types of the variables in scope.
-abbrev pub typesOf : List Binder → List Ty
-typesOf [] = []
-typesOf (A under bound ∷ Γ) = A ∷ typesOf Γ
+use Rattle.typing.specs.Places.{typesOf}
 
 -- The type that the check finds, if it finds one.
 abbrev pub typeOf : Checked → Option Ty

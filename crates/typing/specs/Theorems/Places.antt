@@ -1,5 +1,5 @@
--- What the places of the refusals 16, 17 and 18 are (01, "Check, in number order"). The definitions stand first; the
--- theorems at the end say, for each of the three, when the check gives it and at which entry.
+-- The places of the refusals 16, 17 and 18 (01, "Check, in number order"): the theorems at the end say, for each of the three,
+-- when the check gives it and at which entry.
 use Prim.Native.Nat.{ℕ, zero, suc, _+_, _≤_, _<_}
 use mathlib.Core.Path.{_≡_, refl, sym, _∙_, ap, subst, subst₂}
 use mathlib.Core.Logic.{_↔_, _≢_, _⊎_, inl, inr}
@@ -15,139 +15,20 @@ use Rattle.rules.specs.Gates.{nth, gateType}
 use Rattle.rules.specs.Terms.{Term, variable, label, gate, constant, abstraction, application, pair, let-in, lift, force}
 use Rattle.rules.specs.Terms.{box, apply}
 use Rattle.rules.specs.Sizes.{nodes}
-use Rattle.rules.specs.Inference.{uses, labelUses, Linear, asPair, asReusable, given, gateNodeType}
-use Rattle.rules.specs.Inference.{abstractionType, applicationType, pairType, liftType, boxType, applyType, infer}
+use Rattle.rules.specs.Inference.{uses, labelUses, asPair, asReusable, given, gateNodeType}
+use Rattle.rules.specs.Inference.{Linear}
+use Rattle.rules.specs.Inference.{abstractionType, applicationType, pairType, liftType, boxType, applyType}
+use Rattle.rules.specs.Inference.{infer}
 use Rattle.typing.specs.Checking.{Binder, _under_, Checked, typed, fault, earlier, if-so, usedWrongly}
 use Rattle.typing.specs.Checking.{crosses, followed, ruled, variableFound, labelFound, checkTerm, wrongLabel}
 use Rattle.typing.specs.Checking.{has-type, refusal, secondly, decided, verdict}
-use Rattle.typing.specs.Theorems.Agreement.{typesOf, typeOf, letFound, check-type, binder-type}
+use Rattle.typing.specs.Places.{typesOf, Stands, itself, in-abstraction, in-application-first, in-application-second}
+use Rattle.typing.specs.Places.{in-pair-first, in-pair-second, in-let-first, in-let-second, in-lift, in-force, in-box}
+use Rattle.typing.specs.Places.{in-apply-first, in-apply-second, HasType, PartsHaveTypes, Faulty, rule-fails, no-pair}
+use Rattle.typing.specs.Places.{BindsWrongly, by-abstraction, by-let-first, by-let-second, UsesInside, of-variable}
+use Rattle.typing.specs.Places.{of-label, Property, At, FaultAt, WrongLabelAt, WrongBinderAt, UseInsideAt, Nowhere, First}
+use Rattle.typing.specs.Theorems.Agreement.{typeOf, letFound, check-type, binder-type}
 use Rattle.typing.specs.Theorems.Agreement.{used-wrongly→, →used-wrongly, crosses→, →crosses}
-
--- In M, whose node is entry e under the binders Γ and this many lifts, the node at entry e′ is M′, under Γ′ and lifts′. One
--- constructor for the node itself and one for each part; the two variables of a let have the types that its first part
--- gives them.
-pub data Stands (L : List Wire) : List Binder → ℕ → ℕ → Term → List Binder → ℕ → ℕ → Term → Type 0 where
-  itself : {Γ : List Binder} {lifts e : ℕ} {M : Term} → Stands L Γ lifts e M Γ lifts e M
-  in-abstraction : {Γ Γ′ : List Binder} {lifts e lifts′ e′ : ℕ} {A : Ty} {M M′ : Term}
-      → Stands L (A under lifts ∷ Γ) lifts (suc e) M Γ′ lifts′ e′ M′
-      → Stands L Γ lifts e (abstraction A M) Γ′ lifts′ e′ M′
-  in-application-first : {Γ Γ′ : List Binder} {lifts e lifts′ e′ : ℕ} {M N M′ : Term}
-      → Stands L Γ lifts (suc e) M Γ′ lifts′ e′ M′
-      → Stands L Γ lifts e (application M N) Γ′ lifts′ e′ M′
-  in-application-second : {Γ Γ′ : List Binder} {lifts e lifts′ e′ : ℕ} {M N M′ : Term}
-      → Stands L Γ lifts (suc e + nodes M) N Γ′ lifts′ e′ M′
-      → Stands L Γ lifts e (application M N) Γ′ lifts′ e′ M′
-  in-pair-first : {Γ Γ′ : List Binder} {lifts e lifts′ e′ : ℕ} {M N M′ : Term}
-      → Stands L Γ lifts (suc e) M Γ′ lifts′ e′ M′
-      → Stands L Γ lifts e (pair M N) Γ′ lifts′ e′ M′
-  in-pair-second : {Γ Γ′ : List Binder} {lifts e lifts′ e′ : ℕ} {M N M′ : Term}
-      → Stands L Γ lifts (suc e + nodes M) N Γ′ lifts′ e′ M′
-      → Stands L Γ lifts e (pair M N) Γ′ lifts′ e′ M′
-  in-let-first : {Γ Γ′ : List Binder} {lifts e lifts′ e′ : ℕ} {M N M′ : Term}
-      → Stands L Γ lifts (suc e) M Γ′ lifts′ e′ M′
-      → Stands L Γ lifts e (let-in M N) Γ′ lifts′ e′ M′
-  in-let-second : {Γ Γ′ : List Binder} {lifts e lifts′ e′ : ℕ} {A B : Ty} {M N M′ : Term}
-      → infer (typesOf Γ) (nth L) M ≡ some (A ⊗ B)
-      → Stands L (B under lifts ∷ A under lifts ∷ Γ) lifts (suc e + nodes M) N Γ′ lifts′ e′ M′
-      → Stands L Γ lifts e (let-in M N) Γ′ lifts′ e′ M′
-  in-lift : {Γ Γ′ : List Binder} {lifts e lifts′ e′ : ℕ} {M M′ : Term}
-      → Stands L Γ (suc lifts) (suc e) M Γ′ lifts′ e′ M′
-      → Stands L Γ lifts e (lift M) Γ′ lifts′ e′ M′
-  in-force : {Γ Γ′ : List Binder} {lifts e lifts′ e′ : ℕ} {M M′ : Term}
-      → Stands L Γ lifts (suc e) M Γ′ lifts′ e′ M′
-      → Stands L Γ lifts e (force M) Γ′ lifts′ e′ M′
-  in-box : {Γ Γ′ : List Binder} {lifts e lifts′ e′ : ℕ} {T : Ty} {M M′ : Term}
-      → Stands L Γ lifts (suc e) M Γ′ lifts′ e′ M′
-      → Stands L Γ lifts e (box T M) Γ′ lifts′ e′ M′
-  in-apply-first : {Γ Γ′ : List Binder} {lifts e lifts′ e′ : ℕ} {M N M′ : Term}
-      → Stands L Γ lifts (suc e) M Γ′ lifts′ e′ M′
-      → Stands L Γ lifts e (apply M N) Γ′ lifts′ e′ M′
-  in-apply-second : {Γ Γ′ : List Binder} {lifts e lifts′ e′ : ℕ} {M N M′ : Term}
-      → Stands L Γ lifts (suc e + nodes M) N Γ′ lifts′ e′ M′
-      → Stands L Γ lifts e (apply M N) Γ′ lifts′ e′ M′
-
--- A term has a type by plain inference, which asks nothing of how often a variable is used.
-abbrev pub HasType : List Wire → List Binder → Term → Type 0
-HasType L Γ M = (A : Ty) × (infer (typesOf Γ) (nth L) M ≡ some A)
-
--- The parts of a node all have types.
-abbrev pub PartsHaveTypes : List Wire → List Binder → ℕ → Term → Type 0
-PartsHaveTypes L Γ lifts (variable n) = Unit
-PartsHaveTypes L Γ lifts (label ℓ) = Unit
-PartsHaveTypes L Γ lifts (gate n) = Unit
-PartsHaveTypes L Γ lifts (constant b) = Unit
-PartsHaveTypes L Γ lifts (abstraction A M) = HasType L (A under lifts ∷ Γ) M
-PartsHaveTypes L Γ lifts (application M N) = HasType L Γ M × HasType L Γ N
-PartsHaveTypes L Γ lifts (pair M N) = HasType L Γ M × HasType L Γ N
-PartsHaveTypes L Γ lifts (let-in M N) =
-    (A : Ty) × (B : Ty) × (infer (typesOf Γ) (nth L) M ≡ some (A ⊗ B))
-    × HasType L (B under lifts ∷ A under lifts ∷ Γ) N
-PartsHaveTypes L Γ lifts (lift M) = HasType L Γ M
-PartsHaveTypes L Γ lifts (force M) = HasType L Γ M
-PartsHaveTypes L Γ lifts (box T M) = HasType L Γ M
-PartsHaveTypes L Γ lifts (apply M N) = HasType L Γ M × HasType L Γ N
-
--- 16: "a node whose parts all have types and whose rule fails or whose type would exceed 512 entries, or a let whose first
--- part has a type that is no pair". A variable without a binder and a label or gate that there is not would count too, but
--- the reader has refused them before (9 and 5), and a program file has no circuit constants.
-pub data Faulty (L : List Wire) (Γ : List Binder) (lifts : ℕ) : Term → Type 0 where
-  rule-fails : {M : Term}
-      → PartsHaveTypes L Γ lifts M → infer (typesOf Γ) (nth L) M ≡ none
-      → Faulty L Γ lifts M
-  no-pair : {M N : Term} {A : Ty}
-      → infer (typesOf Γ) (nth L) M ≡ some A → asPair A ≡ none
-      → Faulty L Γ lifts (let-in M N)
-
--- 17: an abstraction or a let that binds "a linear variable .. not used exactly once".
-pub data BindsWrongly (L : List Wire) (Γ : List Binder) (lifts : ℕ) : Term → Type 0 where
-  by-abstraction : {A : Ty} {M : Term} → Linear A → uses 0 M ≢ 1 → BindsWrongly L Γ lifts (abstraction A M)
-  by-let-first : {A B : Ty} {M N : Term}
-      → infer (typesOf Γ) (nth L) M ≡ some (A ⊗ B) → Linear A → uses 1 N ≢ 1
-      → BindsWrongly L Γ lifts (let-in M N)
-  by-let-second : {A B : Ty} {M N : Term}
-      → infer (typesOf Γ) (nth L) M ≡ some (A ⊗ B) → Linear B → uses 0 N ≢ 1
-      → BindsWrongly L Γ lifts (let-in M N)
-
--- 18: "a linear use inside a lift from outside it": more lifts stand around the use than around its binder. Labels are bound
--- outside of all lifts.
-pub data UsesInside (L : List Wire) (Γ : List Binder) (lifts : ℕ) : Term → Type 0 where
-  of-variable : {n : ℕ} {A : Ty} {bound : ℕ}
-      → nth Γ n ≡ some (A under bound) → Linear A → bound < lifts
-      → UsesInside L Γ lifts (variable n)
-  of-label : {ℓ : ℕ} {α : Wire} → nth L ℓ ≡ some α → 0 < lifts → UsesInside L Γ lifts (label ℓ)
-
--- A property of a node, under the binders and lifts around it.
-abbrev pub Property : Type 1
-Property = List Binder → ℕ → Term → Type 0
-
--- A node with a property stands at entry p of M, whose own node is entry e under the binders Γ and this many lifts.
-abbrev pub At : List Wire → Property → List Binder → ℕ → ℕ → Term → ℕ → Type 0
-At L P Γ lifts e M p =
-    (Γ′ : List Binder) × (lifts′ : ℕ) × (M′ : Term) × Stands L Γ lifts e M Γ′ lifts′ p M′ × P Γ′ lifts′ M′
-
--- The program with these labels and the term M, whose first entry is e, has a faulty node at entry p.
-abbrev pub FaultAt : List Wire → ℕ → Term → ℕ → Type 0
-FaultAt L e M p = At L (Faulty L) [] 0 e M p
-
--- Entry p is a label that is not used exactly once.
-abbrev pub WrongLabelAt : List Wire → Term → ℕ → Type 0
-WrongLabelAt L M p = (p < length L) × (labelUses p M ≢ 1)
-
--- Entry p is an abstraction or a let that binds a linear variable which is not used exactly once.
-abbrev pub WrongBinderAt : List Wire → ℕ → Term → ℕ → Type 0
-WrongBinderAt L e M p = At L (BindsWrongly L) [] 0 e M p
-
--- Entry p is a linear use inside a lift from outside it.
-abbrev pub UseInsideAt : List Wire → ℕ → Term → ℕ → Type 0
-UseInsideAt L e M p = At L (UsesInside L) [] 0 e M p
-
--- No entry is such.
-abbrev pub Nowhere : (ℕ → Type 0) → Type 0
-Nowhere P = (p : ℕ) → P p → ⊥
-
--- Entry p is such, and none before it.
-abbrev pub First : (ℕ → Type 0) → ℕ → Type 0
-First P p = P p × ((q : ℕ) → q < p → P q → ⊥)
 
 nodes-positive : (M : Term) → 0 < nodes M
 nodes-positive (variable n) = omega arith
@@ -164,7 +45,7 @@ nodes-positive (box T M) = omega arith
 nodes-positive (apply M N) = omega arith
 
 -- The nodes of a term stand at its entries.
-stands-within : {L : List Wire} {Γ Γ′ : List Binder} {lifts e lifts′ e′ : ℕ} {M M′ : Term}
+pub stands-within : {L : List Wire} {Γ Γ′ : List Binder} {lifts e lifts′ e′ : ℕ} {M M′ : Term}
     → Stands L Γ lifts e M Γ′ lifts′ e′ M′ → (e ≤ e′) × (e′ < e + nodes M)
 stands-within (itself {M = M}) = let n = nodes-positive M in (omega arith, omega arith)
 stands-within (in-abstraction s) = let x = stands-within s in (omega arith, omega arith)

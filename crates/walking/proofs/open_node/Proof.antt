@@ -2,7 +2,8 @@
 use native.Mathlib.Omega.{arith}
 use mathlib.Core.Logic.{inl}
 use Rattle.nodes.specs.Nodes.{nodesIn, length-nodesIn}
-use Rattle.walking.specs.Rows.{rowsIn, length-rowsIn}
+use Rattle.nodes.specs.Bytes.{nodes-copied}
+use Rattle.walking.specs.Rows.{rowsIn, length-rowsIn, row-put}
 use Rattle.walking.specs.Functions.{headOfTag, open-turns, open-falls, no-row-there}
 use Rattle.walking.specs.declared.Turned.the-variants.{Stops}
 use Rattle.walking.specs.declared.Stop.the-variants.{AtVariable}
@@ -48,9 +49,9 @@ returns-2 c =
     let ns = nodesIn (a .nodes .now) in
     let ns′ = nodesIn (c .before .before .before .before .before .before .copy-nodes .last .0) in
     let inside = h .inside in
-    let moved = c .before .before .before .before .before .before .copy-nodes .ensures (inl (h .apart)) (omega arith) (omega (arith, h .apart)) in (
+    let moved = nodes-copied _ _ _ _ _ (c .before .before .before .before .before .before .copy-nodes .ensures) (inl (h .apart)) (omega arith) (omega (arith, h .apart)) in (
       open-turns ns ns′ p (a .tag) (rowsIn (a .stack .now)) (rowsIn (c .before .before .put-row .last .0)) (c .before .before .before .before .before .before .before .before .before .before .before .pre .0) h moved
-          (c .before .before .put-row .ensures),
+          (row-put _ _ _ _ _ _ (c .before .before .put-row .ensures)),
       open-falls ns ns′ p (headOfTag (a .tag)) h,
     )
 

@@ -4,6 +4,7 @@ use mathlib.Core.Logic.{inl}
 use lib.ListN.{drop, length-drop}
 use borrow.Author.Needs.{needs}
 use Rattle.nodes.specs.Nodes.{nodesIn}
+use Rattle.nodes.specs.Bytes.{nodes-copied}
 use Rattle.nodes.specs.Spans.{span-at-most}
 use Rattle.walking.specs.Functions.{value-turns, value-falls}
 use Rattle.walking.proofs.pass_value.Statement.{statement}
@@ -36,7 +37,7 @@ returns c =
     let most = span-at-most (drop (p .right) ns) 1 in
     let rest = length-drop (p .right) ns in
     let inside = h .inside in
-    let moved = c .before .before .copy-nodes .ensures (inl (h .apart)) (omega (arith, q)) (omega (arith, q, h .apart)) in
+    let moved = nodes-copied _ _ _ _ _ (c .before .before .copy-nodes .ensures) (inl (h .apart)) (omega (arith, q)) (omega (arith, q, h .apart)) in
     (value-turns ns ns′ p end h q moved, value-falls ns ns′ p end h q)
 
 pub pass-value-spec : {M : Type 1} → statement M

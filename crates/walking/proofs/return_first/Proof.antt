@@ -1,6 +1,6 @@
 -- `walking::return_first` meets its contract. Assumes nothing.
 use native.Mathlib.Omega.{arith}
-use Rattle.walking.specs.Rows.{rowsIn}
+use Rattle.walking.specs.Rows.{rowsIn, row-put}
 use Rattle.walking.specs.Functions.{let-turns, first-turns, first-falls}
 use Rattle.walking.proofs.return_first.Statement.{statement}
 use Rattle.walking.proofs.return_first.Tie as tie
@@ -25,7 +25,7 @@ returns-2 c =
     let p = a .place in
     let h = c .before .before .before .before .before .before .pre in
     let rs = rowsIn (a .stack .now) in (
-      first-turns rs p (a .at) (a .kind) (rowsIn (c .before .before .put-row .last .0)) h (c .before .before .before .before .if1 .left) (c .before .before .put-row .ensures),
+      first-turns rs p (a .at) (a .kind) (rowsIn (c .before .before .put-row .last .0)) h (c .before .before .before .before .if1 .left) (row-put _ _ _ _ _ _ (c .before .before .put-row .ensures)),
       first-falls p (h .mode),
     )
 

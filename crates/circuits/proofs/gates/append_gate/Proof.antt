@@ -3,6 +3,7 @@ use borrow.Author.Needs.{needs}
 use Rattle.rules.specs.GateCodes.{wiresIn}
 use Rattle.memory.specs.Words.{words}
 use Rattle.circuits.specs.Layout.{rowsIn}
+use Rattle.circuits.specs.Rows.{row-put}
 use Rattle.circuits.specs.Copies.{labels-put}
 use Rattle.circuits.proofs.gates.append_gate.Statement.{statement}
 use Rattle.circuits.proofs.gates.append_gate.Tie as tie
@@ -28,17 +29,23 @@ same-length c = search needs
 returns : tie.Need-returns
 returns c =
     let a = c .before .before .before .before .before .before .before .before .before .before .args in
-    labels-put (rowsIn (a .gates .now)) (rowsIn (c .before .before .put-row .last .0)) (a .row) (a .number) (c .before .before .before .before .before .before .before .wires-in .result)
-    (words (a .labels .now))
-    (wiresIn (a .number))
-    (c .before .before .before .before .before .before .label-at .result)
-    (c .before .before .before .before .before .label-at2 .result)
-    (c .before .before .before .before .label-at3 .result)
-    (c .before .before .put-row .ensures)
-    (c .before .before .before .before .before .before .before .wires-in .ensures)
-    (c .before .before .before .before .before .before .label-at .ensures)
-    (c .before .before .before .before .before .label-at2 .ensures)
-    (c .before .before .before .before .label-at3 .ensures)
+    let n = c .before .before .before .before .before .before .before .wires-in .ensures in
+    let first = c .before .before .before .before .before .before .label-at .ensures .0 in
+    let second = c .before .before .before .before .before .label-at2 .ensures .0 in
+    let third = c .before .before .before .before .label-at3 .ensures .0 in (
+      cc (c .before .before .put-row .ensures),
+      labels-put (rowsIn (a .gates .now)) (rowsIn (c .before .before .put-row .last .0)) (a .row) (a .number) (c .before .before .before .before .before .before .before .wires-in .result)
+          (words (a .labels .now))
+          (wiresIn (a .number))
+          (c .before .before .before .before .before .before .label-at .result)
+          (c .before .before .before .before .before .label-at2 .result)
+          (c .before .before .before .before .label-at3 .result)
+          (row-put _ _ _ _ _ _ _ (c .before .before .put-row .ensures))
+          (c .before .before .before .before .before .before .before .wires-in .ensures)
+          (c .before .before .before .before .before .before .label-at .ensures)
+          (c .before .before .before .before .before .label-at2 .ensures)
+          (c .before .before .before .before .label-at3 .ensures),
+    )
 
 pub append-gate-spec : {M : Type 1} → statement M
 append-gate-spec =

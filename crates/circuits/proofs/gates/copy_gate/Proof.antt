@@ -2,6 +2,7 @@
 use borrow.Author.Needs.{needs}
 use Rattle.memory.specs.Words.{words}
 use Rattle.circuits.specs.Layout.{rowsIn, rowAt}
+use Rattle.circuits.specs.Rows.{row-put}
 use lib.ListN.{take}
 use Rattle.circuits.specs.Copies.{gate-copied}
 use Rattle.circuits.proofs.gates.copy_gate.Statement.{statement}
@@ -35,7 +36,7 @@ returns c = λ h.
     (c .before .before .before .before .before .before .before .before .renamed-slot .result)
     (c .before .before .before .before .before .before .renamed-slot2 .result)
     (c .before .before .before .before .renamed-slot3 .result)
-    (c .before .before .put-row .ensures)
+    (row-put _ _ _ _ _ _ _ (c .before .before .put-row .ensures))
     (c .before .before .before .before .before .before .before .before .before .before .row-word .ensures .0)
     (c .before .before .before .before .before .before .before .before .renamed-slot .ensures h)
     (c .before .before .before .before .before .before .renamed-slot2 .ensures h)

@@ -1,6 +1,7 @@
 -- `circuits::gates::move_row` meets its contract. Assumes nothing.
 use borrow.Author.Needs.{needs}
 use Rattle.circuits.specs.Layout.{rowsIn, rowAt}
+use Rattle.circuits.specs.Rows.{row-put}
 use Rattle.circuits.specs.Copies.{row-moved}
 use Rattle.circuits.proofs.gates.move_row.Statement.{statement}
 use Rattle.circuits.proofs.gates.move_row.Tie as tie
@@ -30,7 +31,7 @@ returns c =
     row-moved rs (rowsIn (c .before .before .put-row .last .0)) (a .to) (rowAt rs (a .from)) (c .before .before .before .before .before .before .before .before .before .before .row-word .result) (c .before .before .before .before .before .before .before .before .row-word2 .result)
     (c .before .before .before .before .before .before .row-word3 .result)
     (c .before .before .before .before .row-word4 .result)
-    (c .before .before .put-row .ensures)
+    (row-put _ _ _ _ _ _ _ (c .before .before .put-row .ensures))
     (c .before .before .before .before .before .before .before .before .before .before .row-word .ensures)
     (c .before .before .before .before .before .before .before .before .row-word2 .ensures)
     (c .before .before .before .before .before .before .row-word3 .ensures)

@@ -1,21 +1,16 @@
 -- `circuits::rows::put_row` meets its contract: the four words of a row are put one after another. Assumes nothing.
-use Prim.Native.Nat.{_%_}
 use native.Mathlib.Omega.{arith}
 use mathlib.Core.Path.{sym}
+use mathlib.Core.List.{[], _∷_}
 use borrow.Author.Needs.{needs}
-use Rattle.memory.specs.Words.{words}
-use Rattle.memory.specs.Laws.{length-words}
-use Rattle.circuits.specs.Layout.{row}
-use Rattle.circuits.specs.Rows.{set-row-past, put-four}
+use Rattle.memory.specs.Laws.{put-past, put-first, put-more}
 use Rattle.circuits.proofs.rows.put_row.Statement.{statement}
 use Rattle.circuits.proofs.rows.put_row.Tie as tie
 
 returns : tie.Need-returns
 returns c =
     let a = c .before .before .args in
-    let m = a .rows .now in
-    sym (set-row-past (words m) (a .i) (row (a .a % 65536) (a .b % 65536) (a .c % 65536) (a .d % 65536))
-    (omega (arith, length-words m, c .if1 .taken)))
+    sym (put-past 4 (a .rows .now) (a .i) (a .a ∷ a .b ∷ a .c ∷ a .d ∷ []) (c .if1 .taken))
 
 mul-put : tie.Need-mul-put
 mul-put c = search needs
@@ -57,22 +52,18 @@ returns-2 : tie.Need-returns-2
 returns-2 c =
     let a = c .before .before .before .before .before .before .before .before .before .before .before .before .before .before .before .before .before .before .args in
     let m = a .rows .now in
-    put-four
-    (words m)
-    (words (c .before .before .before .before .before .before .before .before .before .before .before .before .before .before .put .last .0))
-    (words (c .before .before .before .before .before .before .before .before .before .before .put2 .last .0))
-    (words (c .before .before .before .before .before .before .put3 .last .0))
-    (words (c .before .before .put4 .last .0))
-    (a .i)
-    (a .a % 65536)
-    (a .b % 65536)
-    (a .c % 65536)
-    (a .d % 65536)
-    (omega (arith, length-words m, c .before .before .before .before .before .before .before .before .before .before .before .before .before .before .before .before .if1 .left))
-    (c .before .before .before .before .before .before .before .before .before .before .before .before .before .before .put .ensures .0)
-    (c .before .before .before .before .before .before .before .before .before .before .put2 .ensures .0)
-    (c .before .before .before .before .before .before .put3 .ensures .0)
-    (c .before .before .put4 .ensures .0)
+    let one = c .before .before .before .before .before .before .before .before .before .before .before .before .before .before .put in
+    let two = c .before .before .before .before .before .before .before .before .before .before .put2 in
+    let three = c .before .before .before .before .before .before .put3 in
+    let four = c .before .before .put4 in
+    let inside = c .before .before .before .before .before .before .before .before .before .before .before .before .before .before .before .before .if1 .left in
+    put-more 4 m (three .last .0) (four .last .0) (a .i) (a .a ∷ a .b ∷ a .c ∷ []) (a .d) inside (omega arith)
+    (put-more 4 m (two .last .0) (three .last .0) (a .i) (a .a ∷ a .b ∷ []) (a .c) inside (omega arith)
+    (put-more 4 m (one .last .0) (two .last .0) (a .i) (a .a ∷ []) (a .b) inside (omega arith)
+    (put-first 4 m (one .last .0) (a .i) (a .a) inside (omega arith) (one .ensures))
+    (two .ensures))
+    (three .ensures))
+    (four .ensures)
 
 pub put-row-spec : {M : Type 1} → statement M
 put-row-spec =

@@ -7,7 +7,7 @@ use mathlib.Core.List.{[], _∷_, _++_}
 use lib.ListN.{length, take, length-append}
 use borrow.Author.Needs.{needs}
 use Rattle.memory.specs.Words.{words}
-use Rattle.memory.specs.Laws.{same-words}
+use Rattle.memory.specs.Laws.{same-words, word-put}
 use Rattle.nodes.specs.Nodes.{nodesIn, nodeAt, length-nodesIn}
 use Rattle.circuits.specs.Rows.{past-end, not-past}
 use Rattle.circuits.specs.Tuples.{labelsPassed, label-passed, other-passed}
@@ -104,7 +104,7 @@ loop-again c =
           (s .inv .5 room)
           (omega (arith, s .inv .2, c .before .before .before .before .before .before .before .loop-test .taken, room, same-words (a .labels .now) (s .labels) (s .inv .3)))
           (c .before .before .before .argument-at .ensures .1)
-          (c .before .before .put .ensures .0)
+          (word-put _ _ _ _ (c .before .before .put .ensures))
           passed,
     )
 

@@ -10,7 +10,7 @@ use Rattle.rules.specs.Circuits.{rename}
 use Rattle.evaluation.specs.Trees.{node}
 use Rattle.memory.specs.Words.{words}
 use Rattle.circuits.specs.Layout.{no-wire}
-use Rattle.nodes.specs.Nodes.{nodesIn}
+use Rattle.nodes.specs.Nodes.{nodesIn, node-put}
 use Rattle.circuits.proofs.tuples.load_node.Statement.{statement}
 use Rattle.circuits.proofs.tuples.load_node.Tie as tie
 
@@ -24,7 +24,7 @@ returns : tie.Need-returns
 returns c = λ h.
     let a = c .before .before .before .before .before .before .before .args in
     let ks = take (a .n) (words (a .labels .now)) in
-    c .before .before .put-node .ensures
+    node-put _ _ _ _ _ (c .before .before .put-node .ensures)
     ∙ ap
     (λ b. set (nodesIn (a .nodes .now)) (a .to) (cond b (node 20 0) (node 17 (rename ks (a .next) (a .word) % 65536))))
     (sym (eq-eqb (a .word) no-wire (c .before .before .before .before .if1 .taken)))
@@ -42,7 +42,7 @@ returns-2 : tie.Need-returns-2
 returns-2 c = λ h.
     let a = c .before .before .before .before .before .before .before .before .args in
     let ks = take (a .n) (words (a .labels .now)) in
-    c .before .before .put-node2 .ensures
+    node-put _ _ _ _ _ (c .before .before .put-node2 .ensures)
     ∙ ap (λ w. set (nodesIn (a .nodes .now)) (a .to) (node 17 (w % 65536))) (c .before .before .before .renamed .ensures (omega arith))
     ∙ ap
     (λ b. set (nodesIn (a .nodes .now)) (a .to) (cond b (node 20 0) (node 17 (rename ks (a .next) (a .word) % 65536))))

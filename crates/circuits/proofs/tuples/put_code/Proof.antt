@@ -6,7 +6,7 @@ use lib.ListN.{set}
 use borrow.Author.Tests.{eq-eqb, ne-eqb}
 use borrow.Author.Needs.{needs}
 use Rattle.evaluation.specs.Trees.{node}
-use Rattle.nodes.specs.Nodes.{nodesIn}
+use Rattle.nodes.specs.Nodes.{nodesIn, node-put}
 use Rattle.circuits.proofs.tuples.put_code.Statement.{statement}
 use Rattle.circuits.proofs.tuples.put_code.Tie as tie
 
@@ -20,7 +20,7 @@ returns : tie.Need-returns
 returns c =
     let a = c .before .before .before .before .before .before .args in
     let t = eq-eqb (a .code) 2 (c .before .before .before .before .if1 .taken) in (
-      c .before .before .put-node .ensures
+      node-put _ _ _ _ _ (c .before .before .put-node .ensures)
           ∙ ap (λ b. set (nodesIn (a .nodes .now)) (a .to) (cond b (node 20 0) (node 17 (a .label % 65536)))) (sym t),
       ap (λ b. cond b (a .label) (a .label + 1)) (sym t),
     )
@@ -38,7 +38,7 @@ returns-2 : tie.Need-returns-2
 returns-2 c =
     let a = c .before .before .before .before .before .before .args in
     let t = ne-eqb (a .code) 2 (c .before .before .before .before .if1 .left) in (
-      c .before .before .put-node2 .ensures
+      node-put _ _ _ _ _ (c .before .before .put-node2 .ensures)
           ∙ ap (λ b. set (nodesIn (a .nodes .now)) (a .to) (cond b (node 20 0) (node 17 (a .label % 65536)))) (sym t),
       ap (λ b. cond b (a .label) (a .label + 1)) (sym t),
     )

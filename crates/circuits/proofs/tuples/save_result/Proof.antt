@@ -7,7 +7,7 @@ use mathlib.Core.List.{map}
 use lib.ListN.{length, take, drop}
 use borrow.Author.Needs.{needs}
 use Rattle.memory.specs.Words.{words}
-use Rattle.memory.specs.Laws.{length-words}
+use Rattle.memory.specs.Laws.{length-words, word-put}
 use Rattle.nodes.specs.Nodes.{nodesIn, no-node, length-nodesIn}
 use Rattle.circuits.specs.Rows.{past-end, not-past}
 use Rattle.nodes.specs.Regions.{over, over-nil}
@@ -98,7 +98,7 @@ loop-again c =
           (omega (arith, s .inv .1, c .before .before .before .before .before .loop-test .taken, length-words (a .result .now)))
           (s .inv .4)
           (low ∙ c .before .before .before .result-word .ensures .0)
-          (c .before .before .put .ensures .0),
+          (word-put _ _ _ _ (c .before .before .put .ensures)),
     )
 
 same-length : tie.Need-same-length Inv-loop μ-loop

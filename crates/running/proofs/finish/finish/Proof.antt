@@ -14,51 +14,43 @@ use Rattle.running.proofs.finish.finish.Lts as lts
 use Rattle.circuits.proofs.rows.row_word.Reads as row-word-reads
 use Rattle.listing.proofs.write_listing.Reads as write-listing-reads
 
--- src/finish.rt:38:17
 enum-told : tie.Need-enum-told
 enum-told c = search needs
 
--- src/finish.rt:40:17
 row-word-requires : tie.Need-row-word-requires
 row-word-requires c κs = search needs
 
--- src/finish.rt:41:17
 write-listing-requires : tie.Need-write-listing-requires
 write-listing-requires c κs = search needs
 
--- src/finish.rt:48:47
 enum-told-2 : tie.Need-enum-told-2
 enum-told-2 c = search needs
 
--- src/finish.rt:52:48
 enum-told-3 : tie.Need-enum-told-3
 enum-told-3 c = search needs
 
--- src/finish.rt:21:1
 same-length : tie.Need-same-length
 same-length c = search needs
 
--- src/finish.rt:21:1
 returns : tie.Need-returns
-returns c = λ rs cs results f limit A e room.
+returns c = λ rs cs results types positions A allowance z wires allowed held end room.
     let s = c .before .before .before .before .before .before .before .before .before .before .before .before .before .before .before .args in
+    let w = c .before .before .write-listing in
     let m = (memory (nodesIn (s .nodes .now)) rs (rowsIn (s .gates .now)) cs (rowsIn (s .frames .now)) (words (s .types .now)) results) in
-    says-finished f limit A m (s .advanced) e (c .before .before .before .before .before .before .before .enum-told .given .1) (s .out .now) (c .before .before .write-listing .last .1 .1 .1 .1 .1 .1 .0) (c .before .before .write-listing .result) room
-    (subst (λ i. Writes m i (s .advanced .registers .counts .gates) (s .advanced .registers .place .left) (s .out .now) (c .before .before .write-listing .last .1 .1 .1 .1 .1 .1 .0) (c .before .before .write-listing .result))
+    says-finished types positions A allowance m (s .advanced) z wires allowed held end (c .before .before .before .before .before .before .before .enum-told .given .1) (s .out .now) (w .last .1 .1 .1 .1 .1 .1 .0) (w .result) room
+    (subst (λ i. Writes m i (s .advanced .registers .counts .gates) (s .advanced .registers .place .left) (s .out .now) (w .last .1 .1 .1 .1 .1 .1 .0) (w .result))
     (c .before .before .before .before .row-word .ensures .0)
-    (c .before .before .write-listing .ensures .0))
+    (w .ensures .0))
 
--- src/finish.rt:21:1
 returns-2 : tie.Need-returns-2
-returns-2 c = λ rs cs results f limit A e room.
+returns-2 c = λ rs cs results types positions A allowance z wires allowed held end room.
     let s = c .before .before .before .before .before .before .before .before .args in
-    says-running f limit A (memory (nodesIn (s .nodes .now)) rs (rowsIn (s .gates .now)) cs (rowsIn (s .frames .now)) (words (s .types .now)) results) (s .advanced) e (s .out .now) (c .enum-told2 .given .1)
+    says-running types positions A allowance (memory (nodesIn (s .nodes .now)) rs (rowsIn (s .gates .now)) cs (rowsIn (s .frames .now)) (words (s .types .now)) results) (s .advanced) z wires allowed held end (s .out .now) (c .enum-told2 .given .1)
 
--- src/finish.rt:21:1
 returns-3 : tie.Need-returns-3
-returns-3 c = λ rs cs results f limit A e room.
+returns-3 c = λ rs cs results types positions A allowance z wires allowed held end room.
     let s = c .before .before .before .before .before .before .before .before .args in
-    says-too-large f limit A (memory (nodesIn (s .nodes .now)) rs (rowsIn (s .gates .now)) cs (rowsIn (s .frames .now)) (words (s .types .now)) results) (s .advanced) e (s .out .now) (c .enum-told3 .given .1)
+    says-too-large types positions A allowance (memory (nodesIn (s .nodes .now)) rs (rowsIn (s .gates .now)) cs (rowsIn (s .frames .now)) (words (s .types .now)) results) (s .advanced) z wires allowed held end (s .out .now) (c .enum-told3 .given .1)
 
 pub finish-spec : {M : Type 1} → statement M
 finish-spec =

@@ -1,5 +1,6 @@
 -- `slots::use_slot` meets its contract: its uses are counted. Assumes nothing.
 use Rattle.memory.specs.Words.{words}
+use Rattle.memory.specs.Laws.{word-put}
 use Rattle.typing.specs.Ends.{slot-used}
 use borrow.Author.Needs.{needs}
 use Rattle.typing.proofs.slots.use_slot.Statement.{statement}
@@ -47,7 +48,7 @@ returns c =
     (c .before .before .before .before .before .before .before .cell-first .ensures)
     (c .before .before .before .before .cell-second .ensures)
     (c .before .before .before .before .before .before .before .before .before .before .before .before .pre .2)
-    (c .before .before .put .ensures .0)
+    (word-put _ _ _ _ (c .before .before .put .ensures))
     (c .before .before .before .before .before .before .crossing-at .ensures)
 
 pub use-slot-spec : {M : Type 1} → statement M

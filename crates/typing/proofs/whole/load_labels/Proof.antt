@@ -6,7 +6,7 @@ use mathlib.Core.Path.{_≡_, refl, _∙_, ap}
 use lib.ListN.{length}
 use borrow.Author.Needs.{needs}
 use Rattle.memory.specs.Words.{words}
-use Rattle.cells.specs.Rows.{withCell}
+use Rattle.cells.specs.Rows.{withCell, cell-put}
 use Rattle.typing.specs.Loading.{slotsLoaded, no-slot, next-slot}
 use Rattle.typing.proofs.whole.load_labels.Statement.{statement}
 use Rattle.typing.proofs.whole.load_labels.Tie as tie
@@ -46,10 +46,10 @@ loop-again c =
     let s = c .before .before .before .before .before .before .before .before .before .before .args in
     let l = c .before .before .before .before .before .before .before .loop in (
       omega arith,
-      c .before .before .new-cell .ensures .0
+      cell-put _ _ _ _ _ _ _ (c .before .before .new-cell .ensures)
           ∙ ap (λ w. withCell w (2700 + l .i) (c .before .before .before .wide .result) 0 0 0) (l .inv .1)
           ∙ next-slot (s .file .now) (words (s .work .now)) (l .i) (c .before .before .before .wide .result) (c .before .before .before .wide .ensures ∙ c .before .before .before .before .kind-at .ensures),
-      c .before .before .new-cell .ensures .1 ∙ l .inv .2,
+      c .before .before .new-cell .kept .0 ∙ l .inv .2,
     )
 
 same-length : tie.Need-same-length Inv-loop μ-loop

@@ -1,16 +1,16 @@
 -- `walking::rows::put_row` meets its contract: three words of row i are put. Assumes nothing.
-use Prim.Native.Nat.{_%_}
+use native.Mathlib.Omega.{arith}
 use mathlib.Core.Path.{sym}
+use mathlib.Core.List.{[], _∷_}
 use borrow.Author.Needs.{needs}
-use Rattle.walking.specs.Rows.{row, set-row-in, set-row-past-in}
+use Rattle.memory.specs.Laws.{put-past, put-first, put-more}
 use Rattle.walking.proofs.rows.put_row.Statement.{statement}
 use Rattle.walking.proofs.rows.put_row.Tie as tie
 
 returns : tie.Need-returns
 returns c =
     let s = c .before .before .args in
-    sym
-    (set-row-past-in (s .stack .now) (s .i) (row (s .tag % 65536) (s .node % 65536) (s .start % 65536)) (c .if1 .taken))
+    sym (put-past 4 (s .stack .now) (s .i) (s .tag ∷ s .node ∷ s .start ∷ []) (c .if1 .taken))
 
 mul-put : tie.Need-mul-put
 mul-put c = search needs
@@ -45,12 +45,13 @@ returns-2 c =
     let one = c .before .before .before .before .before .before .before .before .before .before .put in
     let two = c .before .before .before .before .before .before .put2 in
     let three = c .before .before .put3 in
-    set-row-in (s .stack .now) (one .last .0) (two .last .0) (three .last .0) (s .i)
-    (s .tag % 65536) (s .node % 65536) (s .start % 65536)
-    (c .before .before .before .before .before .before .before .before .before .before .before .before .if1 .left)
-    (one .ensures .0)
-    (two .ensures .0)
-    (three .ensures .0)
+    let m = s .stack .now in
+    let inside = c .before .before .before .before .before .before .before .before .before .before .before .before .if1 .left in
+    put-more 4 m (two .last .0) (three .last .0) (s .i) (s .tag ∷ s .node ∷ []) (s .start) inside (omega arith)
+    (put-more 4 m (one .last .0) (two .last .0) (s .i) (s .tag ∷ []) (s .node) inside (omega arith)
+    (put-first 4 m (one .last .0) (s .i) (s .tag) inside (omega arith) (one .ensures))
+    (two .ensures))
+    (three .ensures)
 
 pub put-row-spec : {M : Type 1} → statement M
 put-row-spec =

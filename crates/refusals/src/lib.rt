@@ -1,0 +1,32 @@
+// Refusals (01, "When each operation says no"), which every operation answers with.
+ghost use mathlib.Core.Path.{_≡_};
+ghost use Rattle.refusals.specs.Refusals.{refusalNumber, refusalPlace};
+
+// A refusal belongs to one of three families; its number and place are the paper's.
+pub enum Refusal {
+    Form { number: usize, place: usize },
+    Typing { number: usize, place: usize },
+    Run { number: usize, place: usize },
+}
+
+// The paper's number of a refusal.
+pub fn number_of(refusal: Refusal) -> usize
+    ensures { λ r. ⌜ r ≡ refusalNumber refusal ⌝ }
+{
+    match refusal {
+        Refusal::Form { number, place: _ } => number,
+        Refusal::Typing { number, place: _ } => number,
+        Refusal::Run { number, place: _ } => number,
+    }
+}
+
+// The paper's place of a refusal.
+pub fn place_of(refusal: Refusal) -> usize
+    ensures { λ r. ⌜ r ≡ refusalPlace refusal ⌝ }
+{
+    match refusal {
+        Refusal::Form { number: _, place } => place,
+        Refusal::Typing { number: _, place } => place,
+        Refusal::Run { number: _, place } => place,
+    }
+}

@@ -1,0 +1,15 @@
+-- How long the buffers that are lent to a check must be at least.
+use Prim.Native.Nat.{ℕ}
+use mathlib.Core.List.{List, [], _∷_}
+
+-- 01: "The least output buffer is 11,078 bytes for a run and 512 for a check".
+abbrev pub least-out : ℕ
+least-out = 512
+
+-- 01: "docs/ names every other length, each at most 65,536". docs/FORMATS.md: the check's working memory.
+abbrev pub least-work : ℕ
+least-work = 54880
+
+-- Both, in the order of the buffers: the output buffer, then the working memory.
+abbrev pub check-lengths : List ℕ
+check-lengths = least-out ∷ least-work ∷ []

@@ -1,0 +1,342 @@
+/*
+ * The header against the library: every exported function and every accessor, on the cases c1 to c12 of the requirement and on
+ * files with large numbers, whose answers are known. It is C99 and C++. Each difference is a sentence on standard error; the
+ * exit status is 1 if there is one.
+ */
+#include "gawipsol.h"
+
+#include <stdio.h>
+#include <string.h>
+
+/* A byte that no answer has at its place, so that a change shows. */
+#define MARK 0xA5
+
+static struct gawipsol_machine machine;
+static uint8_t work[GAWIPSOL_CHECK_WORK];
+static uint8_t type[GAWIPSOL_CHECK_OUT];
+static uint8_t out[GAWIPSOL_RUN_OUT];
+
+static uint8_t file[GAWIPSOL_LONGEST_FILE];
+static size_t file_length;
+
+static const char *name; /* of the file */
+static int differences;
+
+/* What is answered, by name, and what should be. */
+static void same(const char *operation, const char *what, unsigned long is, unsigned long should)
+{
+    if (is == should)
+        return;
+    fprintf(stderr, "%s, %s: the %s is %lu, and should be %lu.\n", name, operation, what, is, should);
+    differences++;
+}
+
+static void holds(const char *operation, const char *sentence, int is_so)
+{
+    if (is_so)
+        return;
+    fprintf(stderr, "%s, %s: it does not hold that %s.\n", name, operation, sentence);
+    differences++;
+}
+
+static int all(const void *from, size_t count, uint8_t byte)
+{
+    const uint8_t *bytes = (const uint8_t *)from;
+    size_t at;
+
+    for (at = 0; at < count; at++)
+        if (bytes[at] != byte)
+            return 0;
+    return 1;
+}
+
+static void put_word(size_t at, unsigned word)
+{
+    file[at] = (uint8_t)(word & 0xFF);
+    file[at + 1] = (uint8_t)(word >> 8);
+}
+
+/* Starts a file of these sizes, all of whose entries are 0. */
+static void sizes(const char *of, unsigned labels, unsigned types, unsigned terms)
+{
+    name = of;
+    file_length = 6 + 3 * (size_t)(labels + types + terms);
+    memset(file, 0, sizeof file);
+    put_word(0, labels);
+    put_word(2, types);
+    put_word(4, terms);
+}
+
+static void entry(unsigned number, unsigned kind, unsigned argument)
+{
+    file[6 + number] = (uint8_t)kind;
+    put_word(6 + (file_length - 6) / 3 + 2 * (size_t)number, argument);
+}
+
+/* What each operation answers: its number and place, and what it answers where the number is 0. */
+struct answers {
+    unsigned read_number, read_place, labels, types, terms;
+    unsigned check_number, check_place, type_length;
+    uint32_t limit;
+    unsigned run_number, run_place, gates, length, steps;
+};
+
+static void refusal(const char *operation, uint64_t answer, unsigned number, unsigned place)
+{
+    same(operation, "number", gawipsol_number(answer), number);
+    if (number != GAWIPSOL_ACCEPTED)
+        same(operation, "place", gawipsol_place(answer), place);
+}
+
+static void check_answers(const struct answers *known)
+{
+    size_t written;
+    uint64_t answer = gawipsol_read(file, file_length);
+
+    refusal("read", answer, known->read_number, known->read_place);
+    if (known->read_number == GAWIPSOL_ACCEPTED) {
+        same("read", "number of labels", gawipsol_read_labels(answer), known->labels);
+        same("read", "number of type entries", gawipsol_read_types(answer), known->types);
+        same("read", "number of term entries", gawipsol_read_terms(answer), known->terms);
+    }
+
+    memset(type, MARK, sizeof type);
+    memset(work, MARK, sizeof work);
+    answer = gawipsol_check(file, file_length, type, sizeof type, work, sizeof work);
+    refusal("check", answer, known->check_number, known->check_place);
+    written = 0;
+    if (known->check_number == GAWIPSOL_ACCEPTED) {
+        written = known->type_length;
+        same("check", "length of the type", (unsigned long)gawipsol_check_length(answer), known->type_length);
+    }
+    holds("check", "the output buffer past the type is unchanged", all(type + written, sizeof type - written, MARK));
+    holds("check", "the working memory is zero", all(work, sizeof work, 0));
+
+    memset(&machine, MARK, sizeof machine);
+    same("check in a machine", "answer", (unsigned long)gawipsol_check_in(&machine, file, file_length, type, sizeof type),
+         (unsigned long)answer);
+
+    memset(out, MARK, sizeof out);
+    memset(&machine, MARK, sizeof machine);
+    answer = gawipsol_run_in(&machine, file, file_length, known->limit, out, sizeof out);
+    refusal("run", answer, known->run_number, known->run_place);
+    written = 0;
+    if (known->run_number == GAWIPSOL_ACCEPTED) {
+        written = known->length;
+        same("run", "number of gates", gawipsol_run_gates(answer), known->gates);
+        same("run", "length of the listing", (unsigned long)gawipsol_run_length(answer), known->length);
+        same("run", "number of steps", gawipsol_run_steps(answer), known->steps);
+    }
+    holds("run", "the output buffer past the listing is unchanged", all(out + written, sizeof out - written, MARK));
+    holds("run", "the machine is zero", all(&machine, sizeof machine, 0));
+}
+
+/* The kinds and arguments of all entries of a case. */
+struct small {
+    const char *name;
+    unsigned labels, types, terms;
+    uint8_t kinds[12];
+    uint8_t arguments[12];
+    struct answers known;
+};
+
+static const struct small cases[] = {
+    {"c1", 1, 0, 1, {1, 17}, {0}, {0, 0, 1, 0, 1, 0, 0, 1, 0, 0, 0, 0, 13, 0}},
+    {"c2", 1, 0, 3, {1, 25, 26, 17}, {0}, {0, 0, 1, 0, 3, 0, 0, 1, 1, 0, 0, 1, 18, 1}},
+    {"c3", 2, 0, 9, {1, 1, 21, 25, 26, 20, 17, 17, 20, 16, 16}, {0, 0, 0, 0, 5, 0, 0, 1, 0, 0, 1},
+     {0, 0, 2, 0, 9, 0, 0, 3, 2, 0, 0, 1, 25, 2}},
+    {"c4 with limit 4", 1, 1, 8, {1, 1, 25, 24, 22, 18, 25, 26, 16, 17}, {0},
+     {0, 0, 1, 1, 8, 0, 0, 1, 4, 21, 0, 0, 0, 0}},
+    {"c4 with limit 5", 1, 1, 8, {1, 1, 25, 24, 22, 18, 25, 26, 16, 17}, {0},
+     {0, 0, 1, 1, 8, 0, 0, 1, 5, 0, 0, 1, 18, 5}},
+    {"c5", 1, 0, 3, {1, 20, 17, 17}, {0}, {0, 0, 1, 0, 3, 17, 0, 0, 9, 17, 0, 0, 0, 0}},
+    {"c6", 1, 1, 2, {1, 1, 18, 16}, {0}, {0, 0, 1, 1, 2, 17, 0, 0, 9, 17, 0, 0, 0, 0}},
+    {"c7", 1, 0, 2, {1, 22, 17}, {0}, {0, 0, 1, 0, 2, 18, 2, 0, 9, 18, 2, 0, 0, 0}},
+    {"c8", 1, 0, 5, {1, 25, 26, 25, 26, 17}, {0, 0, 0, 0, 6}, {0, 0, 1, 0, 5, 16, 1, 0, 9, 16, 1, 0, 0, 0}},
+    {"c9", 0, 1, 4, {1, 18, 20, 16, 16}, {0}, {0, 0, 0, 1, 4, 17, 1, 0, 9, 17, 1, 0, 0, 0}},
+    {"c10", 1, 3, 8, {1, 5, 1, 1, 19, 18, 25, 16, 25, 16, 17, 26}, {0}, {0, 0, 1, 3, 8, 0, 0, 1, 9, 0, 0, 2, 23, 3}},
+    {"c11", 0, 1, 2, {1, 18, 16}, {0}, {0, 0, 0, 1, 2, 0, 0, 3, 9, 20, 0, 0, 0, 0}},
+    {"c12", 1, 3, 4, {1, 5, 1, 1, 19, 18, 17, 26}, {0}, {0, 0, 1, 3, 4, 0, 0, 1, 9, 0, 0, 0, 13, 1}},
+};
+
+static void load(const struct small *of)
+{
+    unsigned number;
+
+    sizes(of->name, of->labels, of->types, of->terms);
+    for (number = 0; number < of->labels + of->types + of->terms; number++)
+        entry(number, of->kinds[number], of->arguments[number]);
+}
+
+static void check_cases(void)
+{
+    static const uint8_t c2_listing[] = {1, 0, 1, 0, 1, 0, 0x81, 0, 255, 255, 255, 255, 0, 0, 255, 255, 1, 0};
+    static const uint8_t c11_type[] = {GAWIPSOL_FUNCTION, GAWIPSOL_QUBIT, GAWIPSOL_QUBIT};
+    size_t at;
+
+    for (at = 0; at < sizeof cases / sizeof cases[0]; at++) {
+        load(&cases[at]);
+        check_answers(&cases[at].known);
+        if (strcmp(name, "c2") == 0)
+            holds("run", "the listing is that of the requirement", memcmp(out, c2_listing, sizeof c2_listing) == 0);
+        if (strcmp(name, "c11") == 0)
+            holds("check", "the type is a function from Qubit to Qubit", memcmp(type, c11_type, sizeof c11_type) == 0);
+    }
+}
+
+/* Files with large numbers. */
+static void check_large(void)
+{
+    static const struct answers empty = {1, 0, 0, 0, 0, 1, 0, 0, 9, 1, 0, 0, 0, 0};
+    static const struct answers alone = {2, 0, 0, 0, 0, 2, 0, 0, 9, 2, 0, 0, 0, 0};
+    /* The 510th lift around a gate has a type of 513 entries. */
+    static const struct answers lifts = {0, 0, 64, 512, 2048, 16, 2113, 0, 9, 16, 2113, 0, 0, 0};
+    static const struct answers left_over = {8, 2623, 0, 0, 0, 8, 2623, 0, 9, 8, 2623, 0, 0, 0};
+    static const struct answers longest = {0, 0, 0, 0, 510, 0, 0, 512, 9, 20, 0, 0, 0, 0};
+    static const struct answers gates = {0, 0, 1, 0, 2047, 0, 0, 1, 1023, 0, 0, 1023, 5128, 1023};
+    unsigned number;
+
+    name = "the empty file";
+    file_length = 0;
+    check_answers(&empty);
+
+    sizes("sizes 1, 0, 0 alone", 1, 0, 0);
+    file_length = 6;
+    check_answers(&alone);
+
+    sizes("2,047 lifts around a gate", 64, 512, 2048);
+    for (number = 576; number < 2623; number++)
+        entry(number, 22, 0);
+    entry(2623, 26, 0);
+    check_answers(&lifts);
+
+    sizes("2,046 lifts around a gate, and one gate more", 64, 512, 2048);
+    for (number = 576; number < 2622; number++)
+        entry(number, 22, 0);
+    entry(2622, 26, 0);
+    entry(2623, 26, 0);
+    check_answers(&left_over);
+
+    sizes("509 lifts around a gate", 0, 0, 510);
+    for (number = 0; number < 509; number++)
+        entry(number, 22, 0);
+    entry(509, 26, 0);
+    check_answers(&longest);
+
+    sizes("1,023 gates on one wire", 1, 0, 2047);
+    entry(0, 1, 0);
+    for (number = 0; number < 1023; number++) {
+        entry(1 + 2 * number, 25, 0);
+        entry(2 + 2 * number, 26, 0);
+    }
+    entry(2047, 17, 0);
+    check_answers(&gates);
+}
+
+/* The buffers of a run. */
+enum buffer {
+    OUT,
+    NODES,
+    STACK,
+    TYPES,
+    FRAMES,
+    GATES,
+    CLOSED,
+    FIRST,
+    SECOND,
+    THIRD,
+    FOURTH,
+    BUFFERS
+};
+
+/* The lengths in the header are the least ones: 19 with one byte less. */
+static void check_lengths(void)
+{
+    size_t lengths[BUFFERS] = {
+        sizeof out,
+        sizeof machine.nodes,
+        sizeof machine.stack,
+        sizeof machine.types,
+        sizeof machine.frames,
+        sizeof machine.gates,
+        sizeof machine.closed,
+        sizeof machine.first,
+        sizeof machine.second,
+        sizeof machine.third,
+        sizeof machine.fourth,
+    };
+    size_t sum = 0;
+    int shorter;
+    uint64_t answer;
+
+    load(&cases[0]);
+    memset(type, MARK, sizeof type);
+    memset(work, MARK, sizeof work);
+    refusal("check with a short output buffer",
+            gawipsol_check(file, file_length, type, sizeof type - 1, work, sizeof work), GAWIPSOL_BUFFER_TOO_SHORT, 0);
+    refusal("check with a short working memory",
+            gawipsol_check(file, file_length, type, sizeof type, work, sizeof work - 1), GAWIPSOL_BUFFER_TOO_SHORT, 0);
+    holds("check with a short buffer", "no buffer is touched",
+          all(type, sizeof type, MARK) && all(work, sizeof work, MARK));
+
+    for (shorter = 0; shorter <= BUFFERS; shorter++) {
+        const unsigned number = shorter < BUFFERS ? GAWIPSOL_BUFFER_TOO_SHORT : GAWIPSOL_ACCEPTED;
+        char operation[40];
+
+        sprintf(operation, "run with buffer %d short", shorter);
+        memset(out, MARK, sizeof out);
+        memset(&machine, MARK, sizeof machine);
+        if (shorter < BUFFERS)
+            lengths[shorter]--;
+        answer = gawipsol_run(file, file_length, 0,
+                              out, lengths[OUT],
+                              machine.nodes, lengths[NODES],
+                              machine.stack, lengths[STACK],
+                              machine.types, lengths[TYPES],
+                              machine.frames, lengths[FRAMES],
+                              machine.gates, lengths[GATES],
+                              machine.closed, lengths[CLOSED],
+                              machine.first, lengths[FIRST],
+                              machine.second, lengths[SECOND],
+                              machine.third, lengths[THIRD],
+                              machine.fourth, lengths[FOURTH]);
+        if (shorter < BUFFERS)
+            lengths[shorter]++;
+        refusal(operation, answer, number, 0);
+        if (number != GAWIPSOL_ACCEPTED)
+            holds(operation, "no buffer is touched", all(out, sizeof out, MARK) && all(&machine, sizeof machine, MARK));
+    }
+
+    /* The machine has no byte besides its buffers, in the order in which they are lent. */
+    for (shorter = NODES; shorter < BUFFERS; shorter++)
+        sum += lengths[shorter];
+    same("machine", "sum of its buffers' lengths", (unsigned long)sum, (unsigned long)sizeof machine);
+}
+
+/* Each accessor has all the bits of its field, those of numbers that no operation answers today too. */
+static void check_fields(void)
+{
+    const uint64_t ones = UINT64_MAX;
+
+    name = "all bits set";
+    same("any operation", "number", gawipsol_number(ones), 63);
+    same("any operation", "place", gawipsol_place(ones), 65535);
+    same("read", "number of labels", gawipsol_read_labels(ones), 127);
+    same("read", "number of type entries", gawipsol_read_types(ones), 1023);
+    same("read", "number of term entries", gawipsol_read_terms(ones), 4095);
+    same("check", "length of the type", (unsigned long)gawipsol_check_length(ones), 65535);
+    same("run", "number of gates", gawipsol_run_gates(ones), 4095);
+    same("run", "length of the listing", (unsigned long)gawipsol_run_length(ones), 16383);
+    same("run", "number of steps", gawipsol_run_steps(ones), 4294967295u);
+}
+
+int main(void)
+{
+    check_fields();
+    check_cases();
+    check_large();
+    check_lengths();
+    if (differences != 0)
+        fprintf(stderr, "%d differences between header and library.\n", differences);
+    return differences != 0;
+}
