@@ -64,7 +64,7 @@ enum gawipsol_number {
 
 /*
  * An answer is one number. Bits 0 to 5: 0, or the refusal's number. Refused: bits 6 to 21 its place. Else from bit 6 on what
- * the operation answers. crates/packed proves that this gives back every answer.
+ * the operation answers. crates/cabinet_answers proves that this gives back every answer.
  */
 static inline unsigned gawipsol_number(uint64_t answer)
 {
@@ -131,11 +131,11 @@ uint64_t gawipsol_run(const uint8_t *file, size_t file_length,
                       uint8_t *types, size_t types_length,
                       uint8_t *frames, size_t frames_length,
                       uint8_t *gates, size_t gates_length,
-                      uint8_t *closed, size_t closed_length,
-                      uint8_t *first, size_t first_length,
-                      uint8_t *second, size_t second_length,
-                      uint8_t *third, size_t third_length,
-                      uint8_t *fourth, size_t fourth_length);
+                      uint8_t *circuits, size_t circuits_length,
+                      uint8_t *results0, size_t results0_length,
+                      uint8_t *results1, size_t results1_length,
+                      uint8_t *results2, size_t results2_length,
+                      uint8_t *results3, size_t results3_length);
 
 /* Finished: the number of gates. */
 static inline unsigned gawipsol_run_gates(uint64_t answer)
@@ -170,11 +170,11 @@ struct gawipsol_machine {
     uint8_t types[1152];
     uint8_t frames[32776];
     uint8_t gates[32768];
-    uint8_t closed[2048];
-    uint8_t first[65536];
-    uint8_t second[65536];
-    uint8_t third[65536];
-    uint8_t fourth[65536];
+    uint8_t circuits[2048];
+    uint8_t results0[65536];
+    uint8_t results1[65536];
+    uint8_t results2[65536];
+    uint8_t results3[65536];
 };
 
 /* The run in the memory of a machine. */
@@ -191,11 +191,11 @@ static inline uint64_t gawipsol_run_in(struct gawipsol_machine *machine,
                         machine->types, sizeof machine->types,
                         machine->frames, sizeof machine->frames,
                         machine->gates, sizeof machine->gates,
-                        machine->closed, sizeof machine->closed,
-                        machine->first, sizeof machine->first,
-                        machine->second, sizeof machine->second,
-                        machine->third, sizeof machine->third,
-                        machine->fourth, sizeof machine->fourth);
+                        machine->circuits, sizeof machine->circuits,
+                        machine->results0, sizeof machine->results0,
+                        machine->results1, sizeof machine->results1,
+                        machine->results2, sizeof machine->results2,
+                        machine->results3, sizeof machine->results3);
 }
 
 /* The check in the memory of a machine, whose nodes are longer than its working memory has to be. */

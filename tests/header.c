@@ -1,7 +1,7 @@
 /*
- * The header against the library: every exported function and every accessor, on the cases c1 to c12 of the requirement and on
- * files with large numbers, whose answers are known. It is C99 and C++. Each difference is a sentence on standard error; the
- * exit status is 1 if there is one.
+ * The header against the library: every exported function and every accessor, on the cases of 01 and on files with large
+ * numbers, whose answers are known. It is C99 and C++. Each difference is a sentence on standard error; the exit status is 1 if
+ * there is one. The program cases_header of tests/comparing prints cases.h, the cases from the table of the comparisons.
  */
 #include "gawipsol.h"
 
@@ -131,96 +131,68 @@ static void check_answers(const struct answers *known)
     holds("run", "the machine is zero", all(&machine, sizeof machine, 0));
 }
 
-/* The kinds and arguments of all entries of a case. */
-struct small {
+/* A case with a limit: its file, what each operation answers, and the bytes of its type and its listing, if it has them. */
+struct known_case {
     const char *name;
-    unsigned labels, types, terms;
-    uint8_t kinds[12];
-    uint8_t arguments[12];
+    const char *file;
+    size_t file_length;
     struct answers known;
+    const char *type;
+    const char *listing;
 };
 
-static const struct small cases[] = {
-    {"c1", 1, 0, 1, {1, 17}, {0}, {0, 0, 1, 0, 1, 0, 0, 1, 0, 0, 0, 0, 13, 0}},
-    {"c2", 1, 0, 3, {1, 25, 26, 17}, {0}, {0, 0, 1, 0, 3, 0, 0, 1, 1, 0, 0, 1, 18, 1}},
-    {"c3", 2, 0, 9, {1, 1, 21, 25, 26, 20, 17, 17, 20, 16, 16}, {0, 0, 0, 0, 5, 0, 0, 1, 0, 0, 1},
-     {0, 0, 2, 0, 9, 0, 0, 3, 2, 0, 0, 1, 25, 2}},
-    {"c4 with limit 4", 1, 1, 8, {1, 1, 25, 24, 22, 18, 25, 26, 16, 17}, {0},
-     {0, 0, 1, 1, 8, 0, 0, 1, 4, 21, 0, 0, 0, 0}},
-    {"c4 with limit 5", 1, 1, 8, {1, 1, 25, 24, 22, 18, 25, 26, 16, 17}, {0},
-     {0, 0, 1, 1, 8, 0, 0, 1, 5, 0, 0, 1, 18, 5}},
-    {"c5", 1, 0, 3, {1, 20, 17, 17}, {0}, {0, 0, 1, 0, 3, 17, 0, 0, 9, 17, 0, 0, 0, 0}},
-    {"c6", 1, 1, 2, {1, 1, 18, 16}, {0}, {0, 0, 1, 1, 2, 17, 0, 0, 9, 17, 0, 0, 0, 0}},
-    {"c7", 1, 0, 2, {1, 22, 17}, {0}, {0, 0, 1, 0, 2, 18, 2, 0, 9, 18, 2, 0, 0, 0}},
-    {"c8", 1, 0, 5, {1, 25, 26, 25, 26, 17}, {0, 0, 0, 0, 6}, {0, 0, 1, 0, 5, 16, 1, 0, 9, 16, 1, 0, 0, 0}},
-    {"c9", 0, 1, 4, {1, 18, 20, 16, 16}, {0}, {0, 0, 0, 1, 4, 17, 1, 0, 9, 17, 1, 0, 0, 0}},
-    {"c10", 1, 3, 8, {1, 5, 1, 1, 19, 18, 25, 16, 25, 16, 17, 26}, {0}, {0, 0, 1, 3, 8, 0, 0, 1, 9, 0, 0, 2, 23, 3}},
-    {"c11", 0, 1, 2, {1, 18, 16}, {0}, {0, 0, 0, 1, 2, 0, 0, 3, 9, 20, 0, 0, 0, 0}},
-    {"c12", 1, 3, 4, {1, 5, 1, 1, 19, 18, 17, 26}, {0}, {0, 0, 1, 3, 4, 0, 0, 1, 9, 0, 0, 0, 13, 1}},
-};
+#include "cases.h"
 
-static void load(const struct small *of)
+static void load(const struct known_case *of)
 {
-    unsigned number;
-
-    sizes(of->name, of->labels, of->types, of->terms);
-    for (number = 0; number < of->labels + of->types + of->terms; number++)
-        entry(number, of->kinds[number], of->arguments[number]);
+    name = of->name;
+    file_length = of->file_length;
+    memcpy(file, of->file, file_length);
 }
 
 static void check_cases(void)
 {
-    static const uint8_t c2_listing[] = {1, 0, 1, 0, 1, 0, 0x81, 0, 255, 255, 255, 255, 0, 0, 255, 255, 1, 0};
-    static const uint8_t c11_type[] = {GAWIPSOL_FUNCTION, GAWIPSOL_QUBIT, GAWIPSOL_QUBIT};
     size_t at;
 
     for (at = 0; at < sizeof cases / sizeof cases[0]; at++) {
-        load(&cases[at]);
-        check_answers(&cases[at].known);
-        if (strcmp(name, "c2") == 0)
-            holds("run", "the listing is that of the requirement", memcmp(out, c2_listing, sizeof c2_listing) == 0);
-        if (strcmp(name, "c11") == 0)
-            holds("check", "the type is a function from Qubit to Qubit", memcmp(type, c11_type, sizeof c11_type) == 0);
+        const struct known_case *of = &cases[at];
+
+        load(of);
+        check_answers(&of->known);
+        holds("check", "the type is that of the case", memcmp(type, of->type, of->known.type_length) == 0);
+        holds("run", "the listing is that of the case", memcmp(out, of->listing, of->known.length) == 0);
     }
+}
+
+/* Lifts from an entry on around a gate. */
+static void lifts(unsigned from, unsigned gate)
+{
+    for (; from < gate; from++)
+        entry(from, 22, 0);
+    entry(gate, 26, 0);
 }
 
 /* Files with large numbers. */
 static void check_large(void)
 {
-    static const struct answers empty = {1, 0, 0, 0, 0, 1, 0, 0, 9, 1, 0, 0, 0, 0};
-    static const struct answers alone = {2, 0, 0, 0, 0, 2, 0, 0, 9, 2, 0, 0, 0, 0};
     /* The 510th lift around a gate has a type of 513 entries. */
-    static const struct answers lifts = {0, 0, 64, 512, 2048, 16, 2113, 0, 9, 16, 2113, 0, 0, 0};
+    static const struct answers too_large = {0, 0, 64, 512, 2048, 16, 2113, 0, 9, 16, 2113, 0, 0, 0};
     static const struct answers left_over = {8, 2623, 0, 0, 0, 8, 2623, 0, 9, 8, 2623, 0, 0, 0};
     static const struct answers longest = {0, 0, 0, 0, 510, 0, 0, 512, 9, 20, 0, 0, 0, 0};
     static const struct answers gates = {0, 0, 1, 0, 2047, 0, 0, 1, 1023, 0, 0, 1023, 5128, 1023};
     unsigned number;
 
-    name = "the empty file";
-    file_length = 0;
-    check_answers(&empty);
-
-    sizes("sizes 1, 0, 0 alone", 1, 0, 0);
-    file_length = 6;
-    check_answers(&alone);
-
     sizes("2,047 lifts around a gate", 64, 512, 2048);
-    for (number = 576; number < 2623; number++)
-        entry(number, 22, 0);
-    entry(2623, 26, 0);
-    check_answers(&lifts);
+    lifts(576, 2623);
+    check_answers(&too_large);
 
     sizes("2,046 lifts around a gate, and one gate more", 64, 512, 2048);
-    for (number = 576; number < 2622; number++)
-        entry(number, 22, 0);
-    entry(2622, 26, 0);
+    lifts(576, 2622);
     entry(2623, 26, 0);
     check_answers(&left_over);
 
     sizes("509 lifts around a gate", 0, 0, 510);
-    for (number = 0; number < 509; number++)
-        entry(number, 22, 0);
-    entry(509, 26, 0);
+    lifts(0, 509);
     check_answers(&longest);
 
     sizes("1,023 gates on one wire", 1, 0, 2047);
@@ -241,11 +213,11 @@ enum buffer {
     TYPES,
     FRAMES,
     GATES,
-    CLOSED,
-    FIRST,
-    SECOND,
-    THIRD,
-    FOURTH,
+    CIRCUITS,
+    RESULTS0,
+    RESULTS1,
+    RESULTS2,
+    RESULTS3,
     BUFFERS
 };
 
@@ -259,11 +231,11 @@ static void check_lengths(void)
         sizeof machine.types,
         sizeof machine.frames,
         sizeof machine.gates,
-        sizeof machine.closed,
-        sizeof machine.first,
-        sizeof machine.second,
-        sizeof machine.third,
-        sizeof machine.fourth,
+        sizeof machine.circuits,
+        sizeof machine.results0,
+        sizeof machine.results1,
+        sizeof machine.results2,
+        sizeof machine.results3,
     };
     size_t sum = 0;
     int shorter;
@@ -295,11 +267,11 @@ static void check_lengths(void)
                               machine.types, lengths[TYPES],
                               machine.frames, lengths[FRAMES],
                               machine.gates, lengths[GATES],
-                              machine.closed, lengths[CLOSED],
-                              machine.first, lengths[FIRST],
-                              machine.second, lengths[SECOND],
-                              machine.third, lengths[THIRD],
-                              machine.fourth, lengths[FOURTH]);
+                              machine.circuits, lengths[CIRCUITS],
+                              machine.results0, lengths[RESULTS0],
+                              machine.results1, lengths[RESULTS1],
+                              machine.results2, lengths[RESULTS2],
+                              machine.results3, lengths[RESULTS3]);
         if (shorter < BUFFERS)
             lengths[shorter]++;
         refusal(operation, answer, number, 0);

@@ -1,5 +1,5 @@
 //! The faults that are planted, each as edits of the evaluator's source. The
-//! first four are those that the requirement names as seen in other machines.
+//! first four are those that 01 names as seen in other machines.
 
 /// The file of the evaluator, a piece of its text, and what takes its place.
 pub type Edit = (&'static str, &'static str, &'static str);

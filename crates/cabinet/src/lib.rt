@@ -1,18 +1,21 @@
-// What the cabinet exports to hosts: the reading, the check and the run, each with its answer in one number. A static library has
-// the exported functions of its own crate only, so all stand here.
-use packed::pack_check;
-use packed::pack_read;
-use packed::pack_run;
+// What is exported to hosts: reading, check and run, each with its answer in one number. A static library has the exported
+// functions of its own crate only, so all stand here.
+// Believe: the three contracts, which speak in the definitions of the operations and of cabinet_answers.
+// No theorem beyond them.
+// Called by C hosts (include/gawipsol.h) and by the comparisons in tests/.
+use cabinet_answers::pack_check;
+use cabinet_answers::pack_read;
+use cabinet_answers::pack_run;
+use check_program::check;
 use program::read;
 use run::run;
-use typing::check;
 ghost use mathlib.Core.Path.{_≡_};
 ghost use mathlib.Core.List.{[], _∷_};
 ghost use Rattle.lent.specs.Lent.{firstBytes, lastBytes};
 ghost use Rattle.program.specs.Reading.{readOf};
-ghost use Rattle.typing.specs.Answers.{checkAnswer, checkBytes};
-ghost use Rattle.answers.specs.Answers.{runAnswer, runBytes};
-ghost use Rattle.packed.specs.Packed.{packedRead, packedCheck, packedRun};
+ghost use Rattle.check_program.specs.Answers.{checkAnswer, checkBytes};
+ghost use Rattle.run_answers.specs.Answers.{runAnswer, runBytes};
+ghost use Rattle.cabinet_answers.specs.Packed.{packedRead, packedCheck, packedRun};
 
 // The reading for callers outside, with its answer in one number.
 #[no_mangle]
@@ -42,13 +45,13 @@ pub extern "C" fn gawipsol_run(
     types: &mut [u8],
     frames: &mut [u8],
     gates: &mut [u8],
-    closed: &mut [u8],
-    first: &mut [u8],
-    second: &mut [u8],
-    third: &mut [u8],
-    fourth: &mut [u8],
+    circuits: &mut [u8],
+    results0: &mut [u8],
+    results1: &mut [u8],
+    results2: &mut [u8],
+    results3: &mut [u8],
 ) -> u64
-    ensures { λ r. let lent = out ∷ nodes ∷ stack ∷ types ∷ frames ∷ gates ∷ closed ∷ first ∷ second ∷ third ∷ fourth ∷ [] in
+    ensures { λ r. let lent = out ∷ nodes ∷ stack ∷ types ∷ frames ∷ gates ∷ circuits ∷ results0 ∷ results1 ∷ results2 ∷ results3 ∷ [] in
         ⌜ r ≡ packedRun (runAnswer (now (file .entry)) limit (firstBytes lent)) ⌝ ∗ ⌜ lastBytes lent ≡ runBytes (now (file .entry)) limit (firstBytes lent) ⌝ }
 {
     pack_run(run(
@@ -60,10 +63,10 @@ pub extern "C" fn gawipsol_run(
         types,
         frames,
         gates,
-        closed,
-        first,
-        second,
-        third,
-        fourth,
+        circuits,
+        results0,
+        results1,
+        results2,
+        results3,
     ))
 }

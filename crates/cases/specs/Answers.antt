@@ -3,11 +3,11 @@ use Prim.Native.Nat.{ℕ}
 use mathlib.Core.Path.{_≡_}
 use mathlib.Core.List.{List, [], _∷_, _++_}
 use lib.ListN.{length, drop}
-use Rattle.typing.specs.declared.CheckAnswer.{CheckAnswer}
-use Rattle.typing.specs.declared.CheckAnswer.the-variants.{Accepted, Refused}
+use Rattle.check_program.specs.declared.CheckAnswer.{CheckAnswer}
+use Rattle.check_program.specs.declared.CheckAnswer.the-variants.{Accepted, Refused}
 use Rattle.lent.specs.Lent.{answered}
-use Rattle.typing.specs.Answers.{checkAnswer, checkBytes}
-use Rattle.answers.specs.Answers.{answerTo, outTo, runAnswer, runBytes}
+use Rattle.check_program.specs.Answers.{checkAnswer, checkBytes}
+use Rattle.run_answers.specs.Answers.{answerTo, outTo, runAnswer, runBytes}
 use Rattle.cases.specs.Table.{CheckResult, accepted, refused, LimitedRun, limit_gives_, Case}
 
 -- "Accepted: the type in preorder, one kind byte an entry, at the start of the output buffer, and its length."

@@ -7,8 +7,8 @@ use mathlib.Core.Option.{Option, none, some}
 use Rattle.rules.specs.Types.{Wire, typeCodes}
 use Rattle.rules.specs.Terms.{Term}
 use Rattle.rules.specs.CaseTerms.{one-label, two-labels, c1 as c1-term, c2 as c2-term, c3 as c3-term, c4 as c4-term}
-use Rattle.rules.specs.CaseTerms.{c5 as c5-term, c6 as c6-term, c7 as c7-term, c8 as c8-term, c9 as c9-term}
-use Rattle.rules.specs.CaseTerms.{c10 as c10-term, c11 as c11-term, c12 as c12-term}
+use Rattle.rules.specs.CaseTerms.{c5 as c5-term, c6 as c6-term, c7 as c7-term, c8 as c8-term, c9 as c9-term, c10 as c10-term}
+use Rattle.rules.specs.CaseTerms.{c11 as c11-term, c12 as c12-term}
 use Rattle.program.specs.Reading.{readOf}
 use Rattle.program.specs.CaseFiles.{c1-file, c2-file, c3-file, c4-file, c5-file, c6-file, c7-file, c8-file, c9-file}
 use Rattle.program.specs.CaseFiles.{c10-file, c11-file, c12-file, sizes-file}
@@ -16,8 +16,8 @@ use Rattle.refusals.specs.declared.Refusal.{Refusal}
 use Rattle.refusals.specs.declared.Refusal.the-variants.{Form, Typing, Run}
 use Rattle.program.specs.declared.ReadAnswer.{ReadAnswer}
 use Rattle.program.specs.declared.ReadAnswer.the-variants.{Accepted as Read, Refused as NotRead}
-use Rattle.typing.specs.Answers.{labelsOf, termOf, Judged, accepts, refuses, checkOf}
-use Rattle.answers.specs.Answers.{Ran, ran, declines, runOf}
+use Rattle.check_program.specs.Answers.{labelsOf, termOf, Judged, accepts, refuses, checkOf}
+use Rattle.run_answers.specs.Answers.{Ran, ran, declines, runOf}
 
 -- What the check gives: "the type in preorder, one kind byte an entry"; or a refusal, with its number and place.
 pub data CheckResult : Type 0 where
@@ -118,7 +118,7 @@ c3 =
 
 -- "c4: an abstraction over Qubit applies H to its variable; it is lifted, boxed at Qubit, and the box is applied to label 0.
 -- Limit 4 gives 21; 5 finishes with c2's listing." The nodes of its configurations, 8, 14, 11, 9, 3, 1: c4-totals of
--- rules/specs/Cases.
+-- rules/specs/Theorems/Cases.
 abbrev pub c4 : Case
 c4 =
     record {

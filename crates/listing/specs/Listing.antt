@@ -6,6 +6,7 @@ use Rattle.rules.specs.Types.{Wire, Bit, Qubit}
 use Rattle.rules.specs.Terms.{Tuple, labels, Gate, _on_}
 use Rattle.rules.specs.Circuits.{Circuit, circuit}
 use Rattle.rules.specs.Slots.{no-wire}
+use Rattle.rules.specs.Sizes.{most-labels, most-gates}
 
 -- 16 bits, "low byte first".
 abbrev pub bytesOf : ℕ → List ℕ
@@ -62,8 +63,12 @@ listing (circuit I gs) r =
 
 -- "Length: 6 + 5(L+G) + 2O".
 abbrev pub listingLength : ℕ → ℕ → ℕ → ℕ
-listingLength L G O = 6 + 5 * (L + G) + 2 * O
+listingLength L G O = 6 + (1 + 2 * entry-slots) * (L + G) + 2 * O
+
+-- "outputs O (at most 256)".
+abbrev pub most-outputs : ℕ
+most-outputs = 256
 
 -- "at most 11,078".
 abbrev pub most-bytes : ℕ
-most-bytes = 11078
+most-bytes = listingLength most-labels most-gates most-outputs

@@ -1,243 +1,97 @@
-// The gate list of a finished run, as bytes (01, "Listing").
-use circuits::gates::NO_WIRE;
-use circuits::gates::gate_wire;
-use circuits::rows::row_word;
-use nodes::argument_at;
-use nodes::kind_at;
-ghost use Prim.Native.Nat.{_+_, _*_, _/_, _≤_, _<_};
+// The listing of a circuit as bytes (01, "Listing"): its layout, and what is read in it.
+// Believe: specs/Listing, the listing of a circuit with its outputs.
+// Main laws: specs/Laws/ReadBack (the parts of a circuit are read back from its listing), listing-fits (specs/Laws/Lengths).
+// Called by the writer of listings and by wirelist's lines.
+use words::byte_at;
+use words::word_at;
+ghost use Prim.Native.Nat.{_<_};
 ghost use mathlib.Core.Path.{_≡_};
-ghost use mathlib.Core.List.{List, [], _∷_, _++_, map, flatMap};
-ghost use mathlib.Core.Option.{some};
-ghost use lib.ListN.{length, drop};
-ghost use Rattle.rules.specs.Types.{Wire, wireCode};
-ghost use Rattle.rules.specs.Terms.{Tuple, labels, Gate};
-ghost use Rattle.rules.specs.Circuits.{circuit};
-ghost use Rattle.evaluation.specs.Trees.{Tree, preorder, tupleOfTree};
-ghost use Rattle.memory.specs.Words.{words};
-ghost use Rattle.nodes.specs.Nodes.{nodesIn};
-ghost use Rattle.nodes.specs.Regions.{over, Stands};
-ghost use Rattle.circuits.specs.Layout.{rowsIn, gatesIn};
-ghost use Rattle.listing.specs.Listing.{bytesOf, entry-slots, listing};
-ghost use Rattle.listing.specs.Lengths.{KindsFit};
-ghost use Rattle.listing.specs.Parts.{pieces, labels-from, inputByte, inputPiece, gatePiece, slotsPiece};
-ghost use Rattle.listing.specs.Parts.{unusedPiece, kindsRead, slotsRead, outputsRead};
+ghost use Rattle.listing.specs.Reading.{inputCount, gateCount, outputCount, entryCount, kindAt, slotsFrom, outputsFrom};
+
+// How many bytes the three sizes take, and where each stands: inputs, gates, outputs.
+pub const SIZES: usize = 6;
+
+pub const INPUTS: usize = 0;
+
+pub const GATES: usize = 2;
+
+pub const OUTPUTS: usize = 4;
 
 // The kinds of a Bit input and of a Qubit input.
-const BIT_INPUT: u8 = 128;
+pub const BIT_INPUT: usize = 128;
 
-const QUBIT_INPUT: u8 = 129;
-
-// How many bytes the three sizes take.
-const SIZES: usize = 6;
+pub const QUBIT_INPUT: usize = 129;
 
 // How many slots for wires an entry has, an input or a gate.
-const ENTRY_SLOTS: usize = 2;
+pub const ENTRY_SLOTS: usize = 2;
 
 // How many bytes an entry takes: its kind and its slots.
-const ENTRY_BYTES: usize = 1 + 2 * ENTRY_SLOTS;
+pub const ENTRY_BYTES: usize = 1 + 2 * ENTRY_SLOTS;
 
-// The largest number of 16 bits.
-const MOST: usize = 65535;
+// A listing has at most so many outputs.
+pub const MOST_OUTPUTS: usize = 256;
 
-// The codes of the inputs' types stand in the words of the types' buffer from here on.
-const LABELS_FROM: usize = 512;
+// Places in a listing are worked out for entries below this number; no listing has as many.
+const MANY: usize = 1048576;
 
-// The kind of a label.
-const LABEL: usize = 17;
-
-// Two bytes become the number, low byte first.
-fn put_bytes(out: &mut [u8], at: usize, value: usize)
-    requires { ⌜ at + 2 ≤ length (now out) ⌝ }
-    requires { ⌜ value < 65536 ⌝ }
-    ensures { λ r. ⌜ now (out .exit) ≡ over (now (out .entry)) at (bytesOf value) ⌝ }
+// How many inputs there are.
+pub fn input_count(listing: &[u8]) -> usize
+    ensures { λ r. ⌜ r ≡ inputCount (now (listing .entry)) ⌝ }
+    ensures { λ r. ⌜ r < 65536 ⌝ }
 {
-    out[at] = (value % 256) as u8;
-    out[at + 1] = (value / 256) as u8;
+    word_at(listing, INPUTS)
 }
 
-// How many of the first nodes are labels.
-fn count_labels(nodes: &[u8], size: usize) -> usize
-    requires { ⌜ size ≤ length (now nodes) / 4 ⌝ }
-    ensures { λ r. ⌜ r ≡ length (outputsRead (nodesIn (now (nodes .entry))) size) ⌝ }
+// How many gates there are.
+pub fn gate_count(listing: &[u8]) -> usize
+    ensures { λ r. ⌜ r ≡ gateCount (now (listing .entry)) ⌝ }
+    ensures { λ r. ⌜ r < 65536 ⌝ }
 {
-    let mut found: usize = 0;
-    let mut i: usize = 0;
-    while i < size {
-        if kind_at(nodes, i) == LABEL {
-            found += 1;
-            i += 1;
-        } else {
-            i += 1;
-        }
-    }
-    found
+    word_at(listing, GATES)
 }
 
-// The three sizes are written.
-fn write_sizes(out: &mut [u8], inputs: usize, count: usize, outputs: usize)
-    requires { ⌜ 6 ≤ length (now out) ⌝ }
-    requires { ⌜ inputs < 65536 ⌝ }
-    requires { ⌜ count < 65536 ⌝ }
-    requires { ⌜ outputs < 65536 ⌝ }
-    ensures { λ r. ⌜ now (out .exit) ≡ over (now (out .entry)) 0 (flatMap bytesOf (inputs ∷ count ∷ outputs ∷ [])) ⌝ }
+// How many outputs there are.
+pub fn output_count(listing: &[u8]) -> usize
+    ensures { λ r. ⌜ r ≡ outputCount (now (listing .entry)) ⌝ }
+    ensures { λ r. ⌜ r < 65536 ⌝ }
 {
-    put_bytes(out, 0, inputs);
-    put_bytes(out, 2, count);
-    put_bytes(out, 4, outputs);
+    word_at(listing, OUTPUTS)
 }
 
-// The kind of an input by the code of its type.
-fn input_kind(code: usize) -> u8
-    ensures { λ r. ⌜ r ≡ inputByte code ⌝ }
+// The kind of an entry; 0 past the end.
+pub fn kind_at(listing: &[u8], i: usize) -> usize
+    ensures { λ r. ⌜ r ≡ kindAt (now (listing .entry)) i ⌝ }
+    ensures { λ r. ⌜ r < 256 ⌝ }
 {
-    if code == 0 {
-        return BIT_INPUT;
-    }
-    QUBIT_INPUT
-}
-
-// The kinds of the inputs are written from a place on.
-fn write_input_kinds(types: &[u8], inputs: usize, out: &mut [u8], at: usize)
-    requires { ⌜ inputs < 65536 ⌝ }
-    requires { ⌜ at + inputs ≤ length (now out) ⌝ }
-    ensures { λ r. ⌜ now (out .exit) ≡ over (now (out .entry)) at (pieces (inputPiece (words (now (types .entry)))) inputs) ⌝ }
-{
-    let mut i: usize = 0;
-    while i < inputs {
-        out[at + i] = input_kind(memory::get(types, LABELS_FROM + i));
-        i += 1;
-    }
-}
-
-// The kinds of the gates are written, the oldest first.
-fn write_gate_kinds(gates: &[u8], count: usize, out: &mut [u8], at: usize)
-    requires { ⌜ at + count ≤ length (now out) ⌝ }
-    ensures { λ r. ⌜ now (out .exit) ≡ over (now (out .entry)) at (pieces (gatePiece (rowsIn (now (gates .entry)))) count) ⌝ }
-{
-    let mut i: usize = 0;
-    while i < count {
-        out[at + i] = (row_word(gates, i, 0) % 256) as u8;
-        i += 1;
-    }
-}
-
-// Some slots without a wire are written.
-fn write_unused(slots: usize, out: &mut [u8], at: usize)
-    requires { ⌜ at + slots * 2 ≤ length (now out) ⌝ }
-    ensures { λ r. ⌜ now (out .exit) ≡ over (now (out .entry)) at (pieces unusedPiece slots) ⌝ }
-{
-    let mut i: usize = 0;
-    while i < slots {
-        put_bytes(out, at + 2 * i, NO_WIRE);
-        i += 1;
-    }
-}
-
-// The slots of the gate in a row are written.
-fn write_gate(gates: &[u8], row: usize, out: &mut [u8], at: usize)
-    requires { ⌜ at + entry-slots * 2 ≤ length (now out) ⌝ }
-    ensures { λ r. ⌜ now (out .exit) ≡ over (now (out .entry)) at (slotsPiece (rowsIn (now (gates .entry))) row) ⌝ }
-{
-    let mut slot: usize = 0;
-    while slot < ENTRY_SLOTS {
-        put_bytes(out, at + 2 * slot, gate_wire(gates, row, slot));
-        slot += 1;
-    }
-}
-
-// The slots of the gates are written, the oldest gate first.
-fn write_gate_slots(gates: &[u8], count: usize, out: &mut [u8], at: usize)
-    requires { ⌜ at + count * (entry-slots * 2) ≤ length (now out) ⌝ }
-    ensures { λ r. ⌜ now (out .exit) ≡ over (now (out .entry)) at (pieces (slotsPiece (rowsIn (now (gates .entry)))) count) ⌝ }
-{
-    let mut i: usize = 0;
-    while i < count {
-        write_gate(gates, i, out, at + 2 * ENTRY_SLOTS * i);
-        i += 1;
-    }
-}
-
-// The labels among the first nodes are written, in order.
-fn write_outputs(nodes: &[u8], size: usize, out: &mut [u8], at: usize)
-    requires { ⌜ size ≤ length (now nodes) / 4 ⌝ }
-    requires { ⌜ at + length (outputsRead (nodesIn (now nodes)) size) * 2 ≤ length (now out) ⌝ }
-    ensures { λ r. ⌜ now (out .exit) ≡ over (now (out .entry)) at (flatMap bytesOf (outputsRead (nodesIn (now (nodes .entry))) size)) ⌝ }
-{
-    let mut found: usize = 0;
-    let mut i: usize = 0;
-    while i < size {
-        if kind_at(nodes, i) == LABEL {
-            put_bytes(out, at + 2 * found, argument_at(nodes, i));
-            found += 1;
-            i += 1;
-        } else {
-            i += 1;
-        }
-    }
-}
-
-// The kinds of all entries are written behind the sizes.
-fn write_kinds(types: &[u8], inputs: usize, gates: &[u8], count: usize, out: &mut [u8])
-    requires { ⌜ inputs < 65536 ⌝ }
-    requires { ⌜ 6 + inputs + count ≤ length (now out) ⌝ }
-    ensures { λ r. ⌜ now (out .exit) ≡ over (now (out .entry)) 6 (kindsRead (words (now (types .entry))) inputs (rowsIn (now (gates .entry))) count) ⌝ }
-{
-    write_input_kinds(types, inputs, out, SIZES);
-    write_gate_kinds(gates, count, out, SIZES + inputs);
-}
-
-// The slots of all entries are written from a place on.
-fn write_slots(inputs: usize, gates: &[u8], count: usize, out: &mut [u8], at: usize)
-    requires { ⌜ at + (inputs + count) * (entry-slots * 2) ≤ length (now out) ⌝ }
-    ensures { λ r. ⌜ now (out .exit) ≡ over (now (out .entry)) at (slotsRead inputs (rowsIn (now (gates .entry))) count) ⌝ }
-{
-    write_unused(inputs * ENTRY_SLOTS, out, at);
-    write_gate_slots(gates, count, out, at + 2 * ENTRY_SLOTS * inputs);
-}
-
-// The listing of a finished run is written from the start of a buffer; answers its length. The types of the inputs stand in
-// the types' buffer from word 512 on, the gates in the first rows, the tuple of the outputs in the first nodes. Where a size
-// takes more than 16 bits, or the nodes or the listing run past their buffer, nothing changes and the answer is 0.
-pub fn write_listing(
-    types: &[u8],
-    inputs: usize,
-    gates: &[u8],
-    count: usize,
-    nodes: &[u8],
-    size: usize,
-    out: &mut [u8],
-) -> usize
-    ensures { λ r. ⌜ ((I : List Wire) (gs : List Gate) (v : Tree) (k : Tuple)
-        → Stands (words (now (types .entry))) labels-from (map wireCode I) → inputs ≡ length I
-        → gatesIn (rowsIn (now (gates .entry))) 0 count ≡ gs → KindsFit gs
-        → tupleOfTree v ≡ some k → Stands (nodesIn (now (nodes .entry))) 0 (preorder v) → size ≡ length (preorder v)
-        → inputs < 65536 → count < 65536 → length (labels k) < 65536
-        → length (listing (circuit I gs) k) ≤ length (now (out .entry))
-        → (now (out .exit) ≡ listing (circuit I gs) k ++ drop (length (listing (circuit I gs) k)) (now (out .entry)))
-        × (r ≡ length (listing (circuit I gs) k))) ⌝ }
-    ensures { λ r. ⌜ (r ≡ 0 → now (out .exit) ≡ now (out .entry)) ⌝ }
-{
-    if MOST < inputs {
+    if listing.len() <= i {
         return 0;
     }
-    if MOST < count {
+    byte_at(listing, SIZES + i) as usize
+}
+
+// How many entries there are, inputs and gates.
+fn entry_count(listing: &[u8]) -> usize
+    ensures { λ r. ⌜ r ≡ entryCount (now (listing .entry)) ⌝ }
+    ensures { λ r. ⌜ r < 131072 ⌝ }
+{
+    input_count(listing) + gate_count(listing)
+}
+
+// Where the slots of an entry stand; 0 for an entry that no listing has.
+pub fn slots_from(listing: &[u8], i: usize) -> usize
+    ensures { λ r. ⌜ (i < 1048576 → r ≡ slotsFrom (now (listing .entry)) i) ⌝ }
+    ensures { λ r. ⌜ r < 134217728 ⌝ }
+{
+    if MANY <= i {
         return 0;
     }
-    if nodes.len() / 4 < size {
-        return 0;
-    }
-    let outputs = count_labels(nodes, size);
-    if MOST < outputs {
-        return 0;
-    }
-    let entries = inputs + count;
-    let whole = SIZES + ENTRY_BYTES * entries + 2 * outputs;
-    if out.len() < whole {
-        return 0;
-    }
-    write_sizes(out, inputs, count, outputs);
-    write_kinds(types, inputs, gates, count, out);
-    write_slots(inputs, gates, count, out, SIZES + entries);
-    write_outputs(nodes, size, out, SIZES + ENTRY_BYTES * entries);
-    whole
+    SIZES + entry_count(listing) + 2 * ENTRY_SLOTS * i
+}
+
+// Where the output wires stand.
+pub fn outputs_from(listing: &[u8]) -> usize
+    ensures { λ r. ⌜ r ≡ outputsFrom (now (listing .entry)) ⌝ }
+    ensures { λ r. ⌜ r < 134217728 ⌝ }
+{
+    SIZES + ENTRY_BYTES * entry_count(listing)
 }

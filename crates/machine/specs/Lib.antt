@@ -1,3 +1,3 @@
+pub mod Progress
 pub mod Advancing
-pub mod Turning
-pub mod Turns
+pub mod Laws

@@ -1,25 +1,30 @@
-// The circuit-building machine on a configuration in lent memory: one turn, and steps one after another.
-// The public functions have no `requires`: their contracts speak of every typed configuration that the memory holds. In any
-// other memory they end too, with an answer that says nothing.
-use configuration::Registers;
-use configuration::Stepped;
-use steps::step;
-use walking::Stop;
-use walking::walk;
+// The circuit-building machine in lent memory: the walk and the step at its stop, one after another, up to a number of steps.
+// Nothing to believe. Advances (specs/Advancing) is the contract: ending, number of steps and state held are those of the rules'
+// `advanced`, for every typed state that the memory holds.
+// Main laws: specs/Laws/Advancing, what is left comes to what the whole comes to.
+// Called by the run. No `requires`: in memory that holds no typed state it ends, and nothing is promised.
+use machine_state::StateNumbers;
+use machine_state::Stepped;
+use machine_steps::step;
+use machine_walk::Stop;
+use machine_walk::walk;
+use rules::sizes::MOST_ENTRIES;
+use rules::sizes::MOST_NODES;
 ghost use Prim.Native.Nat.{ℕ, _≤_, _<_};
 ghost use mathlib.Core.Path.{_≡_};
 ghost use mathlib.Core.Bool.{true, false};
 ghost use lib.ListN.{length};
+ghost use Rattle.rules.specs.Types.{most-entries};
 ghost use Rattle.rules.specs.Sizes.{most-nodes};
-ghost use Rattle.memory.specs.Words.{words};
-ghost use Rattle.evaluation.specs.Walks.{at-end};
-ghost use Rattle.nodes.specs.Nodes.{nodesIn};
-ghost use Rattle.walking.specs.Rows.{rowsIn as stackRowsIn};
-ghost use Rattle.walking.specs.Places.{stopOf};
-ghost use Rattle.circuits.specs.Layout.{rowsIn, fourResults};
-ghost use Rattle.configuration.specs.Memory.{memory};
+ghost use Rattle.words.specs.Words.{words};
+ghost use Rattle.machine_terms.specs.Walks.{at-end};
+ghost use Rattle.machine_nodes.specs.Nodes.{nodesIn};
+ghost use Rattle.machine_walk.specs.Places.{stopOf};
+ghost use Rattle.words.specs.Quadwords.{quadwordsIn};
+ghost use Rattle.machine_circuits.specs.Layout.{fourResults};
+ghost use Rattle.machine_state.specs.Memory.{memory};
 ghost use Rattle.machine.specs.Advancing.{Advances};
-ghost use Rattle.machine.specs.Turning.{isEnd, NotLast, TurnsOnce};
+ghost use Rattle.machine.specs.Progress.{isEnd, NotLast, AdvancesOnce};
 
 // How it ended: there is no next step; the steps asked for are done and there is a next one; the next one exceeds a size.
 pub enum Ending {
@@ -28,19 +33,22 @@ pub enum Ending {
     TooLarge,
 }
 
-// How it ended, after how many steps, and the registers then.
+// What came of the steps.
 pub struct Advanced {
+    // How it ended.
     pub ending: Ending,
+    // After how many steps.
     pub steps: usize,
-    pub registers: Registers,
+    // The numbers of the state then.
+    pub numbers: StateNumbers,
 }
 
-// What one turn leads to: one step more is taken, or this is the end.
-enum Turned {
-    GoesOn(Registers),
+// What the walk and the step at its stop lead to: one step more is taken, or this is the end.
+enum Progress {
+    GoesOn(StateNumbers),
     Ends {
         ending: Ending,
-        registers: Registers,
+        numbers: StateNumbers,
     },
 }
 
@@ -60,11 +68,11 @@ fn is_end(stop: Stop) -> bool
     }
 }
 
-// One turn: the walk to the stop, then the step there, unless this is the last turn.
-fn turn(
+// The walk to the stop, then the step there, unless no more step is to be taken.
+fn walk_and_step(
     last: bool,
     allowance: usize,
-    registers: Registers,
+    numbers: StateNumbers,
     nodes: &mut [u8],
     stack: &mut [u8],
     waiting: &mut [u8],
@@ -72,36 +80,36 @@ fn turn(
     types: &[u8],
     frames: &mut [u8],
     gates: &mut [u8],
-    closed: &mut [u8],
-    first: &mut [u8],
-    second: &mut [u8],
-    third: &mut [u8],
-    fourth: &mut [u8],
-) -> Turned
-    ensures { λ r. ⌜ (most-nodes < length (words (now (waiting .entry))) → 512 ≤ length (words (now (labels .entry))) → TurnsOnce last allowance
-        (memory (nodesIn (now (nodes .entry))) (stackRowsIn (now (stack .entry))) (rowsIn (now (gates .entry))) (rowsIn (now (closed .entry))) (rowsIn (now (frames .entry))) (words (now (types .entry)))
-        (fourResults (words (now (first .entry))) (words (now (second .entry))) (words (now (third .entry))) (words (now (fourth .entry)))))
-        (memory (nodesIn (now (nodes .exit))) (stackRowsIn (now (stack .exit))) (rowsIn (now (gates .exit))) (rowsIn (now (closed .exit))) (rowsIn (now (frames .exit))) (words (now (types .entry)))
-        (fourResults (words (now (first .exit))) (words (now (second .exit))) (words (now (third .exit))) (words (now (fourth .exit)))))
-        registers r) ⌝ }
+    circuits: &mut [u8],
+    results0: &mut [u8],
+    results1: &mut [u8],
+    results2: &mut [u8],
+    results3: &mut [u8],
+) -> Progress
+    ensures { λ r. ⌜ (most-nodes < length (words (now (waiting .entry))) → most-entries ≤ length (words (now (labels .entry))) → AdvancesOnce last allowance
+        (memory (nodesIn (now (nodes .entry))) (quadwordsIn (now (stack .entry))) (quadwordsIn (now (gates .entry))) (quadwordsIn (now (circuits .entry))) (quadwordsIn (now (frames .entry))) (words (now (types .entry)))
+        (fourResults (words (now (results0 .entry))) (words (now (results1 .entry))) (words (now (results2 .entry))) (words (now (results3 .entry)))))
+        (memory (nodesIn (now (nodes .exit))) (quadwordsIn (now (stack .exit))) (quadwordsIn (now (gates .exit))) (quadwordsIn (now (circuits .exit))) (quadwordsIn (now (frames .exit))) (words (now (types .entry)))
+        (fourResults (words (now (results0 .exit))) (words (now (results1 .exit))) (words (now (results2 .exit))) (words (now (results3 .exit)))))
+        numbers r) ⌝ }
     ensures { λ r. ⌜ NotLast last r ⌝ }
 {
-    let place = registers.place;
-    let counts = registers.counts;
+    let place = numbers.place;
+    let counts = numbers.counts;
     let stopped = walk(nodes, stack, place);
     let stop = stopped.stop;
     let place = stopped.place;
-    let now = Registers { place, counts };
+    let now = StateNumbers { place, counts };
     if is_end(stop) {
-        return Turned::Ends {
+        return Progress::Ends {
             ending: Ending::Finished,
-            registers: now,
+            numbers: now,
         };
     }
     if last {
-        return Turned::Ends {
+        return Progress::Ends {
             ending: Ending::Running,
-            registers: now,
+            numbers: now,
         };
     }
     let stepped = step(
@@ -115,56 +123,56 @@ fn turn(
         types,
         frames,
         gates,
-        closed,
-        first,
-        second,
-        third,
-        fourth,
+        circuits,
+        results0,
+        results1,
+        results2,
+        results3,
     );
     match stepped {
-        Stepped::Taken(next) => Turned::GoesOn(next),
-        Stepped::TooLarge => Turned::Ends {
+        Stepped::Taken(next) => Progress::GoesOn(next),
+        Stepped::TooLarge => Progress::Ends {
             ending: Ending::TooLarge,
-            registers: now,
+            numbers: now,
         },
     }
 }
 
 // The bytes of the two memories that hold nothing between steps: 4,097 parts that a substitution waits for, and 512 labels of
 // an apply's argument, a word each.
-const LEAST_WAITING: usize = 8194;
+const LEAST_WAITING: usize = 2 * (MOST_NODES + 1);
 
-const LEAST_LABELS: usize = 1024;
+const LEAST_LABELS: usize = 2 * MOST_ENTRIES;
 
 // At most k steps.
 pub fn advance(
     k: usize,
     allowance: usize,
-    registers: Registers,
+    numbers: StateNumbers,
     nodes: &mut [u8],
     stack: &mut [u8],
     types: &[u8],
     frames: &mut [u8],
     gates: &mut [u8],
-    closed: &mut [u8],
-    first: &mut [u8],
-    second: &mut [u8],
-    third: &mut [u8],
-    fourth: &mut [u8],
+    circuits: &mut [u8],
+    results0: &mut [u8],
+    results1: &mut [u8],
+    results2: &mut [u8],
+    results3: &mut [u8],
 ) -> Advanced
     ensures { λ r. ⌜ (Advances allowance k
-        (memory (nodesIn (now (nodes .entry))) (stackRowsIn (now (stack .entry))) (rowsIn (now (gates .entry))) (rowsIn (now (closed .entry))) (rowsIn (now (frames .entry))) (words (now (types .entry)))
-        (fourResults (words (now (first .entry))) (words (now (second .entry))) (words (now (third .entry))) (words (now (fourth .entry)))))
-        (memory (nodesIn (now (nodes .exit))) (stackRowsIn (now (stack .exit))) (rowsIn (now (gates .exit))) (rowsIn (now (closed .exit))) (rowsIn (now (frames .exit))) (words (now (types .entry)))
-        (fourResults (words (now (first .exit))) (words (now (second .exit))) (words (now (third .exit))) (words (now (fourth .exit)))))
-        registers r) ⌝ }
+        (memory (nodesIn (now (nodes .entry))) (quadwordsIn (now (stack .entry))) (quadwordsIn (now (gates .entry))) (quadwordsIn (now (circuits .entry))) (quadwordsIn (now (frames .entry))) (words (now (types .entry)))
+        (fourResults (words (now (results0 .entry))) (words (now (results1 .entry))) (words (now (results2 .entry))) (words (now (results3 .entry)))))
+        (memory (nodesIn (now (nodes .exit))) (quadwordsIn (now (stack .exit))) (quadwordsIn (now (gates .exit))) (quadwordsIn (now (circuits .exit))) (quadwordsIn (now (frames .exit))) (words (now (types .entry)))
+        (fourResults (words (now (results0 .exit))) (words (now (results1 .exit))) (words (now (results2 .exit))) (words (now (results3 .exit)))))
+        numbers r) ⌝ }
 {
     let mut waiting = [0u8; LEAST_WAITING];
     let mut labels = [0u8; LEAST_LABELS];
     let mut steps: usize = 0;
-    let mut now = registers;
+    let mut now = numbers;
     loop {
-        let turned = turn(
+        let progress = walk_and_step(
             k <= steps,
             allowance,
             now,
@@ -175,22 +183,22 @@ pub fn advance(
             types,
             frames,
             gates,
-            closed,
-            first,
-            second,
-            third,
-            fourth,
+            circuits,
+            results0,
+            results1,
+            results2,
+            results3,
         );
-        match turned {
-            Turned::GoesOn(next) => {
+        match progress {
+            Progress::GoesOn(next) => {
                 now = next;
                 steps += 1;
             }
-            Turned::Ends { ending, registers } => {
+            Progress::Ends { ending, numbers } => {
                 return Advanced {
                     ending: ending,
                     steps: steps,
-                    registers: registers,
+                    numbers: numbers,
                 };
             }
         }

@@ -4,15 +4,13 @@ use mathlib.Core.Bool.{Bool, true, false, _&&_, cond}
 use mathlib.Core.List.{List}
 use lib.Dec.{eqb, leb, ltb}
 use lib.ListN.{getD}
+use Rattle.words.specs.Numbers.{wordAt}
 use Rattle.rules.specs.Gates.{isGate}
 use Rattle.program.specs.declared.format.Argument.{Argument}
-use Rattle.program.specs.declared.format.Argument.the-variants.{Zero, LabelNumber, GateNumber, TypePosition, BinderCount}
+use Rattle.program.specs.declared.format.Argument.the-variants.{Zero, LabelNumber, GateNumber, TypePosition}
+use Rattle.program.specs.declared.format.Argument.the-variants.{BinderCount}
 use Rattle.program.specs.declared.format.Shape.{Shape}
 use Rattle.program.specs.declared.format.Shape.the-variants.{Node, Unknown}
-
--- A 16-bit number, low byte first, at byte i of the file.
-unfoldable pub wordAt : List ℕ → ℕ → ℕ
-wordAt f i = getD f i 0 + 256 * getD f (i + 1) 0
 
 -- 01: "Three 16-bit sizes, low byte first: L labels".
 abbrev pub labelCount : List ℕ → ℕ

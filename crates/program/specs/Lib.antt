@@ -1,11 +1,10 @@
+pub mod Reach
+pub mod Trees
 pub mod Format
 pub mod Sized
-pub mod Walks
+pub mod Traversal
 pub mod Reading
-pub mod Laws
-pub mod Walking
-pub mod ReadLaws
+pub mod Failing
 pub mod CaseFiles
-pub mod Examples
-pub mod Trees
+pub mod Laws
 pub mod Theorems

@@ -4,38 +4,40 @@ use mathlib.Core.Bool.{Bool, true, false, not, _&&_, cond}
 use mathlib.Core.List.{List, [], _∷_}
 use lib.Dec.{eqb, leb, ltb}
 use lib.ListN.{length}
-use Rattle.program.specs.Format.{wordAt, labelCount, typeCount, termCount, firstTerm, entryCount, kindAt, argumentAt}
-use Rattle.program.specs.Format.{within, shapeAt, isKnown, shapeAllows}
-use Rattle.program.specs.Walks.{firstFrom, walkFrom}
+use Rattle.program.specs.Format.{labelCount, typeCount, termCount, firstTerm, entryCount, kindAt, argumentAt, within}
+use Rattle.program.specs.Format.{shapeAt, isKnown, shapeAllows}
+use Rattle.words.specs.Numbers.{wordAt}
+use Rattle.program.specs.Traversal.{firstFrom, traverseFrom}
 use Rattle.refusals.specs.declared.Refusal.{Refusal}
 use Rattle.refusals.specs.declared.Refusal.the-variants.{Form}
 use Rattle.program.specs.declared.ReadAnswer.{ReadAnswer}
 use Rattle.program.specs.declared.ReadAnswer.the-variants.{Accepted, Refused}
 use Rattle.program.specs.declared.Found.{Found}
 use Rattle.program.specs.declared.Found.the-variants.{At, Nothing}
-use Rattle.program.specs.declared.walk.Subject.the-variants.{TypeEnd, WireType, TermEnd, Scope}
-use Rattle.program.specs.declared.walk.Walked.{Walked}
-use Rattle.program.specs.declared.walk.Walked.the-variants.{To, Stopped, Out}
+use Rattle.program.specs.declared.traversal.Subject.the-variants.{TypeEnd, WireType, TermEnd, Scope}
+use Rattle.program.specs.declared.traversal.Traversed.{Traversed}
+use Rattle.program.specs.declared.traversal.Traversed.the-variants.{To, Stopped, Out}
+use Rattle.rules.specs.Sizes.{most-labels, most-types, most-terms}
 
 -- A refusal of the family form, with its number and place.
 abbrev pub refused : ℕ → ℕ → ReadAnswer
 refused number place = Refused (Form number place)
 
 -- The parts that were waited for all stand there.
-abbrev pub reaches : Walked → Bool
+abbrev pub reaches : Traversed → Bool
 reaches (To e) = true
 reaches (Stopped e) = false
 reaches Out = false
 
 -- The section ends before them.
-abbrev pub runsOut : Walked → Bool
+abbrev pub runsOut : Traversed → Bool
 runsOut (To e) = false
 runsOut (Stopped e) = false
 runsOut Out = true
 
 -- 2: "a size outside its range": L 0 to 64, P 0 to 512, N 1 to 2,048.
 unfoldable pub sizesRight : List ℕ → Bool
-sizesRight f = leb (labelCount f) 64 && (leb (typeCount f) 512 && within 1 2048 (termCount f))
+sizesRight f = leb (labelCount f) most-labels && (leb (typeCount f) most-types && within 1 most-terms (termCount f))
 
 -- 4: "a kind not of its section".
 unfoldable pub kindWrong : List ℕ → ℕ → Bool
@@ -47,16 +49,16 @@ argumentWrong f e = not (shapeAllows (labelCount f) (typeCount f) (shapeAt f e) 
 
 -- 6: "the type at any position, used or not, runs out".
 unfoldable pub typeWrong : List ℕ → ℕ → Bool
-typeWrong f e = runsOut (walkFrom TypeEnd f (firstTerm f - e) e (0 ∷ []))
+typeWrong f e = runsOut (traverseFrom TypeEnd f (firstTerm f - e) e (0 ∷ []))
 
 -- 7: "a Circ or box with a part or type that is no wire type". Of a Circ: its two parts.
 unfoldable pub circWrong : List ℕ → ℕ → Bool
-circWrong f e = not (reaches (walkFrom WireType f (firstTerm f - (e + 1)) (e + 1) (0 ∷ 0 ∷ [])))
+circWrong f e = not (reaches (traverseFrom WireType f (firstTerm f - (e + 1)) (e + 1) (0 ∷ 0 ∷ [])))
 
 -- 7, of a box: the type at its position is no wire type.
 unfoldable pub boxWrong : List ℕ → ℕ → Bool
 boxWrong f e =
-    not (reaches (walkFrom WireType f (typeCount f - argumentAt f e) (labelCount f + argumentAt f e) (0 ∷ [])))
+    not (reaches (traverseFrom WireType f (typeCount f - argumentAt f e) (labelCount f + argumentAt f e) (0 ∷ [])))
 
 -- 7, of any entry: only Circ entries of the type section and box entries of the term section are concerned.
 unfoldable pub wiresWrong : List ℕ → ℕ → Bool
@@ -64,26 +66,26 @@ wiresWrong f e =
     cond (ltb e (labelCount f)) false
     (cond (ltb e (firstTerm f)) (eqb (kindAt f e) 5 && circWrong f e) (eqb (kindAt f e) 24 && boxWrong f e))
 
--- 9: "a variable with no binder; first entry." The walk does not run out here: by 8 the section is one whole term.
-abbrev pub scopeAnswer : List ℕ → Walked → ReadAnswer
+-- 9: "a variable with no binder; first entry." The traversal does not run out here: by 8 the section is one whole term.
+abbrev pub scopeAnswer : List ℕ → Traversed → ReadAnswer
 scopeAnswer f (To e) = Accepted (labelCount f) (typeCount f) (termCount f)
 scopeAnswer f (Stopped e) = refused 9 e
 scopeAnswer f Out = Accepted (labelCount f) (typeCount f) (termCount f)
 
 -- The test for 9, of the whole term.
 unfoldable pub readScope : List ℕ → ReadAnswer
-readScope f = scopeAnswer f (walkFrom Scope f (termCount f) (firstTerm f) (0 ∷ []))
+readScope f = scopeAnswer f (traverseFrom Scope f (termCount f) (firstTerm f) (0 ∷ []))
 
--- 8: "the term section is not one whole term; place E if it runs out, else the first entry left over." The walk is not
+-- 8: "the term section is not one whole term; place E if it runs out, else the first entry left over." The traversal is not
 -- stopped here: by 4 every kind is known.
-abbrev pub wholeAnswer : List ℕ → Walked → ReadAnswer
+abbrev pub wholeAnswer : List ℕ → Traversed → ReadAnswer
 wholeAnswer f (To e) = let later = readScope f in cond (eqb e (entryCount f)) later (refused 8 e)
 wholeAnswer f (Stopped e) = refused 8 e
 wholeAnswer f Out = refused 8 (entryCount f)
 
 -- The test for 8, then that for 9.
 unfoldable pub readWhole : List ℕ → ReadAnswer
-readWhole f = wholeAnswer f (walkFrom TermEnd f (termCount f) (firstTerm f) (0 ∷ []))
+readWhole f = wholeAnswer f (traverseFrom TermEnd f (termCount f) (firstTerm f) (0 ∷ []))
 
 -- A test that finds an entry refuses it; else the next test decides.
 abbrev pub orElse : ℕ → Found → ReadAnswer → ReadAnswer

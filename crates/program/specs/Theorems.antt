@@ -1,10 +1,5 @@
-pub mod Kinds
-pub mod Walking
-pub mod Tests
-pub mod WireTests
-pub mod Sections
+pub mod Examples
 pub mod Accepting
 pub mod Unique
 pub mod Encoding
-pub mod Bytes
 pub mod Programs

@@ -1,19 +1,19 @@
 -- The trees of a program file (01, "Program file"): the types and the term that stand in it, what `read` tests of them, and
 -- the file that is written for a term.
-use Prim.Native.Nat.{ℕ, suc, _+_, _*_, _≤_, _<_, _/_, _%_}
+use Prim.Native.Nat.{ℕ, suc, _+_, _*_, _≤_, _<_}
 use mathlib.Core.Path.{_≡_}
 use mathlib.Core.Bool.{Bool, true, _&&_}
-use mathlib.Core.List.{List, [], _∷_, _++_, map}
+use mathlib.Core.List.{List}
 use mathlib.Core.Option.{some}
 use lib.Dec.{T as IsTrue, ltb}
-use lib.ListN.{length, replicate}
-use Rattle.rules.specs.Types.{Wire, Bit, Qubit, Ty, wire, _⊗_, _⊸_, !_, Circ, isWireType, entries, wireCode, typeCodes}
+use lib.ListN.{length}
+use Rattle.rules.specs.Types.{Wire, Bit, Qubit, Ty, wire, _⊗_, _⊸_, !_, Circ, isWireType, wireCode}
 use Rattle.rules.specs.Gates.{nth, isGate}
-use Rattle.rules.specs.Terms.{Term, variable, label, gate, constant, abstraction, application, pair, let-in, lift}
-use Rattle.rules.specs.Terms.{force, box, apply}
-use Rattle.rules.specs.Sizes.{nodes}
+use Rattle.rules.specs.Terms.{Term, variable, label, gate, constant, abstraction, application, pair, let-in, lift, force}
+use Rattle.rules.specs.Terms.{box, apply}
 use Rattle.rules.specs.Counting.{source}
 use Rattle.program.specs.Format.{labelCount, typeCount, termCount, firstTerm, entryCount, kindAt, argumentAt}
+use Rattle.rules.specs.Sizes.{most-labels, most-types, most-terms}
 
 -- A type stands in preorder in the entries e to n − 1. 01, type section: "0 Bit, 1 Qubit (no parts); 2 pair, 3 function,
 -- 5 circuit (two parts); 4 reusable (one)."
@@ -137,38 +137,13 @@ boxesWired (force M) = boxesWired M
 boxesWired (box T M) = isWireType T && boxesWired M
 boxesWired (apply M N) = boxesWired M && boxesWired N
 
--- The types that a term names, in order of occurrence: those of its abstractions and boxes.
-abbrev pub typesIn : Term → List Ty
-typesIn (variable x) = []
-typesIn (label ℓ) = []
-typesIn (gate x) = []
-typesIn (constant c) = []
-typesIn (abstraction A M) = A ∷ typesIn M
-typesIn (application M N) = typesIn M ++ typesIn N
-typesIn (pair M N) = typesIn M ++ typesIn N
-typesIn (let-in M N) = typesIn M ++ typesIn N
-typesIn (lift M) = typesIn M
-typesIn (force M) = typesIn M
-typesIn (box T M) = T ∷ typesIn M
-typesIn (apply M N) = typesIn M ++ typesIn N
-
--- Each Circ in the types of a list has wire types for its parts.
-abbrev pub allFormed : List Ty → Bool
-allFormed [] = true
-allFormed (A ∷ As) = formed A && allFormed As
-
--- The entries of all types of a list.
-abbrev pub entriesOf : List Ty → ℕ
-entriesOf [] = 0
-entriesOf (A ∷ As) = entries A + entriesOf As
-
 -- A file is accepted: these are its labels' wires, and this is its term. All that `read` tests, said of the trees.
 pub record AcceptedFile (f : List ℕ) (labels : List Wire) (M : Term) : Type 0 where
   -- 1 to 3: the sizes and the length are right.
-  pub labels-fit : labelCount f ≤ 64
-  pub types-fit : typeCount f ≤ 512
+  pub labels-fit : labelCount f ≤ most-labels
+  pub types-fit : typeCount f ≤ most-types
   pub some-term : 1 ≤ termCount f
-  pub terms-fit : termCount f ≤ 2048
+  pub terms-fit : termCount f ≤ most-terms
   pub length-is : length f ≡ 6 + 3 * entryCount f
   -- 4: the label section.
   pub label-count : length labels ≡ labelCount f
@@ -186,71 +161,4 @@ pub record AcceptedFile (f : List ℕ) (labels : List Wire) (M : Term) : Type 0 
   -- 7: its boxes are of wire types.
   pub boxes-wired : IsTrue (boxesWired M)
   -- 9: each of its variables has a binder.
-  pub closed : IsTrue (closedUnder 0 M)
-
--- The preorder codes of all types of a list, one type behind the other.
-abbrev pub codesOf : List Ty → List ℕ
-codesOf [] = []
-codesOf (A ∷ As) = typeCodes A ++ codesOf As
-
--- The kinds of a term in preorder. A circuit constant has no kind: no file holds one.
-abbrev pub termKinds : Term → List ℕ
-termKinds (variable x) = 16 ∷ []
-termKinds (label ℓ) = 17 ∷ []
-termKinds (gate x) = 26 ∷ []
-termKinds (constant c) = []
-termKinds (abstraction A M) = 18 ∷ termKinds M
-termKinds (application M N) = 19 ∷ termKinds M ++ termKinds N
-termKinds (pair M N) = 20 ∷ termKinds M ++ termKinds N
-termKinds (let-in M N) = 21 ∷ termKinds M ++ termKinds N
-termKinds (lift M) = 22 ∷ termKinds M
-termKinds (force M) = 23 ∷ termKinds M
-termKinds (box T M) = 24 ∷ termKinds M
-termKinds (apply M N) = 25 ∷ termKinds M ++ termKinds N
-
--- The arguments of a term in preorder, if its types stand from this position of the type section on.
-abbrev pub termArguments : ℕ → Term → List ℕ
-termArguments p (variable x) = x ∷ []
-termArguments p (label ℓ) = ℓ ∷ []
-termArguments p (gate x) = x ∷ []
-termArguments p (constant c) = []
-termArguments p (abstraction A M) = p ∷ termArguments (p + entries A) M
-termArguments p (application M N) = 0 ∷ termArguments p M ++ termArguments (p + entriesOf (typesIn M)) N
-termArguments p (pair M N) = 0 ∷ termArguments p M ++ termArguments (p + entriesOf (typesIn M)) N
-termArguments p (let-in M N) = 0 ∷ termArguments p M ++ termArguments (p + entriesOf (typesIn M)) N
-termArguments p (lift M) = 0 ∷ termArguments p M
-termArguments p (force M) = 0 ∷ termArguments p M
-termArguments p (box T M) = p ∷ termArguments (p + entries T) M
-termArguments p (apply M N) = 0 ∷ termArguments p M ++ termArguments (p + entriesOf (typesIn M)) N
-
--- Numbers in two bytes each, low byte first.
-abbrev pub words : List ℕ → List ℕ
-words [] = []
-words (x ∷ xs) = x % 256 ∷ x / 256 ∷ words xs
-
--- The kinds of all entries of the file for a program: labels, types, terms.
-unfoldable pub programKinds : List Wire → Term → List ℕ
-programKinds labels M = map wireCode labels ++ (codesOf (typesIn M) ++ termKinds M)
-
--- The arguments of all entries: 0 for labels and types.
-unfoldable pub programArguments : List Wire → Term → List ℕ
-programArguments labels M = replicate (length labels + entriesOf (typesIn M)) 0 ++ termArguments 0 M
-
--- The file for a program: sizes, kinds, arguments.
-unfoldable pub encode : List Wire → Term → List ℕ
-encode labels M =
-    words (length labels ∷ entriesOf (typesIn M) ∷ nodes M ∷ [])
-    ++ (programKinds labels M ++ words (programArguments labels M))
-
--- A program that a file can hold with each of its types written out: it has no circuit constant, it is within the sizes,
--- and it passes what `read` tests.
-pub record Writable (labels : List Wire) (M : Term) : Type 0 where
-  pub labels-fit : length labels ≤ 64
-  pub types-fit : entriesOf (typesIn M) ≤ 512
-  pub nodes-fit : nodes M ≤ 2048
-  pub is-source : IsTrue (source M)
-  pub types-formed : IsTrue (allFormed (typesIn M))
-  pub labels-below : IsTrue (labelsBelow (length labels) M)
-  pub gates-known : IsTrue (gatesKnown M)
-  pub boxes-wired : IsTrue (boxesWired M)
   pub closed : IsTrue (closedUnder 0 M)

@@ -1,9 +1,26 @@
 // Bytes, kinds and arguments of a program file (01, "Program file").
+use rules::kinds::ABSTRACTION;
+use rules::kinds::APPLICATION;
+use rules::kinds::APPLY;
+use rules::kinds::BIT;
+use rules::kinds::BOX;
+use rules::kinds::CIRCUIT;
+use rules::kinds::FORCE;
+use rules::kinds::FUNCTION;
+use rules::kinds::GATE;
+use rules::kinds::LABEL;
+use rules::kinds::LET;
+use rules::kinds::LIFT;
+use rules::kinds::PAIR_TYPE;
+use rules::kinds::QUBIT;
+use rules::kinds::REUSABLE;
+use rules::kinds::VARIABLE;
+use words::byte_at;
+use words::word_at;
 ghost use mathlib.Core.Path.{_≡_};
 ghost use Prim.Native.Nat.{_<_};
-ghost use lib.ListN.{getD};
-ghost use Rattle.program.specs.Format.{wordAt, kindAt, argumentAt, labelShape, typeShape, termShape, shapeAt};
-ghost use Rattle.program.specs.Format.{shapeAllows, entryCount};
+ghost use Rattle.program.specs.Format.{kindAt, argumentAt, labelShape, typeShape, termShape, shapeAt, shapeAllows};
+ghost use Rattle.program.specs.Format.{entryCount};
 ghost use Rattle.program.specs.Sized.{Sized};
 
 // What an entry's argument must be.
@@ -23,54 +40,58 @@ pub enum Shape {
 
 // The sizes at the start of a file.
 pub struct Sizes {
+    // L, the labels.
     pub labels: usize,
+    // P, the type entries.
     pub types: usize,
+    // N, the term entries.
     pub terms: usize,
 }
 
-// The byte at i; bytes past the end count as 0.
-fn byte(file: &[u8], i: usize) -> u8
-    ensures { λ r. ⌜ r ≡ getD (now (file .entry)) i 0 ⌝ }
-{
-    if file.len() <= i {
-        return 0;
-    }
-    file[i]
-}
+// How many bytes the three sizes take, and where each stands.
+pub const SIZES: usize = 6;
 
-// The 16-bit number at byte i; bytes past the end count as 0.
-pub fn word(file: &[u8], i: usize) -> usize
-    ensures { λ r. ⌜ r ≡ wordAt (now (file .entry)) i ⌝ }
-{
-    if file.len() <= i {
-        return 0;
-    }
-    byte(file, i) as usize + 256 * (byte(file, i + 1) as usize)
-}
+pub const LABELS: usize = 0;
+
+pub const TYPES: usize = 2;
+
+pub const TERMS: usize = 4;
 
 // The kind byte of entry e; 0 past the end.
-pub fn kind_at(file: &[u8], e: usize) -> u8
+pub fn kind_at(file: &[u8], e: usize) -> usize
     ensures { λ r. ⌜ r ≡ kindAt (now (file .entry)) e ⌝ }
+    ensures { λ r. ⌜ r < 256 ⌝ }
 {
     if file.len() <= e {
         return 0;
     }
-    byte(file, 6 + e)
+    byte_at(file, SIZES + e) as usize
 }
 
-// The argument of entry e.
-pub(crate) fn argument_at(file: &[u8], s: Sizes, e: usize) -> usize
-    requires { ⌜ Sized (now file) s × (e < entryCount (now file)) ⌝ }
-    ensures { λ r. ⌜ r ≡ argumentAt (now (file .entry)) e ⌝ }
+// How many entries a file has by its sizes.
+pub fn entry_count(file: &[u8]) -> usize
+    ensures { λ r. ⌜ r ≡ entryCount (now (file .entry)) ⌝ }
+    ensures { λ r. ⌜ r < 196608 ⌝ }
 {
-    word(file, 6 + (s.labels + s.types + s.terms) + 2 * e)
+    word_at(file, LABELS) + word_at(file, TYPES) + word_at(file, TERMS)
 }
 
-pub(crate) fn label_shape(kind: u8) -> Shape
+// The argument of entry e; 0 past the end.
+pub fn argument_at(file: &[u8], e: usize) -> usize
+    ensures { λ r. ⌜ r ≡ argumentAt (now (file .entry)) e ⌝ }
+    ensures { λ r. ⌜ r < 65536 ⌝ }
+{
+    if file.len() / 2 <= e {
+        return 0;
+    }
+    word_at(file, SIZES + entry_count(file) + 2 * e)
+}
+
+pub(crate) fn label_shape(kind: usize) -> Shape
     ensures { λ r. ⌜ r ≡ labelShape kind ⌝ }
 {
     match kind {
-        0..=1 => Shape::Node {
+        BIT..=QUBIT => Shape::Node {
             parts: 0,
             argument: Argument::Zero,
         },
@@ -78,23 +99,23 @@ pub(crate) fn label_shape(kind: u8) -> Shape
     }
 }
 
-pub(crate) fn type_shape(kind: u8) -> Shape
+pub(crate) fn type_shape(kind: usize) -> Shape
     ensures { λ r. ⌜ r ≡ typeShape kind ⌝ }
 {
     match kind {
-        0..=1 => Shape::Node {
+        BIT..=QUBIT => Shape::Node {
             parts: 0,
             argument: Argument::Zero,
         },
-        2..=3 => Shape::Node {
+        PAIR_TYPE..=FUNCTION => Shape::Node {
             parts: 2,
             argument: Argument::Zero,
         },
-        4 => Shape::Node {
+        REUSABLE => Shape::Node {
             parts: 1,
             argument: Argument::Zero,
         },
-        5 => Shape::Node {
+        CIRCUIT => Shape::Node {
             parts: 2,
             argument: Argument::Zero,
         },
@@ -102,39 +123,39 @@ pub(crate) fn type_shape(kind: u8) -> Shape
     }
 }
 
-pub fn term_shape(kind: u8) -> Shape
+pub fn term_shape(kind: usize) -> Shape
     ensures { λ r. ⌜ r ≡ termShape kind ⌝ }
 {
     match kind {
-        16 => Shape::Node {
+        VARIABLE => Shape::Node {
             parts: 0,
             argument: Argument::BinderCount,
         },
-        17 => Shape::Node {
+        LABEL => Shape::Node {
             parts: 0,
             argument: Argument::LabelNumber,
         },
-        18 => Shape::Node {
+        ABSTRACTION => Shape::Node {
             parts: 1,
             argument: Argument::TypePosition,
         },
-        19..=21 => Shape::Node {
+        APPLICATION..=LET => Shape::Node {
             parts: 2,
             argument: Argument::Zero,
         },
-        22..=23 => Shape::Node {
+        LIFT..=FORCE => Shape::Node {
             parts: 1,
             argument: Argument::Zero,
         },
-        24 => Shape::Node {
+        BOX => Shape::Node {
             parts: 1,
             argument: Argument::TypePosition,
         },
-        25 => Shape::Node {
+        APPLY => Shape::Node {
             parts: 2,
             argument: Argument::Zero,
         },
-        26 => Shape::Node {
+        GATE => Shape::Node {
             parts: 0,
             argument: Argument::GateNumber,
         },

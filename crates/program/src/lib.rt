@@ -1,24 +1,31 @@
-// The reader (01, "Program file" and "When each operation says no", Read).
+// The reader of program files (01, "Program file" and "When each operation says no", Read).
+// Believe: specs/Format, Traversal and Reading; specs/CaseFiles has the files of c1 to c12.
+// Main theorems: read-sound and read-complete (specs/Theorems/Accepting), a file is accepted exactly if a program stands in it.
+// Called by the check, by loading (the accessors of src/format.rt) and by cabinet.
 pub mod format;
 pub mod scan;
-pub mod walk;
+pub mod traversal;
 pub mod wires;
 
+use crate::format::LABELS;
+use crate::format::SIZES;
 use crate::format::Sizes;
-use crate::format::word;
-use crate::scan::first_wrong_argument;
-use crate::scan::first_wrong_kind;
-use crate::walk::Subject;
-use crate::walk::Walked;
-use crate::walk::walk;
-use crate::wires::first_wrong_type;
-use crate::wires::first_wrong_wires;
+use crate::format::TERMS;
+use crate::format::TYPES;
+use crate::scan::Test;
+use crate::scan::first_failing;
+use crate::traversal::Subject;
+use crate::traversal::Traversed;
+use crate::traversal::traverse;
 use refusals::Refusal;
+use rules::sizes::MOST_LABELS;
+use rules::sizes::MOST_TERMS;
+use rules::sizes::MOST_TYPES;
+use words::word_at;
 ghost use mathlib.Core.Path.{_≡_};
-ghost use Rattle.program.specs.Format.{labelCount, typeCount, termCount};
 ghost use Rattle.program.specs.Sized.{Sized};
-ghost use Rattle.program.specs.Reading.{readScope, readWhole, readWires, readTypes, readArguments, readKinds, readOf};
-ghost use Rattle.program.specs.ReadLaws.{sizesFit};
+ghost use Rattle.program.specs.Reading.{readScope, readWhole, readKinds, readOf};
+ghost use Rattle.program.specs.Sized.{sizesFit};
 
 // The sizes of a file that is accepted, or the refusal.
 pub enum ReadAnswer {
@@ -60,10 +67,10 @@ pub(crate) fn read_scope(file: &[u8], s: Sizes) -> ReadAnswer
     ensures { λ r. ⌜ r ≡ readScope (now (file .entry)) ⌝ }
 {
     let start = s.labels + s.types;
-    match walk(Subject::Scope, file, s, start + s.terms, start, 0) {
-        Walked::To(_) => accepted(s),
-        Walked::Stopped(e) => form(9, e),
-        Walked::Out => accepted(s),
+    match traverse(Subject::Scope, file, s, start + s.terms, start, 0) {
+        Traversed::To(_) => accepted(s),
+        Traversed::Stopped(e) => form(9, e),
+        Traversed::Out => accepted(s),
     }
 }
 
@@ -74,95 +81,73 @@ pub(crate) fn read_whole(file: &[u8], s: Sizes) -> ReadAnswer
 {
     let start = s.labels + s.types;
     let end = start + s.terms;
-    match walk(Subject::TermEnd, file, s, end, start, 0) {
-        Walked::To(e) => {
+    match traverse(Subject::TermEnd, file, s, end, start, 0) {
+        Traversed::To(e) => {
             if e == end {
                 return read_scope(file, s);
             }
             form(8, e)
         }
-        Walked::Stopped(e) => form(8, e),
-        Walked::Out => form(8, end),
+        Traversed::Stopped(e) => form(8, e),
+        Traversed::Out => form(8, end),
     }
 }
 
-// Refusal 7, or the tests after it.
-pub(crate) fn read_wires(file: &[u8], s: Sizes) -> ReadAnswer
-    requires { ⌜ Sized (now file) s ⌝ }
-    ensures { λ r. ⌜ r ≡ readWires (now (file .entry)) ⌝ }
-{
-    match first_wrong_wires(file, s) {
-        Found::At(e) => form(7, e),
-        Found::Nothing => read_whole(file, s),
-    }
-}
-
-// Refusal 6, or the tests after it.
-pub(crate) fn read_types(file: &[u8], s: Sizes) -> ReadAnswer
-    requires { ⌜ Sized (now file) s ⌝ }
-    ensures { λ r. ⌜ r ≡ readTypes (now (file .entry)) ⌝ }
-{
-    match first_wrong_type(file, s) {
-        Found::At(e) => form(6, e),
-        Found::Nothing => read_wires(file, s),
-    }
-}
-
-// Refusal 5, or the tests after it.
-pub(crate) fn read_arguments(file: &[u8], s: Sizes) -> ReadAnswer
-    requires { ⌜ Sized (now file) s ⌝ }
-    ensures { λ r. ⌜ r ≡ readArguments (now (file .entry)) ⌝ }
-{
-    match first_wrong_argument(file, s) {
-        Found::At(e) => form(5, e),
-        Found::Nothing => read_types(file, s),
-    }
-}
-
-// Refusal 4, or the tests after it.
-pub(crate) fn read_kinds(file: &[u8], s: Sizes) -> ReadAnswer
+// Refusals 4 to 7, or the tests after them. Each test covers the whole file before the next.
+pub(crate) fn read_entries(file: &[u8], s: Sizes) -> ReadAnswer
     requires { ⌜ Sized (now file) s ⌝ }
     ensures { λ r. ⌜ r ≡ readKinds (now (file .entry)) ⌝ }
 {
-    match first_wrong_kind(file, s) {
-        Found::At(e) => form(4, e),
-        Found::Nothing => read_arguments(file, s),
+    let first_term = s.labels + s.types;
+    let end = first_term + s.terms;
+    if let Found::At(e) = first_failing(Test::Kinds, file, s, 0, end) {
+        return form(4, e);
     }
+    if let Found::At(e) = first_failing(Test::Arguments, file, s, 0, end) {
+        return form(5, e);
+    }
+    if let Found::At(e) = first_failing(Test::Types, file, s, s.labels, first_term) {
+        return form(6, e);
+    }
+    if let Found::At(e) = first_failing(Test::Wires, file, s, 0, end) {
+        return form(7, e);
+    }
+    read_whole(file, s)
 }
 
 // Whether each size is in its range.
 fn sizes_fit(s: Sizes) -> bool
     ensures { λ r. ⌜ r ≡ sizesFit s ⌝ }
 {
-    if 64 < s.labels {
+    if MOST_LABELS < s.labels {
         return false;
     }
-    if 512 < s.types {
+    if MOST_TYPES < s.types {
         return false;
     }
     if s.terms < 1 {
         return false;
     }
-    s.terms <= 2048
+    s.terms <= MOST_TERMS
 }
 
 // Reads a program file: its sizes if it is accepted, else refusal 1 to 9.
 pub fn read(file: &[u8]) -> ReadAnswer
     ensures { λ r. ⌜ r ≡ readOf (now (file .entry)) ⌝ }
 {
-    if file.len() < 6 {
+    if file.len() < SIZES {
         return form(1, 0);
     }
     let s = Sizes {
-        labels: word(file, 0),
-        types: word(file, 2),
-        terms: word(file, 4),
+        labels: word_at(file, LABELS),
+        types: word_at(file, TYPES),
+        terms: word_at(file, TERMS),
     };
     if !sizes_fit(s) {
         return form(2, 0);
     }
-    if file.len() != 6 + 3 * (s.labels + s.types + s.terms) {
+    if file.len() != SIZES + 3 * (s.labels + s.types + s.terms) {
         return form(3, 0);
     }
-    read_kinds(file, s)
+    read_entries(file, s)
 }

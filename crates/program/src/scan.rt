@@ -1,16 +1,26 @@
-// The tests on single entries (01, refusals 4 and 5).
+// The scan for the first entry at which a test fails (01, refusals 4 to 7), and the tests on single entries (4 and 5).
 use crate::Found;
 use crate::format::Shape;
 use crate::format::Sizes;
 use crate::format::argument_at;
 use crate::format::shape_allows;
 use crate::format::shape_at;
+use crate::wires::type_wrong;
+use crate::wires::wires_wrong;
 ghost use mathlib.Core.Path.{_≡_};
-ghost use Prim.Native.Nat.{_<_};
-ghost use Rattle.program.specs.Format.{entryCount};
+ghost use Prim.Native.Nat.{_-_};
 ghost use Rattle.program.specs.Sized.{Sized};
-ghost use Rattle.program.specs.Walks.{firstFrom};
+ghost use Rattle.program.specs.Traversal.{firstFrom};
 ghost use Rattle.program.specs.Reading.{kindWrong, argumentWrong};
+ghost use Rattle.program.specs.Failing.{failsAt};
+
+// What a scan tests of an entry: its kind (4), its argument (5), that its type does not run out (6), its wire types (7).
+pub enum Test {
+    Kinds,
+    Arguments,
+    Types,
+    Wires,
+}
 
 // Whether entry e has a kind that is not of its section.
 pub(crate) fn kind_wrong(file: &[u8], s: Sizes, e: usize) -> bool
@@ -29,39 +39,35 @@ pub(crate) fn kind_wrong(file: &[u8], s: Sizes, e: usize) -> bool
 
 // Whether entry e has an argument that is not allowed.
 pub(crate) fn argument_wrong(file: &[u8], s: Sizes, e: usize) -> bool
-    requires { ⌜ Sized (now file) s × (e < entryCount (now file)) ⌝ }
+    requires { ⌜ Sized (now file) s ⌝ }
     ensures { λ r. ⌜ r ≡ argumentWrong (now (file .entry)) e ⌝ }
 {
     let shape = shape_at(file, s, e);
-    let a = argument_at(file, s, e);
+    let a = argument_at(file, e);
     !shape_allows(s, shape, a)
 }
 
-// Refusal 4: the first entry with a kind that is not of its section.
-pub(crate) fn first_wrong_kind(file: &[u8], s: Sizes) -> Found
+// Whether a test fails at entry e.
+pub(crate) fn fails(test: Test, file: &[u8], s: Sizes, e: usize) -> bool
     requires { ⌜ Sized (now file) s ⌝ }
-    ensures { λ r. ⌜ r ≡ firstFrom (kindWrong (now (file .entry))) 0 (entryCount (now (file .entry))) ⌝ }
+    ensures { λ r. ⌜ r ≡ failsAt test (now (file .entry)) e ⌝ }
 {
-    let end = s.labels + s.types + s.terms;
-    let mut e: usize = 0;
-    while e < end {
-        if kind_wrong(file, s, e) {
-            return Found::At(e);
-        }
-        e += 1;
+    match test {
+        Test::Kinds => kind_wrong(file, s, e),
+        Test::Arguments => argument_wrong(file, s, e),
+        Test::Types => type_wrong(file, s, e),
+        Test::Wires => wires_wrong(file, s, e),
     }
-    Found::Nothing
 }
 
-// Refusal 5: the first entry with an argument that is not allowed.
-pub(crate) fn first_wrong_argument(file: &[u8], s: Sizes) -> Found
+// The first entry from `from` on, and before `end`, at which a test fails.
+pub(crate) fn first_failing(test: Test, file: &[u8], s: Sizes, from: usize, end: usize) -> Found
     requires { ⌜ Sized (now file) s ⌝ }
-    ensures { λ r. ⌜ r ≡ firstFrom (argumentWrong (now (file .entry))) 0 (entryCount (now (file .entry))) ⌝ }
+    ensures { λ r. ⌜ r ≡ firstFrom (failsAt test (now (file .entry))) from (end - from) ⌝ }
 {
-    let end = s.labels + s.types + s.terms;
-    let mut e: usize = 0;
+    let mut e: usize = from;
     while e < end {
-        if argument_wrong(file, s, e) {
+        if fails(test, file, s, e) {
             return Found::At(e);
         }
         e += 1;

@@ -3,13 +3,13 @@ use Prim.Native.Nat.{ℕ}
 use Rattle.refusals.specs.declared.Refusal.{Refusal}
 use Rattle.refusals.specs.declared.Refusal.the-variants.{Form, Typing, Run}
 
--- The paper's number of a refusal.
+-- 01's number of a refusal.
 abbrev pub refusalNumber : Refusal → ℕ
 refusalNumber (Form number place) = number
 refusalNumber (Typing number place) = number
 refusalNumber (Run number place) = number
 
--- The paper's place of a refusal.
+-- 01's place of a refusal.
 abbrev pub refusalPlace : Refusal → ℕ
 refusalPlace (Form number place) = place
 refusalPlace (Typing number place) = place

@@ -9,7 +9,8 @@ use mathlib.Core.Option.{Option, none, some}
 use lib.Dec.{T as IsTrue, leb, ltb, leb→le, leb·zero, leb·suc-zero, leb·suc-suc}
 use lib.ListN.{length, getD, List·getD-eq-default}
 use Rattle.rules.specs.Gates.{GateType, _to_, nth, gateTable, gateType, isSome, isGate}
-use Rattle.rules.specs.GateCodes.{codeAt, circCodes, typeEntries, typeCode, most-type, filled}
+use Rattle.rules.specs.GateCodes.{codeAt, circCodes, typeEntries, typeCode, filled}
+use Rattle.rules.specs.Laws.GateCodes.{most-type}
 use Rattle.rules.specs.Types.{typeCodes}
 
 and-left : (a b : Bool) → IsTrue (a && b) → IsTrue a

@@ -6,6 +6,7 @@ use mathlib.Core.Option.{Option, none, some}
 use lib.ListN.{length, getD}
 use Rattle.rules.specs.Types.{Wire, Circ, wires, typeCodes}
 use Rattle.rules.specs.Gates.{GateType, _to_, gateType, outputWires}
+use Rattle.rules.specs.Terms.{Gate, _on_}
 
 -- What stands at a place of a list of codes; 255 behind its end.
 abbrev pub codeAt : List ℕ → ℕ → ℕ
@@ -37,12 +38,12 @@ typeEntries n = length (circCodes (gateType n))
 unfoldable pub typeCode : ℕ → ℕ → ℕ
 typeCode n i = codeAt (circCodes (gateType n)) i
 
--- The most entries of a gate's type.
-abbrev pub most-type : ℕ
-most-type = 7
-
 -- Codes filled up with 255 to a number of places.
 abbrev pub filled : ℕ → List ℕ → List ℕ
 filled zero codes = []
 filled (suc k) [] = 255 ∷ filled k []
 filled (suc k) (c ∷ codes) = c ∷ filled k codes
+
+-- The wires of a gate.
+abbrev pub wiresOf : Gate → List ℕ
+wiresOf (n on ws) = ws

@@ -5,8 +5,8 @@ use mathlib.Core.Bool.{Bool, true, false, _&&_, not}
 use mathlib.Core.List.{List, [], _∷_}
 use mathlib.Core.Option.{Option, none, some, Option·map}
 use lib.Dec.{T as IsTrue, eqb, leb}
-use Rattle.rules.specs.Types.{Ty, wire, _⊗_, _⊸_, !_, Circ, isWireType, copyable, entries, most-entries}
-use Rattle.rules.specs.Types.{Wire-discrete, Ty-discrete}
+use Rattle.rules.specs.Types.{Ty, wire, _⊗_, _⊸_, !_, Circ, isWireType, copyable, entries, most-entries, Wire-discrete}
+use Rattle.rules.specs.Types.{Ty-discrete}
 use Rattle.rules.specs.Gates.{GateType, _to_, nth, gateType}
 use Rattle.rules.specs.Terms.{Term, variable, label, gate, constant, abstraction, application, pair, let-in, lift}
 use Rattle.rules.specs.Terms.{force, box, apply}

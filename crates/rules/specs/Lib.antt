@@ -1,6 +1,7 @@
+pub mod GateCodes
+pub mod Counting
 pub mod Types
 pub mod Gates
-pub mod GateCodes
 pub mod Terms
 pub mod Circuits
 pub mod Typing
@@ -14,6 +15,6 @@ pub mod Runs
 pub mod Slots
 pub mod CaseTerms
 pub mod Inference
-pub mod Counting
-pub mod Cases
+pub mod Inputs
+pub mod Laws
 pub mod Theorems

@@ -6,11 +6,11 @@ use Prim.Native.Nat.{ℕ}
 use Rattle.rules.specs.Types.{Ty, wires}
 use Rattle.rules.specs.Gates.{GateType, _to_, gateType}
 use Rattle.rules.specs.Terms.{Tuple, single, both, tupleFrom, Gate, Boxed, boxed, Term, variable, label, gate}
-use Rattle.rules.specs.Terms.{constant, abstraction, application, pair, let-in, lift, force, box, apply, value}
-use Rattle.rules.specs.Terms.{tuple, substitute}
+use Rattle.rules.specs.Terms.{constant, abstraction, application, pair, let-in, lift, force, box, apply, value, tuple}
+use Rattle.rules.specs.Terms.{substitute}
 use Rattle.rules.specs.Circuits.{Circuit, circuit, appended, returned, gateBoxed}
-use Rattle.rules.specs.Contexts.{EvaluationContext, hole, application-left, application-right, pair-left}
-use Rattle.rules.specs.Contexts.{pair-right, let-first, force-of, box-of, apply-left, apply-right, plug}
+use Rattle.rules.specs.Contexts.{EvaluationContext, hole, application-left, application-right, pair-left, pair-right}
+use Rattle.rules.specs.Contexts.{let-first, force-of, box-of, apply-left, apply-right, plug}
 use Rattle.rules.specs.Steps.{Frame, frame, Configuration, configuration}
 use Rattle.rules.specs.Values.{both-values}
 

@@ -28,21 +28,21 @@ abbrev pub ended : Ending → ℕ → Configuration → Reached
 ended e n c = record { ending = e; steps = n; reached = c }
 
 -- With no step left to take.
-abbrev pub lastTurn : ℕ → Configuration → Option Configuration → Reached
-lastTurn n c none = ended at-finish n c
-lastTurn n c (some d) = ended still-running n c
+abbrev pub atLimit : ℕ → Configuration → Option Configuration → Reached
+atLimit n c none = ended at-finish n c
+atLimit n c (some d) = ended still-running n c
 
 -- With a step to take to d, and what comes of it.
-abbrev pub turnTo : Bool → ℕ → Configuration → Reached → Reached
-turnTo fitting n c later = cond fitting later (ended does-not-fit n c)
+abbrev pub stepTo : Bool → ℕ → Configuration → Reached → Reached
+stepTo fitting n c later = cond fitting later (ended does-not-fit n c)
 
 -- With a step to take, if the rules give one.
-abbrev pub oneTurn : ℕ → (Configuration → Reached) → ℕ → Configuration → Option Configuration → Reached
-oneTurn allowance later n c none = ended at-finish n c
-oneTurn allowance later n c (some d) = turnTo (fits allowance d) n c (later d)
+abbrev pub oneStep : ℕ → (Configuration → Reached) → ℕ → Configuration → Option Configuration → Reached
+oneStep allowance later n c none = ended at-finish n c
+oneStep allowance later n c (some d) = stepTo (fits allowance d) n c (later d)
 
 -- At most k more steps from c, where n are done. 01: "21: the limit's steps are done and it is unfinished, even if the next
 -- would not fit. 22: earlier than that, the next step exceeds a size."
 abbrev pub advanced : ℕ → ℕ → ℕ → Configuration → Reached
-advanced allowance zero n c = lastTurn n c (next c)
-advanced allowance (suc k) n c = oneTurn allowance (advanced allowance k (suc n)) n c (next c)
+advanced allowance zero n c = atLimit n c (next c)
+advanced allowance (suc k) n c = oneStep allowance (advanced allowance k (suc n)) n c (next c)

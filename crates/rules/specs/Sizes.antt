@@ -2,8 +2,8 @@
 use Prim.Native.Nat.{ℕ, zero, suc, _+_, _≤_}
 use mathlib.Core.List.{List, [], _∷_}
 use lib.ListN.{length}
-use Rattle.rules.specs.Terms.{Boxed, boxed, Term, variable, label, gate, constant, abstraction, application}
-use Rattle.rules.specs.Terms.{pair, let-in, lift, force, box, apply}
+use Rattle.rules.specs.Terms.{Boxed, boxed, Term, variable, label, gate, constant, abstraction, application, pair}
+use Rattle.rules.specs.Terms.{let-in, lift, force, box, apply}
 use Rattle.rules.specs.Circuits.{circuit}
 use Rattle.rules.specs.Steps.{Frame, frame, Configuration, configuration, _⟶_}
 
@@ -48,6 +48,16 @@ totalGates (configuration F X K) = frameGates (F ∷ X) + closedGates K
 -- 01: "boxes closed".
 abbrev pub boxesClosed : Configuration → ℕ
 boxesClosed (configuration F X K) = length K
+
+-- 01, "Program file": "L labels (0 to 64), P type entries (0 to 512), N term entries (1 to 2,048)".
+abbrev pub most-labels : ℕ
+most-labels = 64
+
+abbrev pub most-types : ℕ
+most-types = 512
+
+abbrev pub most-terms : ℕ
+most-terms = 2048
 
 -- 01: "at most 4,096 term nodes".
 abbrev pub most-nodes : ℕ

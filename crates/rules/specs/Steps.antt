@@ -3,11 +3,11 @@ use mathlib.Core.Path.{_≡_}
 use lib.Dec.{T as IsTrue}
 use mathlib.Core.List.{List, [], _∷_}
 use mathlib.Core.Option.{some}
+use Prim.Native.Nat.{ℕ}
 use Rattle.rules.specs.Types.{Wire, Ty, wires}
 use Rattle.rules.specs.Gates.{_to_, gateType}
-use Rattle.rules.specs.Terms.{Tuple, tupleFrom, Gate, Boxed, boxed, Term, gate, constant, abstraction}
-use Rattle.rules.specs.Terms.{application, pair, let-in, lift, force, box, apply, value, tuple, substitute}
-use Prim.Native.Nat.{ℕ}
+use Rattle.rules.specs.Terms.{Tuple, tupleFrom, Gate, Boxed, boxed, Term, gate, constant, abstraction, application}
+use Rattle.rules.specs.Terms.{pair, let-in, lift, force, box, apply, value, tuple, substitute}
 use Rattle.rules.specs.Circuits.{Circuit, circuit, appended, returned, gateBoxed}
 use Rattle.rules.specs.Contexts.{EvaluationContext, plug}
 

@@ -1,11 +1,6 @@
--- The theorems about the rules. Nothing here needs to be believed.
-pub mod TypeCodes
-pub mod Deterministic
-pub mod Labels
-pub mod Substitution
-pub mod Wires
-pub mod Appending
 pub mod Counting
+pub mod Runs
+pub mod Cases
+pub mod Deterministic
 pub mod Inferring
 pub mod Safety
-pub mod Runs

@@ -7,8 +7,8 @@ use mathlib.Core.List.{List, [], _∷_}
 use mathlib.Core.Option.{Option, none, some}
 use Rattle.rules.specs.Types.{Wire, Ty, wire, _⊗_, _⊸_, !_, Circ, isWireType, copyable, wires, entries, most-entries}
 use Rattle.rules.specs.Gates.{_to_, gateType}
-use Rattle.rules.specs.Terms.{Tuple, Gate, boxed, Term, variable, label, gate, constant, abstraction}
-use Rattle.rules.specs.Terms.{application, pair, let-in, lift, force, box, apply, tuple}
+use Rattle.rules.specs.Terms.{Tuple, Gate, boxed, Term, variable, label, gate, constant, abstraction, application}
+use Rattle.rules.specs.Terms.{pair, let-in, lift, force, box, apply, tuple}
 use Rattle.rules.specs.Circuits.{Sound, loose}
 
 -- A typing context gives each variable in scope, innermost first, a type, or none where another part of the term has it.

@@ -1,5 +1,11 @@
-// The gates (01, "Gates") as constant tables of arity and type codes, with one place a gate, and the lookups for reader,
-// check and apply.
+// The rules of Proto-Quipper-M on trees (000, sections 2 and 3) with the theorems about them, and in code the gates (01, "Gates")
+// as constant tables of arity and type codes, one place a gate, with the sizes and the kinds of 01 by name.
+// Believe: specs/ in 000's order: Types, Gates, Terms, Circuits, Typing, Contexts, Steps; then Sizes, Demand3, Next, Runs.
+// Main theorem: demand3-from (specs/Theorems/Safety), demand 3 from every configuration that has a type.
+// Called by the reader, the check and apply of a gate; every contract above speaks of these rules.
+pub mod kinds;
+pub mod sizes;
+
 ghost use mathlib.Core.Path.{_≡_};
 ghost use Rattle.rules.specs.GateCodes.{wiresIn, wiresOut, typeEntries, typeCode};
 ghost use Rattle.rules.specs.Gates.{isGate};
@@ -42,7 +48,8 @@ const TYPE_CODES: [[u8; MOST_TYPE]; GATES] = [
     [5, 2, 0, 1, 2, 0, 1],
 ];
 
-fn wide(x: u8) -> usize
+// A byte as a number. Of `b[i] as usize` a proof would have to say that the byte fits.
+pub fn wide(x: u8) -> usize
     ensures { λ r. ⌜ r ≡ x ⌝ }
 {
     x as usize

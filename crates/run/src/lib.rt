@@ -1,15 +1,18 @@
-// The run (01, "When each operation says no", Run).
-use answers::RunAnswer;
+// The run (01, "When each operation says no", Run): 19, or what run_parts answers, with the working memory cleared.
+// Believe: its contract, which speaks in the definitions of run_answers.
+// Main theorems: run-means and run-is-safe of run_answers; the clearing is specs/Laws/Cleared.
+// Called by cabinet and by wirelist.
 use refusals::Refusal;
+use run_answers::RunAnswer;
 use run_buffers::clear_all;
 use run_buffers::too_short;
-use running::run_uncleared;
+use run_parts::run_uncleared;
 ghost use mathlib.Core.Path.{_≡_};
 ghost use mathlib.Core.List.{[], _∷_};
 ghost use Rattle.lent.specs.Lent.{firstBytes, lastBytes};
-ghost use Rattle.answers.specs.Answers.{runAnswer, runBytes};
-ghost use Rattle.answers.specs.Demand2.{RunMeans};
-ghost use Rattle.answers.specs.Safe.{RunIsSafe};
+ghost use Rattle.run_answers.specs.Answers.{runAnswer, runBytes};
+ghost use Rattle.run_answers.specs.Demand2.{RunMeans};
+ghost use Rattle.run_answers.specs.Safe.{RunIsSafe};
 
 // The run: the check, then the steps from the file's start, at most as many as the limit; at the finish the listing at the start
 // of the output buffer. The other buffers are working memory.
@@ -22,13 +25,13 @@ pub fn run(
     types: &mut [u8],
     frames: &mut [u8],
     gates: &mut [u8],
-    closed: &mut [u8],
-    first: &mut [u8],
-    second: &mut [u8],
-    third: &mut [u8],
-    fourth: &mut [u8],
+    circuits: &mut [u8],
+    results0: &mut [u8],
+    results1: &mut [u8],
+    results2: &mut [u8],
+    results3: &mut [u8],
 ) -> RunAnswer
-    ensures bytes { λ r. let lent = out ∷ nodes ∷ stack ∷ types ∷ frames ∷ gates ∷ closed ∷ first ∷ second ∷ third ∷ fourth ∷ [] in
+    ensures bytes { λ r. let lent = out ∷ nodes ∷ stack ∷ types ∷ frames ∷ gates ∷ circuits ∷ results0 ∷ results1 ∷ results2 ∷ results3 ∷ [] in
         ⌜ r ≡ runAnswer (now (file .entry)) limit (firstBytes lent) ⌝ ∗ ⌜ lastBytes lent ≡ runBytes (now (file .entry)) limit (firstBytes lent) ⌝ }
     ensures meaning { λ r. ⌜ RunMeans (now (file .entry)) limit ⌝ }
     ensures safety { λ r. ⌜ RunIsSafe (now (file .entry)) limit ⌝ }
@@ -40,11 +43,11 @@ pub fn run(
         types.len(),
         frames.len(),
         gates.len(),
-        closed.len(),
-        first.len(),
-        second.len(),
-        third.len(),
-        fourth.len(),
+        circuits.len(),
+        results0.len(),
+        results1.len(),
+        results2.len(),
+        results3.len(),
     ) {
         return RunAnswer::Refused(Refusal::Run {
             number: 19,
@@ -60,11 +63,11 @@ pub fn run(
         types,
         frames,
         gates,
-        closed,
-        first,
-        second,
-        third,
-        fourth,
+        circuits,
+        results0,
+        results1,
+        results2,
+        results3,
     );
     clear_all(
         nodes,
@@ -72,11 +75,11 @@ pub fn run(
         types,
         frames,
         gates,
-        closed,
-        first,
-        second,
-        third,
-        fourth,
+        circuits,
+        results0,
+        results1,
+        results2,
+        results3,
     );
     answer
 }

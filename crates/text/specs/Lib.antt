@@ -1,14 +1,4 @@
+pub mod Writing
 pub mod Text
 pub mod Written
-pub mod Least
-pub mod Examples
-pub mod Decimals
-pub mod Names
-pub mod Writing
-pub mod Reading
-pub mod Words
-pub mod Lines
-pub mod Bytes
-pub mod ReadBack
-pub mod Theorems
-pub mod Fitting
+pub mod Laws

@@ -1,173 +1,55 @@
-// The lines that wirelist prints (01, "Listing").
-pub mod names;
-pub mod reading;
-pub mod writing;
-
-use names::put_name;
-use reading::GATES;
-use reading::INPUTS;
-use reading::OUTPUTS;
-use reading::kind_at;
-use reading::outputs_from;
-use reading::put_words;
-use reading::slots_from;
-use reading::word_at;
-use writing::put_byte;
-use writing::put_bytes;
-use writing::put_number;
-use writing::put_numbers;
-ghost use Prim.Native.Nat.{_≤_, _<_};
-ghost use lib.ListN.{length};
-ghost use Rattle.rules.specs.GateCodes.{wiresIn, wiresOut};
-ghost use Rattle.rules.specs.Circuits.{numbers};
-ghost use Rattle.listing.specs.Parts.{pieces};
-ghost use Rattle.text.specs.Text.{gateLine, stepsLine, refusedLine};
-ghost use Rattle.text.specs.Least.{least-text};
-ghost use Rattle.text.specs.Written.{Written};
+// Text in a lent buffer: ASCII and decimal numbers, byte behind byte, as many as the buffer holds. Each function takes the
+// place of the next byte and answers the place behind those that it wrote.
+// Believe: specs/Text (decimal, words, lines) and specs/Written (what the buffer holds then).
+// Main laws: puts-both and puts-first (specs/Laws/Writing), length-decimal (specs/Laws/Decimals).
+// Called by wirelist's lines.
+ghost use mathlib.Core.List.{[], _∷_};
+ghost use Rattle.text.specs.Text.{decimal, spaced};
 ghost use Rattle.text.specs.Writing.{Puts};
-ghost use Rattle.text.specs.Reading.{wordsAt, inputCount, gateCount, slotsFrom, inputLineAt, gateLineAt, outLineAt, textAt};
-ghost use Rattle.text.specs.Lines.{takenPart};
 
-// The least length of a buffer that holds every text.
-pub const LEAST_TEXT: usize = 88213;
+const SPACE: u8 = 32;
 
-// The kind of an input that is a Bit.
-const BIT_INPUT: usize = 128;
+const ZERO: usize = 48;
 
-// The end of a line.
-const LINE_END: u8 = 10;
-
-// The line of an input.
-fn write_input(listing: &[u8], i: usize, text: &mut [u8], at: usize) -> usize
-    requires { ⌜ i < 65536 ⌝ }
-    ensures { λ r. ⌜ Puts (now (text .entry)) at (inputLineAt (now (listing .entry)) i) (now (text .exit)) r ⌝ }
+// One byte.
+pub fn put_byte(text: &mut [u8], at: usize, byte: u8) -> usize
+    ensures { λ r. ⌜ Puts (now (text .entry)) at (byte ∷ []) (now (text .exit)) r ⌝ }
 {
-    let named = put_bytes(text, at, b"in");
-    let numbered = put_number(text, named, i);
-    if kind_at(listing, i) == BIT_INPUT {
-        return put_bytes(text, numbered, b" Bit\n");
+    if at < text.len() {
+        text[at] = byte;
+        return at + 1;
     }
-    put_bytes(text, numbered, b" Qubit\n")
+    at
 }
 
-// The lines of the inputs.
-fn write_inputs(listing: &[u8], text: &mut [u8], at: usize) -> usize
-    ensures { λ r. ⌜ Puts (now (text .entry)) at
-        (pieces (inputLineAt (now (listing .entry))) (inputCount (now (listing .entry)))) (now (text .exit)) r ⌝ }
+// The bytes of a slice.
+pub fn put_bytes(text: &mut [u8], at: usize, bytes: &[u8]) -> usize
+    ensures { λ r. ⌜ Puts (now (text .entry)) at (now (bytes .entry)) (now (text .exit)) r ⌝ }
 {
-    let count = word_at(listing, INPUTS);
     let mut here = at;
     let mut i: usize = 0;
-    while i < count {
-        here = write_input(listing, i, text, here);
+    while i < bytes.len() {
+        here = put_byte(text, here, bytes[i]);
         i += 1;
     }
     here
 }
 
-// What stands in the line of a gate before the colon.
-fn write_taken(listing: &[u8], i: usize, number: usize, text: &mut [u8], at: usize) -> usize
-    requires { ⌜ i < 262144 ⌝ }
-    ensures { λ r. ⌜ Puts (now (text .entry)) at
-        (takenPart number (wordsAt (now (listing .entry)) (slotsFrom (now (listing .entry)) i) (wiresIn number)))
-        (now (text .exit)) r ⌝ }
+// A number in decimal.
+pub fn put_decimal(text: &mut [u8], at: usize, n: usize) -> usize
+    ensures { λ r. ⌜ Puts (now (text .entry)) at (decimal n) (now (text .exit)) r ⌝ }
 {
-    let opened = put_bytes(text, at, b"gate ");
-    let named = put_name(text, opened, number);
-    put_words(
-        text,
-        named,
-        listing,
-        slots_from(listing, i),
-        rules::wires_in(number),
-    )
-}
-
-// The line of the gate with this number at entry i, before which so many wires were made.
-fn write_gate(
-    listing: &[u8],
-    i: usize,
-    number: usize,
-    made: usize,
-    text: &mut [u8],
-    at: usize,
-) -> usize
-    requires { ⌜ i < 262144 ⌝ }
-    requires { ⌜ made < 1048576 ⌝ }
-    ensures { λ r. ⌜ Puts (now (text .entry)) at
-        (gateLine number
-        (wordsAt (now (listing .entry)) (slotsFrom (now (listing .entry)) i) (wiresIn number))
-        (numbers made (wiresOut number)))
-        (now (text .exit)) r ⌝ }
-{
-    let taken = write_taken(listing, i, number, text, at);
-    let parted = put_bytes(text, taken, b" :");
-    let numbered = put_numbers(text, parted, made, rules::wires_out(number));
-    put_byte(text, numbered, LINE_END)
-}
-
-// The lines of the gates. The wires made so far are counted on from gate to gate.
-fn write_gates(listing: &[u8], text: &mut [u8], at: usize) -> usize
-    ensures { λ r. ⌜ Puts (now (text .entry)) at
-        (pieces (gateLineAt (now (listing .entry))) (gateCount (now (listing .entry)))) (now (text .exit)) r ⌝ }
-{
-    let inputs = word_at(listing, INPUTS);
-    let count = word_at(listing, GATES);
-    let mut made = inputs;
-    let mut here = at;
-    let mut i: usize = 0;
-    while i < count {
-        let number = kind_at(listing, inputs + i);
-        here = write_gate(listing, inputs + i, number, made, text, here);
-        made += rules::wires_out(number);
-        i += 1;
+    if n < 10 {
+        return put_byte(text, at, (ZERO + n) as u8);
     }
-    here
+    let here = put_decimal(text, at, n / 10);
+    put_byte(text, here, (ZERO + n % 10) as u8)
 }
 
-// The line of the outputs.
-fn write_outputs(listing: &[u8], text: &mut [u8], at: usize) -> usize
-    ensures { λ r. ⌜ Puts (now (text .entry)) at (outLineAt (now (listing .entry))) (now (text .exit)) r ⌝ }
+// A space and a number.
+pub fn put_number(text: &mut [u8], at: usize, n: usize) -> usize
+    ensures { λ r. ⌜ Puts (now (text .entry)) at (spaced (decimal n ∷ [])) (now (text .exit)) r ⌝ }
 {
-    let named = put_bytes(text, at, b"out");
-    let listed = put_words(
-        text,
-        named,
-        listing,
-        outputs_from(listing),
-        word_at(listing, OUTPUTS),
-    );
-    put_byte(text, listed, LINE_END)
-}
-
-// The line of the steps.
-fn write_steps(steps: usize, text: &mut [u8], at: usize) -> usize
-    ensures { λ r. ⌜ Puts (now (text .entry)) at (stepsLine steps) (now (text .exit)) r ⌝ }
-{
-    let named = put_bytes(text, at, b"steps");
-    let numbered = put_number(text, named, steps);
-    put_byte(text, numbered, LINE_END)
-}
-
-// All lines of a listing and the steps of its run are written from the start of the text, as much of them as that holds;
-// answers how many bytes.
-pub fn write_lines(listing: &[u8], steps: usize, text: &mut [u8]) -> usize
-    ensures { λ r. ⌜ Written (now (text .entry)) (textAt (now (listing .entry)) steps) (now (text .exit)) r ⌝ }
-{
-    let inputs = write_inputs(listing, text, 0);
-    let gates = write_gates(listing, text, inputs);
-    let outputs = write_outputs(listing, text, gates);
-    write_steps(steps, text, outputs)
-}
-
-// The line of a refusal is written from the start of the text, as much of it as that holds; answers how many bytes. A text
-// of the least length holds it whole.
-pub fn write_refusal(number: usize, place: usize, text: &mut [u8]) -> usize
-    ensures { λ r. ⌜ Written (now (text .entry)) (refusedLine number place) (now (text .exit)) r ⌝ }
-    ensures { λ r. ⌜ length (refusedLine number place) ≤ least-text ⌝ }
-{
-    let named = put_bytes(text, 0, b"refused");
-    let numbered = put_number(text, named, number);
-    let placed = put_number(text, numbered, place);
-    put_byte(text, placed, LINE_END)
+    let here = put_byte(text, at, SPACE);
+    put_decimal(text, here, n)
 }

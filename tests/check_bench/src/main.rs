@@ -31,7 +31,7 @@ fn main() {
 }
 
 fn row(name: &str, whole: &Typed, half: &Typed) {
-    let (whole, half) = (file(whole), file(half));
+    let (whole, half) = (whole.program.bytes(), half.program.bytes());
     let exported = [exported(&whole), exported(&half)];
     let derived = [derived(&whole), derived(&half)];
     let counted = [counted(&whole), counted(&half)];
@@ -59,11 +59,6 @@ fn any(seed: u64, terms: usize) -> Typed {
             }
         }
     }
-}
-
-fn file(typed: &Typed) -> Vec<u8> {
-    let entries = encode(&typed.program, Positions::First);
-    entries.expect("sizes in range").bytes()
 }
 
 /// Seconds of one call of the exported check.

@@ -1,35 +1,14 @@
 //! Programs written by hand, with their answers.
 
 use crate::compare::Comparison;
-use comparing::cases::{
-    file, plain, Written, ABS, APP, C1, C10, C11, C12, C1_FILE, C2, C3, C4, C5, C6, C7, C8, C9,
-    FUN, REU, VAR,
-};
+use comparing::cases;
+use comparing::files::ComparePrograms;
+use comparing::written::{file, type_of, Written, ABS, APP, FUN, REU, VAR};
 use comparing::Known;
 use program_files::kinds::*;
-use program_files::read::types_at;
-use program_files::Entries;
 
-/// A type in preorder.
-fn known_type(kinds: &[u8]) -> Known {
-    let types = types_at(&Entries {
-        labels: Vec::new(),
-        types: plain(kinds),
-        terms: Vec::new(),
-    });
-    Known::Type(types[0].clone())
-}
-
-/// Cases c1 to c4 and c10 to c12, and others that are accepted, with their
-/// types.
-const ACCEPTED: [(&[u8], Written); 32] = [
-    (&[QUBIT], C1),
-    (&[QUBIT], C2),
-    (&[PAIR_TYPE, QUBIT, QUBIT], C3),
-    (&[QUBIT], C4),
-    (&[QUBIT], C10),
-    (&[FUN, QUBIT, QUBIT], C11),
-    (&[QUBIT], C12),
+/// Accepted programs, with their types.
+const ACCEPTED: [(&[u8], Written); 25] = [
     // The gates.
     (&[CIRCUIT, QUBIT, QUBIT], (&[], &[], &[(GATE, 0)])),
     (&[CIRCUIT, QUBIT, QUBIT], (&[], &[], &[(GATE, 1)])),
@@ -201,13 +180,8 @@ const ACCEPTED: [(&[u8], Written); 32] = [
     ),
 ];
 
-/// Cases c5 to c9, and others that are refused: the number and the place.
-const REFUSED: [(u8, usize, Written); 57] = [
-    (17, 0, C5),
-    (17, 0, C6),
-    (18, 2, C7),
-    (16, 1, C8),
-    (17, 1, C9),
+/// Refused programs: the number and the place.
+const REFUSED: [(u8, usize, Written); 52] = [
     // 16, each rule.
     (16, 0, (&[], &[], &[(FORCE, 0), (GATE, 0)])),
     (16, 0, (&[], &[], &[(APP, 0), (GATE, 0), (GATE, 0)])),
@@ -569,12 +543,12 @@ const REFUSED: [(u8, usize, Written); 57] = [
 
 pub fn compare(comparison: &mut Comparison) {
     comparison.listed_group("written by hand");
-    assert_eq!(file(C1), C1_FILE, "the file of c1");
-    for (kinds, written) in ACCEPTED {
-        comparison.program(&file(written), &known_type(kinds));
+    for case in cases::all() {
+        comparison.program(&case.file, &case.known());
     }
-    comparison.program(&[], &Known::Refused(1, 0));
-    comparison.program(&[1, 0, 0, 0, 0, 0], &Known::Refused(2, 0));
+    for (kinds, written) in ACCEPTED {
+        comparison.program(&file(written), &Known::Type(type_of(kinds)));
+    }
     for (number, place, written) in REFUSED {
         let known = Known::Refused(number, place);
         comparison.program(&file(written), &known);

@@ -4,8 +4,9 @@ use crate::memory::{Check, MEMORY};
 use crate::seen::{name_of, Seen};
 use check_compare::counting::{self, Wrong, PLANTED};
 use check_compare::library::{self, is_short, pack, Lengths, LEAST_OUT, LEAST_WORK, SHORT};
+use comparing::files::ComparePrograms;
 use comparing::{Counts, Expected, Known, Lent, Planted};
-use program_files::{read, Accepted, Random, Term};
+use program_files::{kinds, read, Accepted, Random, Term};
 use programs::check::{agree, check_read, Answer};
 use programs::rules::{verdict, Sharing};
 use programs::survey::Survey;
@@ -73,23 +74,6 @@ impl Comparison {
 
     pub fn programs(&self) -> usize {
         self.counts.all()
-    }
-
-    /// Compares both checks with each other and with what is known. The least
-    /// lengths are lent, or more.
-    pub fn program(&mut self, file: &[u8], known: &Known) {
-        let answer = self.expected(file, known);
-        let lengths = match self.random.below(32) {
-            0 => [LEAST_OUT + 1, LEAST_WORK],
-            1 => [LEAST_OUT, LEAST_WORK + 1],
-            2 | 3 => [
-                self.random.between(LEAST_OUT, 2_000),
-                self.random.between(LEAST_WORK, 60_000),
-            ],
-            4 if self.random.one_in(16) => [70_000, 140_000],
-            _ => [LEAST_OUT, LEAST_WORK],
-        };
-        self.call(file, lengths, &answer);
     }
 
     /// Compares calls with buffers of these lengths, and looks for planted
@@ -174,7 +158,7 @@ impl Comparison {
             Err(refusal) => {
                 let node = refusal.place.checked_sub(read.sizes.first_term());
                 let name = match node {
-                    Some(node) => name_of(&survey.nodes[node].term),
+                    Some(node) => name_of(survey.nodes[node].term.kind()),
                     None => "label entry",
                 };
                 *self.places.entry((refusal.number, name)).or_default() += 1;
@@ -196,12 +180,7 @@ impl Comparison {
         let counts = &self.counts;
         assert!(counts.distinct() >= LEAST_GENERATED, "too few generated");
         assert!(counts.with(0) >= LEAST_ACCEPTED, "too few accepted");
-        for (number, least) in LEAST_REFUSED {
-            assert!(
-                counts.with(number) >= least,
-                "too few refused with {number}"
-            );
-        }
+        counts.assert_refused(&LEAST_REFUSED);
         assert!(
             (1..10).all(|number| counts.with(number) >= LEAST_NOT_READ),
             "too few refused by read"
@@ -214,17 +193,7 @@ impl Comparison {
 
     /// Each refusal at each entry where it can be.
     fn assert_places(&self) {
-        let nodes = [
-            "abstraction",
-            "application",
-            "pair",
-            "let",
-            "lift",
-            "force",
-            "box",
-            "apply",
-        ];
-        let rules = nodes.iter().map(|&name| (16, name));
+        let rules = kinds::TERMS_WITH_PARTS.map(|kind| (16, name_of(kind)));
         let others = [
             (17, "label entry"),
             (17, "abstraction"),
@@ -232,12 +201,31 @@ impl Comparison {
             (18, "label"),
             (18, "variable"),
         ];
-        for place in rules.chain(others) {
+        for place in rules.into_iter().chain(others) {
             let seen = self.places.get(&place).copied().unwrap_or(0);
             assert!(seen >= 300, "too few refused at {place:?}: {seen}");
         }
         let typing = self.places.keys().filter(|(number, _)| *number >= 16);
         assert_eq!(typing.count(), 13, "a refusal where it cannot be");
+    }
+}
+
+impl ComparePrograms for Comparison {
+    /// Compares both checks with each other and with what is known. The least
+    /// lengths are lent, or more.
+    fn program(&mut self, file: &[u8], known: &Known) {
+        let answer = self.expected(file, known);
+        let lengths = match self.random.below(32) {
+            0 => [LEAST_OUT + 1, LEAST_WORK],
+            1 => [LEAST_OUT, LEAST_WORK + 1],
+            2 | 3 => [
+                self.random.between(LEAST_OUT, 2_000),
+                self.random.between(LEAST_WORK, 60_000),
+            ],
+            4 if self.random.one_in(16) => [70_000, 140_000],
+            _ => [LEAST_OUT, LEAST_WORK],
+        };
+        self.call(file, lengths, &answer);
     }
 }
 

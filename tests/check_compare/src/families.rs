@@ -1,7 +1,9 @@
 //! The programs that are compared, all from fixed seeds.
 
 use crate::compare::Comparison;
-use comparing::files::{broken_file, bytes, entries, often_broken_file, some_typed};
+use comparing::files::{
+    broken_file, entries, often_broken_file, planned, some_typed, well_typed, ComparePrograms,
+};
 use comparing::Known;
 use program_files::entries::MOST_TYPES;
 use program_files::generate::{Generator, Lean, Shape};
@@ -34,14 +36,6 @@ pub fn compare(comparison: &mut Comparison) {
     all_small(comparison);
     untyped(comparison);
     not_read(comparison);
-}
-
-/// A well-typed program is accepted with its type; none if it has no file.
-fn accepted(comparison: &mut Comparison, random: &mut Random, typed: &Typed) -> Option<()> {
-    let entries = entries(random, &typed.program)?;
-    let known = Known::Type(typed.of.clone());
-    comparison.program(&entries.bytes(), &known);
-    Some(())
 }
 
 /// What small terms are made of: leaves, and nodes that get other parts.
@@ -131,12 +125,8 @@ fn all_small(comparison: &mut Comparison) {
     for small in &smalls {
         for size in 1..=small.most {
             for term in small.terms(size, 0) {
-                let program = Program {
-                    labels: small.labels.clone(),
-                    listed: Vec::new(),
-                    term,
-                };
-                comparison.program(&bytes(&program), &Known::Nothing);
+                let program = Program::new(small.labels.clone(), term);
+                comparison.program(&program.bytes(), &Known::Nothing);
             }
         }
     }
@@ -145,22 +135,18 @@ fn all_small(comparison: &mut Comparison) {
 fn any_typed(comparison: &mut Comparison) {
     comparison.group("well typed, any rules");
     let mut random = Random::new(1);
-    for _ in 0..14_000 {
-        let plan = Plan::any(&mut random, 4, 16);
-        let typed = some_typed(&mut random, &plan);
-        accepted(comparison, &mut random, &typed).expect("accepted");
-    }
-    for _ in 0..4_000 {
-        let plan = Plan::any(&mut random, 8, 60);
-        let typed = some_typed(&mut random, &plan);
-        accepted(comparison, &mut random, &typed).expect("accepted");
-    }
+    planned(comparison, &mut random, 14_000, |random| {
+        Plan::any(random, 4, 16)
+    });
+    planned(comparison, &mut random, 4_000, |random| {
+        Plan::any(random, 8, 60)
+    });
     comparison.group("well typed, of a wire type");
     for _ in 0..6_000 {
         let plan = Plan::of_wires(&mut random, 6, 50);
         let typed = some_typed(&mut random, &plan);
         assert!(typed.of.is_wire_type(), "a wire type");
-        accepted(comparison, &mut random, &typed).expect("accepted");
+        well_typed(comparison, &mut random, &typed).expect("a file");
     }
 }
 
@@ -168,43 +154,33 @@ fn one_rule(comparison: &mut Comparison) {
     comparison.group("well typed, one rule more often");
     let mut random = Random::new(2);
     for rule in RULES {
-        for _ in 0..300 {
-            let plan = Plan::any(&mut random, 6, 50).favouring(&[rule]);
-            let typed = some_typed(&mut random, &plan);
-            accepted(comparison, &mut random, &typed).expect("accepted");
-        }
+        planned(comparison, &mut random, 300, |random| {
+            Plan::any(random, 6, 50).favouring(&[rule])
+        });
     }
     // Variables that are copied.
-    for _ in 0..1_000 {
-        let plan = Plan::of_wires(&mut random, 6, 80).with_copies();
-        let typed = some_typed(&mut random, &plan);
-        accepted(comparison, &mut random, &typed).expect("accepted");
-    }
+    planned(comparison, &mut random, 1_000, |random| {
+        Plan::of_wires(random, 6, 80).with_copies()
+    });
 }
 
 fn nested_boxes(comparison: &mut Comparison) {
     comparison.group("well typed, boxes inside boxes");
     let mut random = Random::new(3);
-    for _ in 0..1_500 {
-        let plan = Plan::of_wires(&mut random, 5, 150).with_nested_boxes();
-        let typed = some_typed(&mut random, &plan);
-        accepted(comparison, &mut random, &typed).expect("accepted");
-    }
+    planned(comparison, &mut random, 1_500, |random| {
+        Plan::of_wires(random, 5, 150).with_nested_boxes()
+    });
 }
 
 fn large_typed(comparison: &mut Comparison) {
     comparison.group("well typed, large");
     let mut random = Random::new(4);
-    for _ in 0..500 {
-        let plan = Plan::any(&mut random, 64, 600);
-        let typed = some_typed(&mut random, &plan);
-        accepted(comparison, &mut random, &typed).expect("accepted");
-    }
-    for _ in 0..60 {
-        let plan = Plan::any(&mut random, 64, 2_000);
-        let typed = some_typed(&mut random, &plan);
-        accepted(comparison, &mut random, &typed).expect("accepted");
-    }
+    planned(comparison, &mut random, 500, |random| {
+        Plan::any(random, 64, 600)
+    });
+    planned(comparison, &mut random, 60, |random| {
+        Plan::any(random, 64, 2_000)
+    });
     comparison.group("well typed, exactly 2,047 or 2,048 nodes");
     let mut found = 0;
     while found < 60 {
@@ -225,7 +201,7 @@ fn large_typed(comparison: &mut Comparison) {
         if let Some(entries) = filled(&typed.program) {
             comparison.program(&entries.bytes(), &Known::Type(typed.of.clone()));
         }
-        if accepted(comparison, &mut random, &typed).is_some() {
+        if well_typed(comparison, &mut random, &typed).is_some() {
             found += 1;
         }
     }
@@ -260,11 +236,11 @@ fn extreme_typed(comparison: &mut Comparison) {
         1, 2, 3, 5, 8, 13, 60, 255, 256, 257, 511, 512, 1_024, 2_047, 2_048,
     ] {
         for (_, typed) in extremes::all(terms) {
-            accepted(comparison, &mut random, &typed).expect("accepted");
+            well_typed(comparison, &mut random, &typed).expect("a file");
         }
     }
     for (_, typed) in extremes::at_the_type_bound() {
-        accepted(comparison, &mut random, &typed).expect("accepted");
+        well_typed(comparison, &mut random, &typed).expect("a file");
     }
     for (_, typed) in extremes::all(2_048) {
         let entries = filled(&typed.program).expect("a file");
@@ -285,7 +261,7 @@ fn types_at_the_bound(comparison: &mut Comparison) {
             }
             plan.terms = random.between(3, 60);
             if let Some(typed) = typed(&mut random, &plan).filter(|_| size <= MOST_ENTRIES) {
-                accepted(comparison, &mut random, &typed);
+                well_typed(comparison, &mut random, &typed);
             }
         }
     }
@@ -378,11 +354,7 @@ fn compared_types(comparison: &mut Comparison) {
             _ => one_entry_changed(&mut random, &of),
         };
         let over = |at: &Rc<Type>| lift(abstraction(at.clone(), variable(0)));
-        let program = Program {
-            labels: Vec::new(),
-            listed: Vec::new(),
-            term: boxed(of.clone(), over(&of)),
-        };
+        let program = Program::new(Vec::new(), boxed(of.clone(), over(&of)));
         let labelled = Program {
             labels: wires,
             ..program.clone()

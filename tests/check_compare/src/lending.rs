@@ -2,7 +2,6 @@
 
 use crate::compare::Comparison;
 use check_compare::library::{Lengths, LEAST_OUT, LEAST_WORK};
-use comparing::files::bytes;
 use program_files::{encode, Positions, Random};
 use programs::broken::{broken, Way};
 use programs::extremes;
@@ -64,10 +63,10 @@ fn files(random: &mut Random) -> Vec<Vec<u8>> {
         }
     }
     for (_, typed) in extremes::all(2_048) {
-        files.push(bytes(&typed.program));
+        files.push(typed.program.bytes());
     }
     let lifts = extremes::at_the_type_bound().swap_remove(0).1;
-    files.push(bytes(&lifts.program));
+    files.push(lifts.program.bytes());
     files.extend(not_read());
     files
 }

@@ -1,7 +1,7 @@
 //! The exported check, and its answer as one number.
 
-pub use comparing::packed::number;
 use comparing::packed::{self, bits, put};
+pub use comparing::packed::{number, SHORT};
 use program_files::{Refusal, Type};
 use std::rc::Rc;
 
@@ -56,12 +56,6 @@ pub fn pack(answer: &Result<Rc<Type>, Refusal>) -> u64 {
 pub fn length(answer: u64) -> usize {
     bits(answer, 6, 16) as usize
 }
-
-/// The refusal of a buffer shorter than its least length.
-pub const SHORT: Refusal = Refusal {
-    number: 19,
-    place: 0,
-};
 
 /// The answer in words.
 pub fn in_words(answer: u64) -> String {

@@ -1,7 +1,7 @@
 //! What accepted programs had.
 
 use program_files::entries::LONGEST;
-use program_files::{kinds, Accepted, Term, Type};
+use program_files::{kinds, Accepted, Type};
 use programs::rules::MOST_ENTRIES;
 use programs::survey::Survey;
 
@@ -106,7 +106,8 @@ impl Seen {
     }
 }
 
-pub fn name_of(term: &Term) -> &'static str {
+/// The name of a kind of the term section.
+pub fn name_of(kind: u8) -> &'static str {
     const NAMES: [&str; 11] = [
         "variable",
         "label",
@@ -120,5 +121,5 @@ pub fn name_of(term: &Term) -> &'static str {
         "apply",
         "gate",
     ];
-    NAMES[usize::from(term.kind() - kinds::VARIABLE)]
+    NAMES[usize::from(kind - kinds::VARIABLE)]
 }

@@ -1,7 +1,6 @@
 //! The least stack on which the exported check takes the deepest programs.
 
 use check_compare::library::{self, LEAST_OUT, LEAST_WORK};
-use comparing::files::bytes;
 use comparing::{one_kind, stack};
 use program_files::{encode, Positions, Program, Term};
 use programs::terms::{abstraction, application, gate, variable};
@@ -19,10 +18,10 @@ fn deepest() -> Vec<(String, Vec<u8>)> {
             "{name}, {} deep, of a type {} deep, accepted",
             depths.0, depths.1
         );
-        files.push((name, bytes(&typed.program)));
+        files.push((name, typed.program.bytes()));
     }
     for (name, program) in one_kind::programs() {
-        files.push((name, bytes(&program)));
+        files.push((name, program.bytes()));
     }
     for (name, largest) in one_kind::types(512) {
         let term = abstraction(largest, gate(0));
@@ -38,11 +37,7 @@ fn deepest() -> Vec<(String, Vec<u8>)> {
 }
 
 fn bytes_of(term: Rc<Term>, positions: Positions) -> Vec<u8> {
-    let program = Program {
-        labels: Vec::new(),
-        listed: Vec::new(),
-        term,
-    };
+    let program = Program::new(Vec::new(), term);
     let entries = encode(&program, positions);
     entries.expect("sizes in range").bytes()
 }

@@ -1,41 +1,192 @@
-//! Programs written by hand: the cases c1 to c12.
+//! The cases of 01, c1 to c12 and the two files that are not read, as one
+//! table: of each its file, and what the reading, the check and runs answer.
 
+use crate::known::Known;
+use crate::written::{entries, type_of, Written, ABS, APP, FUN, VAR};
 use program_files::kinds::*;
-use program_files::{Entries, Entry};
+use program_files::{Refusal, Sizes};
 
-/// The kinds of the labels, those of the types, and the term with arguments.
-pub type Written = (&'static [u8], &'static [u8], &'static [(u8, u16)]);
-
-pub const ABS: u8 = ABSTRACTION;
-pub const APP: u8 = APPLICATION;
-pub const VAR: u8 = VARIABLE;
-pub const FUN: u8 = FUNCTION;
-pub const REU: u8 = REUSABLE;
-
-pub fn plain(kinds: &[u8]) -> Vec<Entry> {
-    kinds.iter().map(|&kind| Entry::new(kind, 0)).collect()
+pub struct Case {
+    pub name: &'static str,
+    pub file: Vec<u8>,
+    pub read: Result<Sizes, Refusal>,
+    /// The type in preorder.
+    pub check: Result<&'static [u8], Refusal>,
+    /// With enough steps.
+    run: Run,
 }
 
-pub fn file((labels, types, terms): Written) -> Vec<u8> {
-    let terms = terms.iter();
-    let entries = Entries {
-        labels: plain(labels),
-        types: plain(types),
-        terms: terms
-            .map(|&(kind, argument)| Entry::new(kind, argument))
-            .collect(),
-    };
-    entries.bytes()
+/// What a run answers.
+pub type Run = Result<Finished, Refusal>;
+
+#[derive(Clone, Copy)]
+pub struct Finished {
+    pub steps: u32,
+    pub listing: &'static Listing,
 }
 
-/// The file of c1, as the document has it.
-pub const C1_FILE: [u8; 12] = [1, 0, 0, 0, 1, 0, 1, 0x11, 0, 0, 0, 0];
+pub struct Listing {
+    pub gates: usize,
+    pub bytes: &'static [u8],
+    /// As `wirelist` prints it.
+    lines: &'static str,
+}
 
-pub const C1: Written = (&[QUBIT], &[], &[(LABEL, 0)]);
+/// The limits with which each case is run: those around the steps of each, and
+/// that of `wirelist`.
+pub const LIMITS: [u32; 8] = [0, 1, 2, 3, 4, 5, 9, 1_000_000];
 
-pub const C2: Written = (&[QUBIT], &[], &[(APPLY, 0), (GATE, 0), (LABEL, 0)]);
+/// The table.
+pub fn all() -> [Case; 14] {
+    assert_eq!(entries(C1).bytes(), C1_FILE, "the file of c1");
+    [
+        finished("c1", C1, &[QUBIT], 0, &ONE_WIRE),
+        finished("c2", C2, &[QUBIT], 1, &ONE_GATE),
+        finished("c3", C3, &[PAIR_TYPE, QUBIT, QUBIT], 2, &CROSSED),
+        finished("c4", C4, &[QUBIT], 5, &ONE_GATE),
+        not_typed("c5", C5, 17, 0),
+        not_typed("c6", C6, 17, 0),
+        not_typed("c7", C7, 18, 2),
+        not_typed("c8", C8, 16, 1),
+        not_typed("c9", C9, 17, 1),
+        finished("c10", C10, &[QUBIT], 3, &TWO_GATES),
+        no_wires("c11", C11, &[FUN, QUBIT, QUBIT]),
+        finished("c12", C12, &[QUBIT], 1, &ONE_WIRE),
+        not_read("the empty file", &[], 1),
+        not_read("sizes 1, 0, 0 alone", &[1, 0, 0, 0, 0, 0], 2),
+    ]
+}
 
-pub const C3: Written = (
+fn finished(
+    name: &'static str,
+    program: Written,
+    of: &'static [u8],
+    steps: u32,
+    listing: &'static Listing,
+) -> Case {
+    read(name, program, Ok(of), Ok(Finished { steps, listing }))
+}
+
+/// Its type is no wire type.
+fn no_wires(name: &'static str, program: Written, of: &'static [u8]) -> Case {
+    read(name, program, Ok(of), Err(refusal(20, 0)))
+}
+
+/// A run first checks.
+fn not_typed(name: &'static str, program: Written, number: u8, place: usize) -> Case {
+    let refusal = refusal(number, place);
+    read(name, program, Err(refusal), Err(refusal))
+}
+
+/// A check first reads.
+fn not_read(name: &'static str, file: &[u8], number: u8) -> Case {
+    let refusal = refusal(number, 0);
+    Case {
+        name,
+        file: file.to_vec(),
+        read: Err(refusal),
+        check: Err(refusal),
+        run: Err(refusal),
+    }
+}
+
+fn read(
+    name: &'static str,
+    program: Written,
+    check: Result<&'static [u8], Refusal>,
+    run: Run,
+) -> Case {
+    let entries = entries(program);
+    Case {
+        name,
+        file: entries.bytes(),
+        read: Ok(entries.sizes()),
+        check,
+        run,
+    }
+}
+
+fn refusal(number: u8, place: usize) -> Refusal {
+    Refusal { number, place }
+}
+
+impl Case {
+    /// What a run with this limit answers.
+    pub fn run(&self, limit: u32) -> Run {
+        match self.run {
+            Ok(Finished { steps, .. }) if limit < steps => Err(refusal(21, 0)),
+            run => run,
+        }
+    }
+
+    /// What the reading is known to give.
+    pub fn known_read(&self) -> Known {
+        match self.read {
+            Ok(_) => Known::Accepted,
+            Err(refusal) => Known::refused(refusal),
+        }
+    }
+
+    /// What the check is known to give.
+    pub fn known(&self) -> Known {
+        match self.check {
+            Ok(kinds) => Known::Type(type_of(kinds)),
+            Err(refusal) => Known::refused(refusal),
+        }
+    }
+}
+
+/// The lines that `wirelist` prints for the answer of a run.
+pub fn lines(run: &Run) -> String {
+    match run {
+        Ok(Finished { steps, listing }) => format!("{}steps {steps}\n", listing.lines),
+        Err(Refusal { number, place }) => format!("refused {number} {place}\n"),
+    }
+}
+
+/// The listing of c1 and c12.
+const ONE_WIRE: Listing = Listing {
+    gates: 0,
+    bytes: &[1, 0, 0, 0, 1, 0, 0x81, 255, 255, 255, 255, 0, 0],
+    lines: "in 0 Qubit\nout 0\n",
+};
+
+/// The listing of c2 and c4, as 01 has it.
+const ONE_GATE: Listing = Listing {
+    gates: 1,
+    bytes: &[
+        1, 0, 1, 0, 1, 0, 0x81, 0, 255, 255, 255, 255, 0, 0, 255, 255, 1, 0,
+    ],
+    lines: "in 0 Qubit\ngate H 0 : 1\nout 1\n",
+};
+
+/// The listing of c3; its lines as 01 has them.
+const CROSSED: Listing = Listing {
+    gates: 1,
+    bytes: &[
+        2, 0, 1, 0, 2, 0, 0x81, 0x81, 5, 255, 255, 255, 255, 255, 255, 255, 255, 0, 0, 1, 0, 3, 0,
+        2, 0,
+    ],
+    lines: "in 0 Qubit\nin 1 Qubit\ngate CNOT 0 1 : 2 3\nout 3 2\n",
+};
+
+/// The listing of c10.
+const TWO_GATES: Listing = Listing {
+    gates: 2,
+    bytes: &[
+        1, 0, 2, 0, 1, 0, 0x81, 0, 0, 255, 255, 255, 255, 0, 0, 255, 255, 1, 0, 255, 255, 2, 0,
+    ],
+    lines: "in 0 Qubit\ngate H 0 : 1\ngate H 1 : 2\nout 2\n",
+};
+
+/// The file of c1, as 01 has it.
+const C1_FILE: [u8; 12] = [1, 0, 0, 0, 1, 0, 1, 0x11, 0, 0, 0, 0];
+
+const C1: Written = (&[QUBIT], &[], &[(LABEL, 0)]);
+
+const C2: Written = (&[QUBIT], &[], &[(APPLY, 0), (GATE, 0), (LABEL, 0)]);
+
+const C3: Written = (
     &[QUBIT, QUBIT],
     &[],
     &[
@@ -66,21 +217,21 @@ pub const C4: Written = (
     ],
 );
 
-pub const C5: Written = (&[QUBIT], &[], &[(PAIR, 0), (LABEL, 0), (LABEL, 0)]);
+const C5: Written = (&[QUBIT], &[], &[(PAIR, 0), (LABEL, 0), (LABEL, 0)]);
 
-pub const C6: Written = (&[QUBIT], &[QUBIT], &[(ABS, 0), (VAR, 0)]);
+const C6: Written = (&[QUBIT], &[QUBIT], &[(ABS, 0), (VAR, 0)]);
 
-pub const C7: Written = (&[QUBIT], &[], &[(LIFT, 0), (LABEL, 0)]);
+const C7: Written = (&[QUBIT], &[], &[(LIFT, 0), (LABEL, 0)]);
 
-pub const C8: Written = (
+const C8: Written = (
     &[QUBIT],
     &[],
     &[(APPLY, 0), (GATE, 0), (APPLY, 0), (GATE, 6), (LABEL, 0)],
 );
 
-pub const C9: Written = (&[], &[QUBIT], &[(ABS, 0), (PAIR, 0), (VAR, 0), (VAR, 0)]);
+const C9: Written = (&[], &[QUBIT], &[(ABS, 0), (PAIR, 0), (VAR, 0), (VAR, 0)]);
 
-pub const C10: Written = (
+const C10: Written = (
     &[QUBIT],
     &[CIRCUIT, QUBIT, QUBIT],
     &[
@@ -95,12 +246,10 @@ pub const C10: Written = (
     ],
 );
 
-pub const C11: Written = (&[], &[QUBIT], &[(ABS, 0), (VAR, 0)]);
+const C11: Written = (&[], &[QUBIT], &[(ABS, 0), (VAR, 0)]);
 
-pub const C12: Written = (
+const C12: Written = (
     &[QUBIT],
     &[CIRCUIT, QUBIT, QUBIT],
     &[(APP, 0), (ABS, 0), (LABEL, 0), (GATE, 0)],
 );
-
-pub const ALL: [Written; 12] = [C1, C2, C3, C4, C5, C6, C7, C8, C9, C10, C11, C12];

@@ -82,6 +82,13 @@ impl Counts {
         }
     }
 
+    /// Fails if too few programs are refused with one of these numbers.
+    pub fn assert_refused(&self, least: &[(u8, usize)]) {
+        for &(number, least) in least {
+            assert!(self.with(number) >= least, "too few refused with {number}");
+        }
+    }
+
     /// Prints a difference, and ends the process.
     pub fn differs(&self, file: &[u8], words: &str) -> ! {
         let hex: String = file.iter().map(|byte| format!("{byte:02X}")).collect();

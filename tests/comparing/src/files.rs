@@ -6,10 +6,36 @@ use program_files::{encode, kinds, Entries, Positions, Program, Random};
 use programs::broken::{broken, Way};
 use programs::typed::{typed, Goal, Plan, Typed};
 
-/// The file of a program within the sizes.
-pub fn bytes(program: &Program) -> Vec<u8> {
-    let entries = encode(program, Positions::First);
-    entries.expect("sizes in range").bytes()
+/// A comparison of programs, one at a time.
+pub trait ComparePrograms {
+    /// Compares what this program gives with what it should, and with what is
+    /// known of it.
+    fn program(&mut self, file: &[u8], known: &Known);
+}
+
+/// Compares a well-typed program; none if it has no file.
+pub fn well_typed(
+    comparison: &mut impl ComparePrograms,
+    random: &mut Random,
+    typed: &Typed,
+) -> Option<()> {
+    let entries = entries(random, &typed.program)?;
+    comparison.program(&entries.bytes(), &Known::Type(typed.of.clone()));
+    Some(())
+}
+
+/// Compares so many programs of plans.
+pub fn planned(
+    comparison: &mut impl ComparePrograms,
+    random: &mut Random,
+    count: usize,
+    plan: impl Fn(&mut Random) -> Plan,
+) {
+    for _ in 0..count {
+        let plan = plan(random);
+        let typed = some_typed(random, &plan);
+        well_typed(comparison, random, &typed).expect("a file");
+    }
 }
 
 /// The program's file, its types listed or not, shared or not.

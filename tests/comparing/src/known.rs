@@ -16,6 +16,10 @@ pub enum Known {
 }
 
 impl Known {
+    pub fn refused(refusal: Refusal) -> Known {
+        Known::Refused(refusal.number, refusal.place)
+    }
+
     /// Of a well-typed program that was broken.
     pub fn of_program(expected: Expected, entries: &Entries) -> Known {
         match expected {

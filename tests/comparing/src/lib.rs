@@ -1,6 +1,6 @@
-//! What the comparisons have in common: what is known of a program, the
-//! programs written by hand and those broken, the buffers that are lent, an
-//! answer as one number, what is counted, and the process and the stack on
+//! What the comparisons have in common: what is known of a program, the cases
+//! of 01, programs written by hand and those broken, the buffers that are lent,
+//! an answer as one number, what is counted, and the process and the stack on
 //! which all this is done.
 
 pub mod cases;
@@ -14,6 +14,7 @@ pub mod packed;
 pub mod planted;
 pub mod process;
 pub mod stack;
+pub mod written;
 
 pub use counts::Counts;
 pub use known::Known;

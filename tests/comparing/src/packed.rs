@@ -4,6 +4,12 @@
 
 use program_files::Refusal;
 
+/// The refusal of a buffer shorter than its least length.
+pub const SHORT: Refusal = Refusal {
+    number: 19,
+    place: 0,
+};
+
 /// A value in so many bits from a bit on, which hold it.
 pub fn put(value: u64, from: u32, count: u32) -> u64 {
     assert_eq!(value >> count, 0, "{value} takes more than {count} bits");

@@ -1,6 +1,7 @@
 //! Terms with names for their variables.
 
 use program_files::{Term, Type, Wire};
+pub use programs::types::qubit;
 use programs::{terms, types};
 use std::rc::Rc;
 
@@ -31,10 +32,6 @@ pub const BZ: Named = Named::Gate(8);
 
 pub fn bit() -> Rc<Type> {
     Wire::Bit.as_type()
-}
-
-pub fn qubit() -> Rc<Type> {
-    Wire::Qubit.as_type()
 }
 
 /// The type of two Qubits.

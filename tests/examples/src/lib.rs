@@ -4,7 +4,7 @@ mod builder;
 mod programs;
 
 use evaluator::text::{text, LIMIT};
-use program_files::{encode, Positions, Program, Wire};
+use program_files::{Program, Wire};
 
 pub struct Example {
     pub name: &'static str,
@@ -16,13 +16,8 @@ pub struct Example {
 
 pub fn examples() -> Vec<Example> {
     let built = programs::all().into_iter().map(|(name, inputs, term)| {
-        let program = Program {
-            labels: vec![Wire::Qubit; inputs],
-            listed: Vec::new(),
-            term: term.term(),
-        };
-        let entries = encode(&program, Positions::First).expect("sizes in range");
-        let file = entries.bytes();
+        let program = Program::new(vec![Wire::Qubit; inputs], term.term());
+        let file = program.bytes();
         let lines = text(&evaluator::run(&file, LIMIT));
         Example { name, file, lines }
     });

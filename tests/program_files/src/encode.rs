@@ -18,6 +18,14 @@ pub enum Positions<'a> {
     Any(&'a mut Random),
 }
 
+impl Program {
+    /// Its file, for sizes in range.
+    pub fn bytes(&self) -> Vec<u8> {
+        let entries = encode(self, Positions::First);
+        entries.expect("sizes in range").bytes()
+    }
+}
+
 /// The entries of the program's file; none if a size is outside its range.
 pub fn encode(program: &Program, positions: Positions) -> Option<Entries> {
     let mut writer = Writer {

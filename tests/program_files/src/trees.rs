@@ -46,6 +46,17 @@ pub struct Program {
     pub term: Rc<Term>,
 }
 
+impl Program {
+    /// A program that lists no type besides those that its term has.
+    pub fn new(labels: Vec<Wire>, term: Rc<Term>) -> Program {
+        Program {
+            labels,
+            listed: Vec::new(),
+            term,
+        }
+    }
+}
+
 impl Wire {
     pub fn kind(self) -> u8 {
         match self {

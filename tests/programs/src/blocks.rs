@@ -34,11 +34,7 @@ pub fn blocks(random: &mut Random, plan: &Plan) -> Typed {
     let mut builder = Builder { random, plan };
     let (term, of) = builder.block(hand, plan.actions);
     Typed {
-        program: Program {
-            labels,
-            listed: Vec::new(),
-            term,
-        },
+        program: Program::new(labels, term),
         of,
     }
 }
@@ -61,11 +57,7 @@ pub fn wide(random: &mut Random, wires: usize, plan: &Plan) -> Typed {
     let boxed = terms::boxed(from.clone(), part);
     let unused = terms::abstraction(circuit(from, to), terms::label(0));
     Typed {
-        program: Program {
-            labels: vec![Wire::Qubit],
-            listed: Vec::new(),
-            term: terms::application(unused, boxed),
-        },
+        program: Program::new(vec![Wire::Qubit], terms::application(unused, boxed)),
         of: Wire::Qubit.as_type(),
     }
 }

@@ -5,15 +5,11 @@ use crate::terms::{
     variable,
 };
 use crate::typed::Typed;
-use crate::types::{circuit, function, pair, reusable};
+use crate::types::{circuit, function, pair, qubit, reusable};
 use program_files::{Program, Term, Type, Wire};
 use std::rc::Rc;
 
 const CNOT: usize = 5;
-
-fn qubit() -> Rc<Type> {
-    Wire::Qubit.as_type()
-}
 
 /// The type of gate 0.
 fn one_qubit() -> Rc<Type> {
@@ -27,11 +23,7 @@ fn levels(count: usize, inside: Rc<Term>, level: impl Fn(Rc<Term>, usize) -> Rc<
 
 fn typed(labels: usize, term: Rc<Term>, of: Rc<Type>) -> Typed {
     Typed {
-        program: Program {
-            labels: vec![Wire::Qubit; labels],
-            listed: Vec::new(),
-            term,
-        },
+        program: Program::new(vec![Wire::Qubit; labels], term),
         of,
     }
 }

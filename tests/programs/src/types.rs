@@ -18,6 +18,10 @@ pub fn shuffle<T>(random: &mut Random, list: &mut [T]) {
     }
 }
 
+pub fn qubit() -> Rc<Type> {
+    Wire::Qubit.as_type()
+}
+
 pub fn pair(first: Rc<Type>, second: Rc<Type>) -> Rc<Type> {
     Rc::new(Type::Pair(first, second))
 }

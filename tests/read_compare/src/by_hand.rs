@@ -1,9 +1,11 @@
 //! Files written by hand, with their answers.
 
 use crate::compare::Comparison;
-use comparing::cases::{self, file, Written, C1, C1_FILE};
+use comparing::cases;
+use comparing::written::{file, Written};
 use comparing::Known;
 use program_files::kinds::*;
+use program_files::read;
 
 /// Refused files: the number and the place.
 const REFUSED: [(u8, usize, Written); 22] = [
@@ -69,13 +71,12 @@ const REFUSED: [(u8, usize, Written); 22] = [
 
 pub fn compare(comparison: &mut Comparison) {
     comparison.group("written by hand");
-    assert_eq!(file(C1), C1_FILE, "the file of c1");
     // Cases c5 to c9 are refused only later than by read.
-    for case in cases::ALL {
-        comparison.known(&file(case), &Known::Accepted);
+    for case in cases::all() {
+        comparison.known(&case.file, &case.known_read());
+        let sizes = read(&case.file).map(|accepted| accepted.sizes);
+        assert_eq!(sizes, case.read, "the sizes of {}", case.name);
     }
-    comparison.known(&[], &Known::Refused(1, 0));
-    comparison.known(&[1, 0, 0, 0, 0, 0], &Known::Refused(2, 0));
     comparison.known(&[1, 0, 0, 0, 1, 0], &Known::Refused(3, 0));
     for (number, place, written) in REFUSED {
         comparison.known(&file(written), &Known::Refused(number, place));

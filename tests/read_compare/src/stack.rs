@@ -1,7 +1,6 @@
 //! The least stack on which the exported reader takes the deepest files.
 
 use crate::library::pack;
-use comparing::files::bytes;
 use comparing::{one_kind, stack};
 use program_files::{kinds, read, Entries, Entry, Program};
 use programs::terms::{abstraction, boxed, gate};
@@ -12,7 +11,7 @@ use programs::terms::{abstraction, boxed, gate};
 fn deepest() -> Vec<(String, Vec<u8>)> {
     let mut files = Vec::new();
     for (name, program) in one_kind::programs() {
-        files.push((name, bytes(&program)));
+        files.push((name, program.bytes()));
     }
     for (name, kind) in one_kind::TERMS {
         let terms = vec![Entry::new(kind, 0); 2_048];
@@ -20,15 +19,14 @@ fn deepest() -> Vec<(String, Vec<u8>)> {
         files.push((format!("2048 {name} that run out"), file));
     }
     for (name, of) in one_kind::types(512) {
-        let program = Program {
-            labels: Vec::new(),
-            listed: Vec::new(),
-            term: match of.is_wire_type() {
+        let program = Program::new(
+            Vec::new(),
+            match of.is_wire_type() {
                 true => boxed(of, gate(0)),
                 false => abstraction(of, gate(0)),
             },
-        };
-        files.push((name, bytes(&program)));
+        );
+        files.push((name, program.bytes()));
     }
     for (name, kind) in one_kind::TYPES {
         let types = vec![Entry::new(kind, 0); 512];

@@ -3,12 +3,12 @@
 
 use evaluator::{prepare, Answer};
 use port::Memory;
-use program_files::{encode, Positions, Program, Term, Type, Wire};
+use program_files::{Program, Term, Wire};
 use programs::extremes;
 use programs::terms::{
     abstraction, application, apply, boxed, gate, label, let_in, lift, pair, variable,
 };
-use programs::types::{circuit, function, reusable};
+use programs::types::{circuit, function, qubit, reusable};
 use run_compare::interface::{number, LEAST};
 use run_compare::under_test;
 use std::rc::Rc;
@@ -33,16 +33,8 @@ fn main() {
     }
 }
 
-fn qubit() -> Rc<Type> {
-    Wire::Qubit.as_type()
-}
-
 fn with_one_label(term: Rc<Term>) -> Program {
-    Program {
-        labels: vec![Wire::Qubit],
-        listed: Vec::new(),
-        term,
-    }
+    Program::new(vec![Wire::Qubit], term)
 }
 
 /// Ten boxes inside each other, each of which applies the one inside it twice:
@@ -87,11 +79,6 @@ fn beside(nodes: usize, side: Side) -> Program {
         Side::Waiting => let_in(pair(calls, lifts), let_in(variable(0), variable(3))),
     };
     with_one_label(application(abstraction(over, body), large))
-}
-
-fn file(program: &Program) -> Vec<u8> {
-    let entries = encode(program, Positions::First);
-    entries.expect("sizes in range").bytes()
 }
 
 /// Seconds of one call in the best round, for each of the three.
@@ -155,7 +142,7 @@ fn sizes(file: &[u8]) -> (u32, usize, usize) {
 }
 
 fn row(name: &str, program: &Program) {
-    let file = file(program);
+    let file = program.bytes();
     let (steps, gates, nodes) = sizes(&file);
     let times = times(&file);
     println!("{name}: {steps} steps, {gates} gates, at most {nodes} nodes");
@@ -183,7 +170,7 @@ fn by_size(side: Side) {
     };
     let mut smallest = None;
     for nodes in [0, HALF, WHOLE] {
-        let file = file(&beside(nodes, side));
+        let file = beside(nodes, side).bytes();
         let (steps, _, nodes) = sizes(&file);
         let times = times(&file);
         let step = |seconds: f64| 1e9 * seconds / f64::from(steps);

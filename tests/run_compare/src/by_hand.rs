@@ -1,39 +1,16 @@
 //! Programs written by hand, with the lines of `wirelist` for each.
 
 use crate::compare::Comparison;
-use comparing::cases::{
-    file, Written, ABS, APP, C1, C10, C11, C12, C1_FILE, C2, C3, C4, C5, C6, C7, C8, C9, FUN, REU,
-    VAR,
-};
+use comparing::cases::{self, Finished, Run, LIMITS};
+use comparing::files::ComparePrograms;
+use comparing::written::{file, Written, ABS, APP, FUN, REU, VAR};
 use comparing::Known;
-use evaluator::text::{text, LIMIT};
+use evaluator::text::LIMIT;
 use evaluator::{prepare, Answer};
 use example_programs::examples;
 use program_files::kinds::*;
 
-/// Cases c1 to c12.
-const CASES: [(Written, &str); 12] = [
-    (C1, "in 0 Qubit\nout 0\nsteps 0\n"),
-    (C2, "in 0 Qubit\ngate H 0 : 1\nout 1\nsteps 1\n"),
-    (
-        C3,
-        "in 0 Qubit\nin 1 Qubit\ngate CNOT 0 1 : 2 3\nout 3 2\nsteps 2\n",
-    ),
-    (C4, "in 0 Qubit\ngate H 0 : 1\nout 1\nsteps 5\n"),
-    (C5, "refused 17 0\n"),
-    (C6, "refused 17 0\n"),
-    (C7, "refused 18 2\n"),
-    (C8, "refused 16 1\n"),
-    (C9, "refused 17 1\n"),
-    (
-        C10,
-        "in 0 Qubit\ngate H 0 : 1\ngate H 1 : 2\nout 2\nsteps 3\n",
-    ),
-    (C11, "refused 20 0\n"),
-    (C12, "in 0 Qubit\nout 0\nsteps 1\n"),
-];
-
-/// Other programs.
+/// Programs besides the cases.
 const OTHERS: [(Written, &str); 8] = [
     // Two wires into a box: one through a gate, one past it, and crossed.
     (
@@ -215,36 +192,42 @@ const OTHERS: [(Written, &str); 8] = [
     ),
 ];
 
-/// The listing of c2 and c4.
-const LISTING: [u8; 18] = [
-    1, 0, 1, 0, 1, 0, 129, 0, 255, 255, 255, 255, 0, 0, 255, 255, 1, 0,
-];
-
 pub fn compare(comparison: &mut Comparison) {
     comparison.group("written by hand");
-    for (written, lines) in CASES.into_iter().chain(OTHERS) {
+    for case in cases::all() {
+        comparison.program(&case.file, &case.known());
+        for limit in LIMITS {
+            let run = case.run(limit);
+            comparison.at_limit(&case.file, limit, &cases::lines(&run));
+            assert_eq!(
+                evaluator::run(&case.file, limit),
+                answer(run),
+                "{} with limit {limit}",
+                case.name
+            );
+        }
+    }
+    for (written, lines) in OTHERS {
         comparison.program(&file(written), &Known::Nothing);
         comparison.at_limit(&file(written), LIMIT, lines);
     }
-    comparison.program(&[], &Known::Refused(1, 0));
-    comparison.program(&[1, 0, 0, 0, 0, 0], &Known::Refused(2, 0));
-    assert_eq!(file(C1), C1_FILE, "the file of c1");
-    comparison.at_limit(&C1_FILE, 0, "in 0 Qubit\nout 0\nsteps 0\n");
-    comparison.at_limit(&file(C4), 4, "refused 21 0\n");
-    comparison.at_limit(&file(C4), 5, CASES[3].1);
-    comparison.at_limit(&file(C11), 0, "refused 20 0\n");
-    for case in [C2, C4] {
-        let answer = evaluator::run(&file(case), 5);
-        let Answer::Finished { listing, .. } = &answer else {
-            panic!("{}", text(&answer));
-        };
-        assert_eq!(listing[..], LISTING, "the listing of c2 and c4");
-    }
-    assert_eq!(totals(C4), [8, 14, 11, 9, 3, 1], "the nodes of c4");
+    assert_eq!(totals(cases::C4), [8, 14, 11, 9, 3, 1], "the nodes of c4");
     comparison.group("examples");
     for example in examples() {
         comparison.program(&example.file, &Known::Accepted);
         comparison.at_limit(&example.file, LIMIT, &example.lines);
+    }
+}
+
+/// What the evaluator is to answer.
+fn answer(run: Run) -> Answer {
+    match run {
+        Ok(Finished { steps, listing }) => Answer::Finished {
+            steps,
+            gates: listing.gates,
+            listing: listing.bytes.to_vec(),
+        },
+        Err(refusal) => Answer::Refused(refusal),
     }
 }
 

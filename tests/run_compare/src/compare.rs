@@ -4,6 +4,7 @@
 use crate::memory::{self, Fault};
 use crate::seen::{add, Run, Seen};
 use crate::sound;
+use comparing::files::ComparePrograms;
 use comparing::{Counts, Expected, Known, Planted};
 use evaluator::text::text;
 use evaluator::{prepare, Answer, Prepared};
@@ -100,28 +101,6 @@ impl Comparison {
     /// The programs that follow are counted under this name.
     pub fn group(&mut self, name: &str) {
         self.counted.counts.group(name);
-    }
-
-    /// Compares the run under test with the evaluator and with what is known:
-    /// at the limits 0 and 1, and at those around the step with which the run
-    /// ends. The least lengths are lent, or more.
-    pub fn program(&mut self, file: &[u8], known: &Known) {
-        match prepare(file) {
-            Ok(prepared) => {
-                let (answer, steps) = self.whole_run(file, &prepared);
-                self.count(file, &answer, known);
-                for limit in self.limits(steps) {
-                    let answer = prepared.run(limit);
-                    self.call(file, limit, &answer);
-                }
-            }
-            Err(refusal) => {
-                let answer = Answer::Refused(refusal);
-                self.count(file, &answer, known);
-                let limit = self.random.pick(&[0, 1, 2, 100, 1_000_000, u32::MAX]);
-                self.call(file, limit, &answer);
-            }
-        }
     }
 
     /// Compares one call with this limit, of which the answer is known.
@@ -252,14 +231,33 @@ impl Comparison {
         self.memory.report("call");
         assert!(counts.distinct() >= LEAST_DISTINCT, "too few programs");
         assert!(counts.with(0) >= LEAST_FINISHED, "too few finished");
-        for (number, least) in LEAST_REFUSED {
-            assert!(
-                counts.with(number) >= least,
-                "too few refused with {number}"
-            );
-        }
+        counts.assert_refused(&LEAST_REFUSED);
         assert!(calls_by_number[19] >= 1_000, "too few short buffers");
         seen.assert();
+    }
+}
+
+impl ComparePrograms for Comparison {
+    /// Compares the run under test with the evaluator and with what is known:
+    /// at the limits 0 and 1, and at those around the step with which the run
+    /// ends. The least lengths are lent, or more.
+    fn program(&mut self, file: &[u8], known: &Known) {
+        match prepare(file) {
+            Ok(prepared) => {
+                let (answer, steps) = self.whole_run(file, &prepared);
+                self.count(file, &answer, known);
+                for limit in self.limits(steps) {
+                    let answer = prepared.run(limit);
+                    self.call(file, limit, &answer);
+                }
+            }
+            Err(refusal) => {
+                let answer = Answer::Refused(refusal);
+                self.count(file, &answer, known);
+                let limit = self.random.pick(&[0, 1, 2, 100, 1_000_000, u32::MAX]);
+                self.call(file, limit, &answer);
+            }
+        }
     }
 }
 

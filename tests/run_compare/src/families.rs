@@ -2,7 +2,8 @@
 
 use crate::compare::Comparison;
 use comparing::files::{
-    broken_file, bytes, entries, often_broken_file, room_for_faults, some_typed,
+    broken_file, entries, often_broken_file, planned, room_for_faults, some_typed, well_typed,
+    ComparePrograms,
 };
 use comparing::Known;
 use program_files::entries::{MOST_TERMS, MOST_TYPES};
@@ -42,27 +43,6 @@ pub fn of_one_form(comparison: &mut Comparison) {
     long(comparison);
     one_fault(comparison);
     several_faults(comparison);
-}
-
-/// A well-typed program; none if it has no file.
-fn well_typed(comparison: &mut Comparison, random: &mut Random, typed: &Typed) -> Option<()> {
-    let entries = entries(random, &typed.program)?;
-    comparison.program(&entries.bytes(), &Known::Type(typed.of.clone()));
-    Some(())
-}
-
-/// So many programs of plans.
-fn planned(
-    comparison: &mut Comparison,
-    random: &mut Random,
-    count: usize,
-    plan: impl Fn(&mut Random) -> Plan,
-) {
-    for _ in 0..count {
-        let plan = plan(random);
-        let typed = some_typed(random, &plan);
-        well_typed(comparison, random, &typed).expect("a file");
-    }
 }
 
 fn any_rules(comparison: &mut Comparison) {
@@ -209,11 +189,7 @@ fn many_boxes(comparison: &mut Comparison) {
             apply(any_box(&mut random, wires), argument)
         });
         let typed = Typed {
-            program: Program {
-                labels: vec![Wire::Qubit; wires],
-                listed: Vec::new(),
-                term,
-            },
+            program: Program::new(vec![Wire::Qubit; wires], term),
             of: qubits(wires),
         };
         well_typed(comparison, &mut random, &typed);
@@ -352,7 +328,7 @@ fn long(comparison: &mut Comparison) {
     comparison.group("with many steps");
     for doublings in 0..16 {
         let typed = extremes::calls(doublings);
-        comparison.program(&bytes(&typed.program), &Known::Accepted);
+        comparison.program(&typed.program.bytes(), &Known::Accepted);
     }
 }
 

@@ -3,7 +3,6 @@
 pub use comparing::packed::number;
 use comparing::packed::{self, bits, put};
 use evaluator::Answer;
-use program_files::Refusal;
 
 /// The working memories, in the order in which they are lent, with their
 /// least lengths.
@@ -13,11 +12,11 @@ pub const WORKING: [(&str, usize); 10] = [
     ("types", 1_152),
     ("frames", 32_776),
     ("gates", 32_768),
-    ("closed", 2_048),
-    ("first", 65_536),
-    ("second", 65_536),
-    ("third", 65_536),
-    ("fourth", 65_536),
+    ("circuits", 2_048),
+    ("results0", 65_536),
+    ("results1", 65_536),
+    ("results2", 65_536),
+    ("results3", 65_536),
 ];
 
 /// The output buffer and the working memories.
@@ -59,10 +58,7 @@ pub fn is_short(lengths: &Lengths) -> bool {
 }
 
 /// The answer to a buffer shorter than its least length.
-pub const SHORT: Answer = Answer::Refused(Refusal {
-    number: 19,
-    place: 0,
-});
+pub const SHORT: Answer = Answer::Refused(packed::SHORT);
 
 /// Finished: bits 6 to 17 the gates, 18 to 31 the length of the listing, 32 to
 /// 63 the steps.

@@ -1,7 +1,6 @@
 //! Buffers of every length near the least, shorter and longer.
 
 use crate::compare::Comparison;
-use comparing::files::bytes;
 use program_files::faults;
 use program_files::generate::{Generator, Shape};
 use program_files::Random;
@@ -52,15 +51,15 @@ fn files(random: &mut Random) -> Vec<(Vec<u8>, u32)> {
             boxes: 4,
             deep: round % 2 == 0,
         };
-        let file = bytes(&blocks(random, &plan).program);
+        let file = blocks(random, &plan).program.bytes();
         files.push((file.clone(), 1_000_000));
         files.push((file, round as u32));
     }
     // 22 and 20, and the longest listing with one label.
-    files.push((bytes(&extremes::boxes(2_048).program), u32::MAX));
-    files.push((bytes(&extremes::forced_lifts(2_047).program), u32::MAX));
-    files.push((bytes(&extremes::applies(2_047).program), u32::MAX));
-    files.push((bytes(&extremes::labels(2_047).program), u32::MAX));
+    files.push((extremes::boxes(2_048).program.bytes(), u32::MAX));
+    files.push((extremes::forced_lifts(2_047).program.bytes(), u32::MAX));
+    files.push((extremes::applies(2_047).program.bytes(), u32::MAX));
+    files.push((extremes::labels(2_047).program.bytes(), u32::MAX));
     for way in [Way::NotReusable, Way::LabelNotUsed, Way::UseUnderLift] {
         let broken_one = std::iter::repeat_with(|| {
             let plan = Plan::of_wires(random, 4, 30);
@@ -69,7 +68,7 @@ fn files(random: &mut Random) -> Vec<(Vec<u8>, u32)> {
         });
         let found = broken_one.flatten().next();
         let (program, _) = found.expect("a broken program");
-        files.push((bytes(&program), 10));
+        files.push((program.bytes(), 10));
     }
     for number in 1..=9 {
         let broken_one = std::iter::repeat_with(|| {

@@ -2,7 +2,7 @@
 //! few fewer and more.
 
 use crate::compare::Comparison;
-use comparing::files::bytes;
+use comparing::files::ComparePrograms;
 use comparing::Known;
 use evaluator::configurations::{MOST_BOXES, MOST_GATES, MOST_NODES};
 use evaluator::{terms, Configuration};
@@ -12,7 +12,7 @@ use programs::extremes;
 use programs::terms::{
     abstraction, application, apply, boxed, force, gate, label, let_in, lift, pair, variable,
 };
-use programs::types::{circuit, function, reusable};
+use programs::types::{circuit, function, qubit, reusable};
 use std::collections::HashMap;
 use std::rc::Rc;
 
@@ -20,10 +20,6 @@ pub fn compare(comparison: &mut Comparison) {
     nodes(comparison);
     boxes(comparison);
     gates(comparison);
-}
-
-fn qubit() -> Rc<Type> {
-    Wire::Qubit.as_type()
 }
 
 /// A program with one Qubit label that comes to this size by a number and by
@@ -102,16 +98,12 @@ fn near(comparison: &mut Comparison, build: Build, numbers: usize, size: usize) 
             continue;
         };
         found += 1;
-        let program = Program {
-            labels: vec![Wire::Qubit],
-            listed: Vec::new(),
-            term,
-        };
+        let program = Program::new(vec![Wire::Qubit], term);
         let known = match wanted <= bound {
             true => Known::Accepted,
             false => Known::Refused(22, 0),
         };
-        comparison.program(&bytes(&program), &known);
+        comparison.program(&program.bytes(), &known);
     }
     found
 }

@@ -57,27 +57,11 @@ pub fn faults() -> Vec<(String, Fault)> {
     );
     add(
         "output buffer cleared behind the listing",
-        Box::new(|lent, answer| {
-            let packed = as_lent(lent, answer);
-            if let Answer::Finished { listing, .. } = answer {
-                if number(packed) == 0 {
-                    lent.parts().1[0][listing.len()..].fill(0);
-                }
-            }
-            packed
-        }),
+        after_finish(|out, length| out[length..].fill(0)),
     );
     add(
         "last byte of the listing wrong",
-        Box::new(|lent, answer| {
-            let packed = as_lent(lent, answer);
-            if let Answer::Finished { listing, .. } = answer {
-                if number(packed) == 0 {
-                    lent.parts().1[0][listing.len() - 1] ^= 1;
-                }
-            }
-            packed
-        }),
+        after_finish(|out, length| out[length - 1] ^= 1),
     );
     for (buffer, least) in LEAST.into_iter().enumerate() {
         let name = name(buffer);
@@ -186,6 +170,20 @@ fn after(more: impl Fn(&mut Lent, u8) + 'static) -> Fault {
     Box::new(move |lent, answer| {
         let packed = as_lent(lent, answer);
         more(lent, number(packed));
+        packed
+    })
+}
+
+/// The run as it should be, and then a change of the output buffer, which has
+/// a listing of this length.
+fn after_finish(change: fn(&mut [u8], usize)) -> Fault {
+    Box::new(move |lent, answer| {
+        let packed = as_lent(lent, answer);
+        if let Answer::Finished { listing, .. } = answer {
+            if number(packed) == 0 {
+                change(lent.parts().1[0], listing.len());
+            }
+        }
         packed
     })
 }

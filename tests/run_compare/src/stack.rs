@@ -1,7 +1,6 @@
 //! The least stack on which the run under test takes the deepest programs.
 
 use crate::families::bound_gate;
-use comparing::files::bytes;
 use comparing::{one_kind, stack};
 use program_files::{Program, Wire};
 use programs::extremes;
@@ -21,18 +20,18 @@ const GROWN: usize = 2_038;
 fn deepest() -> Vec<(String, Vec<u8>)> {
     let mut files = Vec::new();
     for (name, typed) in extremes::all(2_048) {
-        files.push((name.to_string(), bytes(&typed.program)));
+        files.push((name.to_string(), typed.program.bytes()));
     }
     for (name, typed) in extremes::at_the_type_bound() {
         let name = format!("{name} at the type bound");
-        files.push((name, bytes(&typed.program)));
+        files.push((name, typed.program.bytes()));
     }
     for (name, typed) in extremes::all(GROWN) {
         let program = grown(&typed);
-        files.push((format!("{name}, substituted"), bytes(&program)));
+        files.push((format!("{name}, substituted"), program.bytes()));
     }
     for (name, program) in one_kind::programs() {
-        files.push((name, bytes(&program)));
+        files.push((name, program.bytes()));
     }
     files
 }
@@ -46,11 +45,10 @@ fn grown(typed: &Typed) -> Program {
     }
     let both = pair(force(variable(0)), force(variable(0)));
     let copied = abstraction(reusable(typed.of.clone()), let_in(both, label(0)));
-    Program {
-        labels: vec![Wire::Qubit],
-        listed: Vec::new(),
-        term: application(copied, lift(typed.program.term.clone())),
-    }
+    Program::new(
+        vec![Wire::Qubit],
+        application(copied, lift(typed.program.term.clone())),
+    )
 }
 
 /// The run under test with buffers of the least lengths.

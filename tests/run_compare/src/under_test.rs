@@ -29,16 +29,16 @@ mod library {
             frames_len: usize,
             gates_ptr: *mut u8,
             gates_len: usize,
-            closed_ptr: *mut u8,
-            closed_len: usize,
-            first_ptr: *mut u8,
-            first_len: usize,
-            second_ptr: *mut u8,
-            second_len: usize,
-            third_ptr: *mut u8,
-            third_len: usize,
-            fourth_ptr: *mut u8,
-            fourth_len: usize,
+            circuits_ptr: *mut u8,
+            circuits_len: usize,
+            results0_ptr: *mut u8,
+            results0_len: usize,
+            results1_ptr: *mut u8,
+            results1_len: usize,
+            results2_ptr: *mut u8,
+            results2_len: usize,
+            results3_ptr: *mut u8,
+            results3_len: usize,
         ) -> u64;
     }
 
@@ -49,7 +49,8 @@ mod library {
         out: &mut [u8],
         working: [&mut [u8]; WORKING.len()],
     ) -> u64 {
-        let [nodes, stack, types, frames, gates, closed, first, second, third, fourth] = working;
+        let [nodes, stack, types, frames, gates, circuits, results0, results1, results2, results3] =
+            working;
         // Each pointer and length are those of one slice, and no two overlap.
         unsafe {
             gawipsol_run(
@@ -68,16 +69,16 @@ mod library {
                 frames.len(),
                 gates.as_mut_ptr(),
                 gates.len(),
-                closed.as_mut_ptr(),
-                closed.len(),
-                first.as_mut_ptr(),
-                first.len(),
-                second.as_mut_ptr(),
-                second.len(),
-                third.as_mut_ptr(),
-                third.len(),
-                fourth.as_mut_ptr(),
-                fourth.len(),
+                circuits.as_mut_ptr(),
+                circuits.len(),
+                results0.as_mut_ptr(),
+                results0.len(),
+                results1.as_mut_ptr(),
+                results1.len(),
+                results2.as_mut_ptr(),
+                results2.len(),
+                results3.as_mut_ptr(),
+                results3.len(),
             )
         }
     }

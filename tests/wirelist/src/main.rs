@@ -1,9 +1,12 @@
-//! Program files at the limits of `wirelist`, each with the lines that it has
-//! to print: written into the folder that the argument names.
+//! The cases of 01, and program files at the limits of `wirelist`, each with
+//! the lines that it has to print: written into the folder that the argument
+//! names.
 
+use comparing::cases;
 use evaluator::text::{text, LIMIT};
 use program_files::entries::{MOST_LABELS, MOST_TERMS, MOST_TYPES};
-use program_files::{encode, Positions, Program, Term, Type, Wire};
+use program_files::{Program, Term, Wire};
+use programs::types::qubit;
 use programs::{terms, types};
 use std::env;
 use std::fs;
@@ -26,27 +29,24 @@ fn main() {
         ("longest", longest(), None),
         ("gates", many_gates(), None),
     ];
-    for (name, program, lines) in inputs {
-        let entries = encode(&program, Positions::First).expect("sizes in range");
-        let file = entries.bytes();
-        let lines = lines.unwrap_or_else(|| text(&evaluator::run(&file, LIMIT)));
+    let write = |name: &str, file: &[u8], lines: String| {
         let path = Path::new(&folder).join(name);
         fs::write(path.with_extension("pqm"), file).expect("a file written");
         fs::write(path.with_extension("txt"), lines).expect("lines written");
+    };
+    for (name, program, lines) in inputs {
+        let file = program.bytes();
+        let lines = lines.unwrap_or_else(|| text(&evaluator::run(&file, LIMIT)));
+        write(name, &file, lines);
     }
-}
-
-fn qubit() -> Rc<Type> {
-    Wire::Qubit.as_type()
+    for case in cases::all() {
+        write(case.name, &case.file, cases::lines(&case.run(LIMIT)));
+    }
 }
 
 /// The program with one Qubit as its input.
 fn one_qubit(term: Rc<Term>) -> Program {
-    Program {
-        labels: vec![Wire::Qubit],
-        listed: Vec::new(),
-        term,
-    }
+    Program::new(vec![Wire::Qubit], term)
 }
 
 /// A function that gives the Qubit it takes, by twice applying the function of
@@ -124,9 +124,8 @@ fn many_gates() -> Program {
         wires = terms::apply(terms::variable(0), wires);
     }
     let on_both = types::circuit(two.clone(), two);
-    Program {
-        labels: vec![Wire::Qubit; 2],
-        listed: Vec::new(),
-        term: terms::application(terms::abstraction(on_both, wires), circuit),
-    }
+    Program::new(
+        vec![Wire::Qubit; 2],
+        terms::application(terms::abstraction(on_both, wires), circuit),
+    )
 }

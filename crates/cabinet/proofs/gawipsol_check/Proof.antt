@@ -1,13 +1,13 @@
 -- `cabinet::gawipsol_check` meets its contract: the answer packed, and the buffers as the operation leaves them. Assumes nothing.
 use mathlib.Core.Path.{_∙_, ap}
-use Rattle.packed.specs.Packed.{packedCheck}
+use Rattle.cabinet_answers.specs.Packed.{packedCheck}
 use borrow.Author.Needs.{needs}
 use Rattle.cabinet.proofs.gawipsol_check.Statement.{statement}
 use Rattle.cabinet.proofs.gawipsol_check.Tie as tie
 use Rattle.cabinet.proofs.gawipsol_check.Reads as reads
 use Rattle.cabinet.proofs.gawipsol_check.Lts as lts
-use Rattle.packed.proofs.pack_check.Reads as pack-check-reads
-use Rattle.typing.proofs.check.Reads as check-reads
+use Rattle.cabinet_answers.proofs.pack_check.Reads as pack-check-reads
+use Rattle.check_program.proofs.check.Reads as check-reads
 
 check-requires : tie.Need-check-requires
 check-requires c κs = search needs

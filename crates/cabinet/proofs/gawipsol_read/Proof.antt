@@ -1,12 +1,12 @@
 -- `cabinet::gawipsol_read` meets its contract: the answer packed. Assumes nothing.
 use mathlib.Core.Path.{_∙_, ap}
-use Rattle.packed.specs.Packed.{packedRead}
+use Rattle.cabinet_answers.specs.Packed.{packedRead}
 use borrow.Author.Needs.{needs}
 use Rattle.cabinet.proofs.gawipsol_read.Statement.{statement}
 use Rattle.cabinet.proofs.gawipsol_read.Tie as tie
 use Rattle.cabinet.proofs.gawipsol_read.Reads as reads
 use Rattle.cabinet.proofs.gawipsol_read.Lts as lts
-use Rattle.packed.proofs.pack_read.Reads as pack-read-reads
+use Rattle.cabinet_answers.proofs.pack_read.Reads as pack-read-reads
 use Rattle.program.proofs.read.Reads as read-reads
 
 read-requires : tie.Need-read-requires

@@ -1,12 +1,12 @@
 -- `cabinet::gawipsol_run` meets its contract: the answer packed, and the buffers as the operation leaves them. Assumes nothing.
 use mathlib.Core.Path.{_∙_, ap}
-use Rattle.packed.specs.Packed.{packedRun}
+use Rattle.cabinet_answers.specs.Packed.{packedRun}
 use borrow.Author.Needs.{needs}
 use Rattle.cabinet.proofs.gawipsol_run.Statement.{statement}
 use Rattle.cabinet.proofs.gawipsol_run.Tie as tie
 use Rattle.cabinet.proofs.gawipsol_run.Reads as reads
 use Rattle.cabinet.proofs.gawipsol_run.Lts as lts
-use Rattle.packed.proofs.pack_run.Reads as pack-run-reads
+use Rattle.cabinet_answers.proofs.pack_run.Reads as pack-run-reads
 use Rattle.run.proofs.run.Reads as run-reads
 
 run-requires : tie.Need-run-requires

@@ -5,21 +5,22 @@ use mathlib.Core.Path.{_≡_, sym, _∙_}
 use mathlib.Core.Bool.{true}
 use borrow.Author.Tests.{not-true, not-false}
 use denote.Ref.{now}
-use Rattle.program.specs.ReadLaws.{sizesFit, Ranges, ranges, Start, too-short}
-use Rattle.program.specs.ReadLaws.{wrong-sizes, wrong-length, right-length, sizes-known}
+use Rattle.program.specs.Sized.{sizesFit}
+use Rattle.program.specs.Laws.Reading.{Ranges, ranges, Start, too-short, wrong-sizes, wrong-length, right-length}
+use Rattle.program.specs.Laws.Reading.{sizes-known}
 use Rattle.program.specs.declared.format.Sizes.{Sizes}
 use Rattle.program.proofs.read.Statement.{statement}
 use Rattle.program.proofs.read.Tie as tie
 
 -- The three numbers at the start of the file.
-abbrev sizes : tie.After-word3 → Sizes
-sizes c = record { labels = c .before .before .word .result; types = c .before .word2 .result; terms = c .word3 .result }
+abbrev sizes : tie.After-word-at3 → Sizes
+sizes c = record { labels = c .before .before .word-at .result; types = c .before .word-at2 .result; terms = c .word-at3 .result }
 
-abbrev begun : (c : tie.After-word3) → Start (now (c .before .before .before .before .before .args .file)) (sizes c)
+abbrev begun : (c : tie.After-word-at3) → Start (now (c .before .before .before .before .before .args .file)) (sizes c)
 begun c = record {
-  labels-are = c .before .before .word .ensures;
-  types-are = c .before .word2 .ensures;
-  terms-are = c .word3 .ensures;
+  labels-are = c .before .before .word-at .ensures .0;
+  types-are = c .before .word-at2 .ensures .0;
+  terms-are = c .word-at3 .ensures .0;
   long = c .before .before .before .if1 .left;
 }
 
@@ -37,14 +38,14 @@ returns : tie.Need-returns
 returns c =
     c .form .ensures ∙ too-short (now (c .before .before .before .args .file)) (c .before .if1 .taken)
 
-word-requires : tie.Need-word-requires
-word-requires c κs = search needs
+word-at-requires : tie.Need-word-at-requires
+word-at-requires c κs = search needs
 
-word-requires-2 : tie.Need-word-requires-2
-word-requires-2 c κs = search needs
+word-at-requires-2 : tie.Need-word-at-requires-2
+word-at-requires-2 c κs = search needs
 
-word-requires-3 : tie.Need-word-requires-3
-word-requires-3 c κs = search needs
+word-at-requires-3 : tie.Need-word-at-requires-3
+word-at-requires-3 c κs = search needs
 
 sizes-fit-requires : tie.Need-sizes-fit-requires
 sizes-fit-requires c κs = search needs
@@ -86,15 +87,15 @@ returns-3 c =
     let test = c .before .before .before .before in
     c .form3 .ensures ∙ wrong-length (begun (test .before .before)) (fit test) (c .before .if3 .taken)
 
-read-kinds-requires : tie.Need-read-kinds-requires
-read-kinds-requires c κs =
+read-entries-requires : tie.Need-read-entries-requires
+read-entries-requires c κs =
     let test = c .before .before .before in
     sizes-known (begun (test .before .before)) (fit test) (c .if3 .left)
 
 returns-4 : tie.Need-returns-4
 returns-4 c =
     let test = c .before .before .before .before in
-    c .read-kinds .ensures ∙ right-length (begun (test .before .before)) (fit test) (c .before .if3 .left)
+    c .read-entries .ensures ∙ right-length (begun (test .before .before)) (fit test) (c .before .if3 .left)
 
 pub read-spec : {M : Type 1} → statement M
 read-spec =
@@ -102,9 +103,9 @@ read-spec =
     (tie.spec
     form-requires
     returns
-    word-requires
-    word-requires-2
-    word-requires-3
+    word-at-requires
+    word-at-requires-2
+    word-at-requires-3
     sizes-fit-requires
     form-requires-2
     returns-2
@@ -114,5 +115,5 @@ read-spec =
     add-if3-3
     form-requires-3
     returns-3
-    read-kinds-requires
+    read-entries-requires
     returns-4)

@@ -15,33 +15,32 @@ use Rattle.rules.specs.Terms.{Term}
 use Rattle.rules.specs.Sizes.{nodes}
 use Rattle.program.specs.Format.{labelCount, typeCount, termCount, firstTerm, entryCount, kindAt, argumentAt}
 use Rattle.program.specs.Format.{termShape, shapeAt, isKnown, shapeAllows}
-use Rattle.program.specs.Walks.{walkFrom}
-use Rattle.program.specs.Reading.{runsOut, kindWrong, argumentWrong, typeWrong, circWrong, boxWrong, wiresWrong, readOf}
-use Rattle.program.specs.Trees.{TypeAt, bit-at, qubit-at, tensor-at, function-at, reusable-at, circ-at}
-use Rattle.program.specs.Trees.{TypeAtPosition, at-position, formed}
-use Rattle.program.specs.Trees.{TermAt, variable-at, label-at, abstraction-at, application-at, pair-at, let-at}
-use Rattle.program.specs.Trees.{lift-at, force-at, box-at, apply-at, gate-at, labelsBelow, gatesKnown, boxesWired}
-use Rattle.program.specs.Trees.{closedUnder, AcceptedFile}
-use Rattle.program.specs.Theorems.Kinds.{true-of, of-true, both-left, both-right, TypeKind, is-bit, is-qubit, is-tensor}
-use Rattle.program.specs.Theorems.Kinds.{is-function, is-reusable, is-circ, shape-of-label, shape-of-type}
-use Rattle.program.specs.Theorems.Kinds.{shape-of-term, label-shape-zero, type-shape-zero, zero-shape-kind}
-use Rattle.program.specs.Theorems.Kinds.{zero-shape-argument}
-use Rattle.program.specs.Theorems.Walking.{type-end, type-nonempty, pass-type, term-end, term-source, pass-term, pass-scope, stop-scope}
-use Rattle.program.specs.Theorems.Walking.{range-leaf, range-one, range-two}
-use Rattle.program.specs.Theorems.WireTests.{walk-done, circ-test, box-test, wires-of-label, wires-of-type}
-use Rattle.program.specs.Theorems.WireTests.{wires-of-term}
-use Rattle.program.specs.Theorems.Tests.{Passed, isStopped, passed-of, of-passed}
-use Rattle.program.specs.Theorems.Sections.{position-typed, type-formed, labelWires, label-wires-count}
-use Rattle.program.specs.Theorems.Sections.{label-wires-kinds, argument-zero, whole-term, term-allowed, Allowed}
+use Rattle.program.specs.Traversal.{traverseFrom}
+use Rattle.program.specs.Reading.{runsOut, kindWrong, argumentWrong, typeWrong, circWrong, boxWrong, wiresWrong}
+use Rattle.program.specs.Reading.{readOf}
+use Rattle.program.specs.Trees.{TypeAt, bit-at, qubit-at, tensor-at, function-at, reusable-at, circ-at, TypeAtPosition}
+use Rattle.program.specs.Trees.{at-position, formed, TermAt, variable-at, label-at, abstraction-at, application-at}
+use Rattle.program.specs.Trees.{pair-at, let-at, lift-at, force-at, box-at, apply-at, gate-at, labelsBelow, gatesKnown}
+use Rattle.program.specs.Trees.{boxesWired, closedUnder, AcceptedFile}
+use Rattle.program.specs.Laws.Kinds.{true-of, of-true, both-left, both-right, TypeKind, is-bit, is-qubit, is-tensor}
+use Rattle.program.specs.Laws.Kinds.{is-function, is-reusable, is-circ, shape-of-label, shape-of-type, shape-of-term}
+use Rattle.program.specs.Laws.Kinds.{label-shape-zero, type-shape-zero, zero-shape-kind, zero-shape-argument}
+use Rattle.program.specs.Laws.TreeTraversal.{type-end, type-nonempty, pass-type, term-end, term-source, pass-term}
+use Rattle.program.specs.Laws.TreeTraversal.{pass-scope, stop-scope, range-leaf, range-one, range-two}
+use Rattle.program.specs.Laws.WireTests.{traverse-done, circ-test, box-test, wires-of-label, wires-of-type}
+use Rattle.program.specs.Laws.WireTests.{wires-of-term}
+use Rattle.program.specs.Laws.Tests.{Passed, isStopped, passed-of, of-passed}
+use Rattle.program.specs.Laws.Sections.{position-typed, type-formed, labelWires, label-wires-count, label-wires-kinds}
+use Rattle.program.specs.Laws.Sections.{argument-zero, whole-term, term-allowed, Allowed}
 use Rattle.program.specs.declared.format.Argument.the-variants.{Zero}
 use Rattle.program.specs.declared.format.Shape.the-variants.{Node}
 use Rattle.program.specs.declared.ReadAnswer.the-variants.{Accepted}
-use Rattle.program.specs.declared.walk.Subject.the-variants.{TypeEnd, TermEnd, Scope}
+use Rattle.program.specs.declared.traversal.Subject.the-variants.{TypeEnd, TermEnd, Scope}
 
--- The walk over binders stops at a term that has a variable with no binder.
+-- The traversal over binders stops at a term that has a variable with no binder.
 term-closed : (f : List ℕ) (M : Term)
     → TermAt f (firstTerm f) M (entryCount f)
-    → isStopped (walkFrom Scope f (termCount f) (firstTerm f) (0 ∷ [])) ≡ false
+    → isStopped (traverseFrom Scope f (termCount f) (firstTerm f) (0 ∷ [])) ≡ false
     → IsTrue (closedUnder 0 M)
 term-closed f M s h = go (closedUnder 0 M) refl
   where
@@ -53,7 +52,7 @@ term-closed f M s h = go (closedUnder 0 M) refl
         let e : termCount f ≡ nodes M + 0 = omega arith in
         absurd
         (true≢false
-        (sym (ap (λ k. isStopped (walkFrom Scope f k (firstTerm f) (0 ∷ []))) e ∙ ap isStopped (r .1)) ∙ h))
+        (sym (ap (λ k. isStopped (traverseFrom Scope f k (firstTerm f) (0 ∷ []))) e ∙ ap isStopped (r .1)) ∙ h))
 
 trees-of : (f : List ℕ) → Passed f → (M : Term) → TermAt f (firstTerm f) M (entryCount f) → AcceptedFile f (labelWires f) M
 trees-of f p M s =
@@ -163,8 +162,8 @@ type-right-at {f} {e} {n} {A} s h l w a =
     let r = type-shape-zero (kindAt f e) (kind-of-tree s) in (
       zero-shape-right f e (r .0) (shape-of-type f e h (omega arith) ∙ r .1) a
           (wires-of-type f e h (omega arith) ∙ type-wires s l w),
-      ap (λ j. runsOut (walkFrom TypeEnd f j e (0 ∷ []))) k
-          ∙ ap runsOut (pass-type s 0 h l (firstTerm f - n) [] ∙ walk-done TypeEnd f (firstTerm f - n) n),
+      ap (λ j. runsOut (traverseFrom TypeEnd f j e (0 ∷ []))) k
+          ∙ ap runsOut (pass-type s 0 h l (firstTerm f - n) [] ∙ traverse-done TypeEnd f (firstTerm f - n) n),
     )
 
 type-right : (f : List ℕ) (labels : List Wire) (M : Term)
@@ -298,9 +297,9 @@ passed-by f labels M t =
       arguments-right = λ e h. entry-right f labels M t e h .1;
       types-right = λ e h l. type-right f labels M t e h l .1;
       wires-right = λ e h. entry-right f labels M t e h .2;
-      one-term = ap (λ k. walkFrom TermEnd f k (firstTerm f) (0 ∷ [])) c
+      one-term = ap (λ k. traverseFrom TermEnd f k (firstTerm f) (0 ∷ [])) c
           ∙ pass-term (t .term-at) 0 (omega arith) 0 [];
-      all-bound = ap (λ k. isStopped (walkFrom Scope f k (firstTerm f) (0 ∷ []))) c
+      all-bound = ap (λ k. isStopped (traverseFrom Scope f k (firstTerm f) (0 ∷ []))) c
           ∙ ap isStopped (pass-scope (t .term-at) 0 (omega arith) (t .closed) 0 []);
     }
 

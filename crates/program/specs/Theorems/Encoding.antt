@@ -9,22 +9,23 @@ use lib.Dec.{T as IsTrue}
 use lib.ListN.{length, getD, replicate, length-append, length-map, length-replicate, List·getD-append}
 use Rattle.rules.specs.Types.{Wire, Bit, Qubit, Ty, wire, _⊗_, _⊸_, !_, Circ, isWireType, entries, wireCode, typeCodes}
 use Rattle.rules.specs.Gates.{nth}
-use Rattle.rules.specs.Terms.{Term, variable, label, gate, constant, abstraction, application, pair, let-in, lift}
-use Rattle.rules.specs.Terms.{force, box, apply}
+use Rattle.rules.specs.Terms.{Term, variable, label, gate, constant, abstraction, application, pair, let-in, lift, force}
+use Rattle.rules.specs.Terms.{box, apply}
 use Rattle.rules.specs.Sizes.{nodes}
 use Rattle.rules.specs.Counting.{source}
-use Rattle.program.specs.Format.{wordAt, labelCount, typeCount, termCount, firstTerm, entryCount, kindAt, argumentAt}
+use Rattle.program.specs.Format.{labelCount, typeCount, termCount, firstTerm, entryCount, kindAt, argumentAt}
+use Rattle.words.specs.Numbers.{wordAt}
 use Rattle.program.specs.Reading.{readOf}
 use Rattle.program.specs.declared.ReadAnswer.the-variants.{Accepted}
-use Rattle.program.specs.Trees.{TypeAt, bit-at, qubit-at, tensor-at, function-at, reusable-at, circ-at}
-use Rattle.program.specs.Trees.{TypeAtPosition, at-position, formed, labelsBelow}
-use Rattle.program.specs.Trees.{TermAt, variable-at, label-at, abstraction-at, application-at, pair-at, let-at}
-use Rattle.program.specs.Trees.{lift-at, force-at, box-at, apply-at, gate-at, typesIn, allFormed, entriesOf}
-use Rattle.program.specs.Trees.{AcceptedFile, codesOf, termKinds, termArguments, words, programKinds}
-use Rattle.program.specs.Trees.{programArguments, encode, Writable}
-use Rattle.program.specs.Theorems.Kinds.{both-left, both-right, both-of}
-use Rattle.program.specs.Theorems.Walking.{range-leaf, range-one, range-two, type-end}
-use Rattle.program.specs.Theorems.Sections.{some-is}
+use Rattle.program.specs.Trees.{TypeAt, bit-at, qubit-at, tensor-at, function-at, reusable-at, circ-at, TypeAtPosition}
+use Rattle.program.specs.Trees.{at-position, formed, labelsBelow, TermAt, variable-at, label-at, abstraction-at}
+use Rattle.program.specs.Trees.{application-at, pair-at, let-at, lift-at, force-at, box-at, apply-at, gate-at}
+use Rattle.program.specs.Trees.{AcceptedFile}
+use Rattle.program.specs.Laws.Trees.{typesIn, allFormed, entriesOf, codesOf, termKinds, termArguments, words}
+use Rattle.program.specs.Laws.Trees.{programKinds, programArguments, encode, Writable}
+use Rattle.program.specs.Laws.Kinds.{both-left, both-right, both-of}
+use Rattle.program.specs.Laws.TreeTraversal.{range-leaf, range-one, range-two, type-end}
+use Rattle.program.specs.Laws.Sections.{some-is}
 use Rattle.program.specs.Theorems.Accepting.{read-complete}
 use Rattle.program.specs.Theorems.Unique.{tree-unique}
 
@@ -159,7 +160,7 @@ typed-inside {f} (circ-at {e = e} {m = m} {n = n} {A = A} {B = B} k s t) w =
     (typed-inside s (wire-formed A (both-left (isWireType A) (isWireType B) w)) i h l))
     (typed-inside t (wire-formed B (both-right (isWireType A) (isWireType B) w)))
 
--- At each entry of a row of types stands a type.
+-- At each entry of a list of types stands a type.
 typed-row : (f : List ℕ) (As : List Ty) (e n : ℕ)
     → Stand (kindAt f) e (codesOf As) → n ≡ e + entriesOf As → IsTrue (allFormed As)
     → (i : ℕ) → e ≤ i → i < n → TypedBy f n i

@@ -7,17 +7,18 @@ use native.Mathlib.Omega.{arith}
 use lib.Dec.{T as IsTrue, eqb, leb, ltb→lt, le→leb}
 use borrow.Author.Tests.{ne-eqb}
 use Rattle.rules.specs.Types.{Wire, Ty, entries, most-entries}
-use Rattle.rules.specs.Terms.{Term, variable, label, gate, constant, abstraction, application, pair, let-in, lift}
-use Rattle.rules.specs.Terms.{force, box, apply}
+use Rattle.rules.specs.Terms.{Term, variable, label, gate, constant, abstraction, application, pair, let-in, lift, force}
+use Rattle.rules.specs.Terms.{box, apply}
 use Rattle.rules.specs.Circuits.{one-if}
 use Rattle.rules.specs.Sizes.{nodes}
 use Rattle.rules.specs.Inference.{uses, labelUses}
 use Rattle.program.specs.Format.{termCount}
-use Rattle.program.specs.Trees.{TypeAtPosition, at-position, formed, closedUnder, labelsBelow, typesIn, allFormed}
-use Rattle.program.specs.Trees.{TermAt, variable-at, label-at, abstraction-at, application-at, pair-at, let-at}
-use Rattle.program.specs.Trees.{lift-at, force-at, box-at, apply-at, gate-at, AcceptedFile}
-use Rattle.program.specs.Theorems.Kinds.{both-left, both-right, both-of}
-use Rattle.program.specs.Theorems.Walking.{type-end, type-nonempty, term-end}
+use Rattle.program.specs.Trees.{TypeAtPosition, at-position, formed, closedUnder, labelsBelow, TermAt, variable-at}
+use Rattle.program.specs.Trees.{label-at, abstraction-at, application-at, pair-at, let-at, lift-at, force-at, box-at}
+use Rattle.program.specs.Trees.{apply-at, gate-at, AcceptedFile}
+use Rattle.program.specs.Laws.Trees.{typesIn, allFormed}
+use Rattle.program.specs.Laws.Kinds.{both-left, both-right, both-of}
+use Rattle.program.specs.Laws.TreeTraversal.{type-end, type-nonempty, term-end}
 use Rattle.program.specs.Theorems.Unique.{position-unique}
 
 -- A term has a node for each entry of the term section, so 2,048 at most.
@@ -33,7 +34,7 @@ allBounded (A ∷ As) = leb (entries A) most-entries && allBounded As
 abbrev pub GoodTypes : List Ty → Type 0
 GoodTypes As = IsTrue (allFormed As) × IsTrue (allBounded As)
 
-good-first : (A : Ty) (As : List Ty) → IsTrue (formed A) → entries A ≤ 512 → GoodTypes As → GoodTypes (A ∷ As)
+good-first : (A : Ty) (As : List Ty) → IsTrue (formed A) → entries A ≤ most-entries → GoodTypes As → GoodTypes (A ∷ As)
 good-first A As h k g = (
   both-of (formed A) (allFormed As) h (g .0),
   both-of (leb (entries A) most-entries) (allBounded As) (le→leb (entries A) most-entries k) (g .1),
@@ -53,7 +54,7 @@ good-append (A ∷ As) Bs g h =
 -- A type at a position of an accepted file: its Circs are of wire types, and it has at most as many entries as the section.
 position-good : (f : List ℕ) (labels : List Wire) (M : Term) (p : ℕ) (A : Ty)
     → AcceptedFile f labels M → TypeAtPosition f p A
-    → IsTrue (formed A) × (entries A ≤ 512)
+    → IsTrue (formed A) × (entries A ≤ most-entries)
 position-good f labels M p A t (at-position s h) =
     let a = type-end s in
     let b = type-nonempty s in
@@ -62,7 +63,7 @@ position-good f labels M p A t (at-position s h) =
     (subst (λ B. IsTrue (formed B)) (position-unique (r .1) (at-position s h)) (r .2), omega arith)
 
 types-good : {f : List ℕ} {e n : ℕ} {N : Term}
-    → ((p : ℕ) (A : Ty) → TypeAtPosition f p A → IsTrue (formed A) × (entries A ≤ 512))
+    → ((p : ℕ) (A : Ty) → TypeAtPosition f p A → IsTrue (formed A) × (entries A ≤ most-entries))
     → TermAt f e N n
     → GoodTypes (typesIn N)
 types-good g (variable-at k a) = (tt, tt)

@@ -9,10 +9,9 @@ use Rattle.rules.specs.Types.{Wire, Bit, Qubit, Ty, wire, _⊗_, _⊸_, !_, Cir
 use Rattle.rules.specs.Gates.{nth}
 use Rattle.rules.specs.Terms.{Term, variable, label, gate, abstraction, application, pair, let-in, lift, force, box, apply}
 use Rattle.program.specs.Format.{kindAt, argumentAt}
-use Rattle.program.specs.Trees.{TypeAt, bit-at, qubit-at, tensor-at, function-at, reusable-at, circ-at}
-use Rattle.program.specs.Trees.{TypeAtPosition, at-position, AcceptedFile}
-use Rattle.program.specs.Trees.{TermAt, variable-at, label-at, abstraction-at, application-at, pair-at, let-at}
-use Rattle.program.specs.Trees.{lift-at, force-at, box-at, apply-at, gate-at}
+use Rattle.program.specs.Trees.{TypeAt, bit-at, qubit-at, tensor-at, function-at, reusable-at, circ-at, TypeAtPosition}
+use Rattle.program.specs.Trees.{at-position, AcceptedFile, TermAt, variable-at, label-at, abstraction-at}
+use Rattle.program.specs.Trees.{application-at, pair-at, let-at, lift-at, force-at, box-at, apply-at, gate-at}
 
 -- The type that stands at e, by the kind of e.
 data TypeCase (f : List ℕ) (e : ℕ) : ℕ → Ty → ℕ → Type 0 where

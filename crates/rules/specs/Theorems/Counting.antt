@@ -15,13 +15,12 @@ use Rattle.rules.specs.Circuits.{one-if}
 use Rattle.rules.specs.Typing.{Context, LabelContext, Copyable, Shares, nowhere, left, right, copied, Splits}
 use Rattle.rules.specs.Typing.{split-end, _then_, Never, SplitsLabels, Parameter, parameters-end, absent, parameter}
 use Rattle.rules.specs.Typing.{Variable, here, past-absent, past-parameter, NoLabel, OnlyLabel, _∣_⊢_∶_, by-var}
-use Rattle.rules.specs.Typing.{by-label, by-gate, by-circ, by-abs, by-app, by-tuple, by-let, by-lift, by-force}
-use Rattle.rules.specs.Typing.{by-box, by-apply}
-use Rattle.rules.specs.Inference.{uses, labelUses}
-use Rattle.rules.specs.Counting.{Plain, plain-var, plain-label, plain-gate, plain-circ}
-use Rattle.rules.specs.Inference.{Linear}
-use Rattle.rules.specs.Counting.{plain-abs, plain-app, plain-tuple, plain-let, plain-lift, plain-force, plain-box}
-use Rattle.rules.specs.Counting.{plain-apply, BoundOnce, NoneCrosses, Counted}
+use Rattle.rules.specs.Typing.{by-label, by-gate, by-circ, by-abs, by-app, by-tuple, by-let, by-lift, by-force, by-box}
+use Rattle.rules.specs.Typing.{by-apply}
+use Rattle.rules.specs.Inference.{uses, labelUses, Linear}
+use Rattle.rules.specs.Laws.Counting.{Plain, plain-var, plain-label, plain-gate, plain-circ, plain-abs, plain-app}
+use Rattle.rules.specs.Laws.Counting.{plain-tuple, plain-let, plain-lift, plain-force, plain-box, plain-apply}
+use Rattle.rules.specs.Laws.Counting.{BoundOnce, NoneCrosses, Counted}
 
 -- The context of a part of a term against the types of all variables in scope: a variable that is the part's own has
 -- its type there, one that another part has is left out.

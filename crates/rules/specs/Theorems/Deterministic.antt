@@ -7,17 +7,17 @@ use mathlib.Core.Option.{Option, none, some, Option·some-injective, Option·non
 use lib.Dec.{T as IsTrue, T-prop}
 use Rattle.rules.specs.Types.{Wire, Ty}
 use Rattle.rules.specs.Gates.{GateType, _to_, gateType}
-use Rattle.rules.specs.Terms.{Tuple, single, both, Gate, Boxed, Term, variable, label, gate, constant}
-use Rattle.rules.specs.Terms.{abstraction, application, pair, let-in, lift, force, box, apply, value, tuple}
+use Rattle.rules.specs.Terms.{Tuple, single, both, Gate, Boxed, Term, variable, label, gate, constant, abstraction}
+use Rattle.rules.specs.Terms.{application, pair, let-in, lift, force, box, apply, value, tuple}
 use Rattle.rules.specs.Circuits.{Circuit, circuit}
-use Rattle.rules.specs.Contexts.{EvaluationContext, hole, application-left, application-right, pair-left}
-use Rattle.rules.specs.Contexts.{pair-right, let-first, force-of, box-of, apply-left, apply-right, plug}
+use Rattle.rules.specs.Contexts.{EvaluationContext, hole, application-left, application-right, pair-left, pair-right}
+use Rattle.rules.specs.Contexts.{let-first, force-of, box-of, apply-left, apply-right, plug}
 use Rattle.rules.specs.Steps.{Frame, frame, Configuration, configuration, _⟶_, β-reduction, let-step, force-step}
 use Rattle.rules.specs.Steps.{apply-gate, apply-constant, box-entry, box-exit}
-use Rattle.rules.specs.Next.{Found, is-value, reducible, free, within, find, joined, tupleOf}
-use Rattle.rules.specs.Next.{View, abstraction-view, pair-view, lift-view, gate-view, constant-view, other-view}
-use Rattle.rules.specs.Next.{view, stepApplication, stepLet, stepForce, stepBox, append, appendGate, stepApply}
-use Rattle.rules.specs.Next.{stepRedex, closeBox, closeRedex, closeFound, exit, stepFound, next}
+use Rattle.rules.specs.Next.{Found, is-value, reducible, free, within, find, joined, tupleOf, View, abstraction-view}
+use Rattle.rules.specs.Next.{pair-view, lift-view, gate-view, constant-view, other-view, view, stepApplication}
+use Rattle.rules.specs.Next.{stepLet, stepForce, stepBox, append, appendGate, stepApply, stepRedex, closeBox}
+use Rattle.rules.specs.Next.{closeRedex, closeFound, exit, stepFound, next}
 use Rattle.rules.specs.Values.{both-values}
 
 -- A proto-redex (000, definition 2.16): P ::= V W | let ⟨x, y⟩ = V in N | force V | box_T V | apply(V, W).

@@ -5,18 +5,17 @@ use mathlib.Core.Bool.{Bool, true, false, _&&_}
 use mathlib.Core.List.{List, [], _∷_}
 use mathlib.Core.Option.{Option, none, some, Option·map, Option·some-ne-none}
 use lib.Dec.{T as IsTrue, leb, leb→le, le→leb}
-use Rattle.rules.specs.Types.{Wire, Ty, wire, _⊗_, _⊸_, !_, Circ, isWireType, entries, most-entries}
-use Rattle.rules.specs.Types.{Wire-discrete, Ty-discrete}
+use Rattle.rules.specs.Types.{Wire, Ty, wire, _⊗_, _⊸_, !_, Circ, isWireType, entries, most-entries, Wire-discrete}
+use Rattle.rules.specs.Types.{Ty-discrete}
 use Rattle.rules.specs.Gates.{GateType, _to_, gateType}
-use Rattle.rules.specs.Terms.{Term, variable, label, gate, constant, abstraction}
-use Rattle.rules.specs.Terms.{application, pair, let-in, lift, force, box, apply}
+use Rattle.rules.specs.Terms.{Term, variable, label, gate, constant, abstraction, application, pair, let-in, lift}
+use Rattle.rules.specs.Terms.{force, box, apply}
 use Rattle.rules.specs.Typing.{LabelContext, Bounded, _∣_⊢_∶_}
-use Rattle.rules.specs.Counting.{Plain, plain-var, plain-label, plain-gate, plain-circ, plain-abs, plain-app}
-use Rattle.rules.specs.Counting.{plain-tuple, plain-let, plain-lift, plain-force, plain-box, plain-apply}
-use Rattle.rules.specs.Inference.{asPair, asFunction, asReusable, asCirc, given, if-true, isYes}
-use Rattle.rules.specs.Counting.{Counted, source}
-use Rattle.rules.specs.Inference.{same, if-bounded, gateNodeType}
-use Rattle.rules.specs.Inference.{infer}
+use Rattle.rules.specs.Laws.Counting.{Plain, plain-var, plain-label, plain-gate, plain-circ, plain-abs, plain-app}
+use Rattle.rules.specs.Laws.Counting.{plain-tuple, plain-let, plain-lift, plain-force, plain-box, plain-apply, Counted}
+use Rattle.rules.specs.Inference.{asPair, asFunction, asReusable, asCirc, given, if-true, isYes, same, if-bounded}
+use Rattle.rules.specs.Inference.{gateNodeType, infer}
+use Rattle.rules.specs.Counting.{source}
 use Rattle.rules.specs.Theorems.Counting.{closed→plain, has→counted, counted→has}
 
 -- If something follows, there was something that it follows from.

@@ -5,22 +5,23 @@ use native.Mathlib.Nat.{zero-add, suc-add}
 use mathlib.Core.Path.{_≡_, refl, sym, _∙_, ap, ap₂, subst}
 use mathlib.Core.Logic.{_⊎_, inl, inr}
 use mathlib.Core.Bool.{Bool, true, false, _&&_}
-use mathlib.Core.List.{List, [], _∷_}
+use mathlib.Core.List.{List}
 use mathlib.Core.Option.{Option, none, some, Option·none-ne-some}
 use lib.Dec.{T as IsTrue, leb, leb→le, le→leb}
 use Rattle.rules.specs.Types.{Wire, Ty}
 use Rattle.rules.specs.Terms.{boxed, Term}
 use Rattle.rules.specs.Circuits.{circuit}
-use Rattle.rules.specs.Steps.{Frame, frame, Configuration, configuration, start, _⟶_}
-use Rattle.rules.specs.Steps.{β-reduction, let-step, force-step, apply-gate, apply-constant, box-entry, box-exit}
+use Rattle.rules.specs.Steps.{Configuration, start, _⟶_, β-reduction, let-step, force-step, apply-gate, apply-constant}
+use Rattle.rules.specs.Steps.{box-entry, box-exit}
 use Rattle.rules.specs.Sizes.{totalNodes, totalGates, boxesClosed, most-nodes, most-boxes, Fits, Row, no-step}
 use Rattle.rules.specs.Sizes.{one-more}
 use Rattle.rules.specs.Demand3.{ProgramHas, Finished}
 use Rattle.rules.specs.Next.{next}
-use Rattle.rules.specs.Runs.{fits, Ending, at-finish, still-running, does-not-fit, Reached, ended, lastTurn}
-use Rattle.rules.specs.Runs.{turnTo, oneTurn, advanced}
+use Rattle.rules.specs.Runs.{fits, Ending, at-finish, still-running, does-not-fit, Reached, ended, atLimit, stepTo}
+use Rattle.rules.specs.Runs.{oneStep, advanced}
 use Rattle.rules.specs.Theorems.Deterministic.{step→next, next→step}
 use Rattle.rules.specs.Theorems.Safety.{progress, row-keeps, finished-stops}
+use Rattle.rules.specs.Inputs.{outermostInputs}
 
 -- The same endings by the rules, for at most k steps from c: after a row of n steps that fit, to d.
 -- 01: "Else finished": at a finish, which at most k steps reach.
@@ -47,14 +48,6 @@ pub record ExceedsAt (allowance k : ℕ) (c : Configuration) (n : ℕ) (d : Conf
 pub record EndingMeans (r : Reached) (e : Ending) (At : ℕ → Configuration → Type 0) : Type 0 where
   pub says : r .ending ≡ e → At (r .steps) (r .reached)
   pub only : (n : ℕ) (d : Configuration) → At n d → r ≡ ended e n d
-
--- The inputs of the outermost circuit: of the last frame below, or I if there is none.
-abbrev pub inputsBelow : List Wire → List Frame → List Wire
-inputsBelow I [] = I
-inputsBelow I (frame (circuit J gs) M ∷ X) = inputsBelow J X
-
-abbrev pub outermostInputs : Configuration → List Wire
-outermostInputs (configuration (frame (circuit I gs) M) X K) = inputsBelow I X
 
 -- Three tests together are passed if each is, and the other way round.
 three-true : (a b c : Bool) → IsTrue (a && (b && c)) → IsTrue a × IsTrue b × IsTrue c
@@ -103,13 +96,13 @@ false-fits allowance c h = of (fits allowance c) refl
     of false p = refl
 
 -- A step that fits is taken.
-turn-taken : {c d : Configuration} (allowance k n : ℕ)
+step-taken : {c d : Configuration} (allowance k n : ℕ)
     → c ⟶ d
     → Fits allowance d
     → advanced allowance (suc k) n c ≡ advanced allowance k (suc n) d
-turn-taken {c} {d} allowance k n s f =
-    ap (oneTurn allowance (advanced allowance k (suc n)) n c) (step→next s)
-    ∙ ap (λ b. turnTo b n c (advanced allowance k (suc n) d)) (is-true (fits allowance d) (true-fits allowance d f))
+step-taken {c} {d} allowance k n s f =
+    ap (oneStep allowance (advanced allowance k (suc n)) n c) (step→next s)
+    ∙ ap (λ b. stepTo b n c (advanced allowance k (suc n) d)) (is-true (fits allowance d) (true-fits allowance d f))
 
 -- Steps may be counted anew from any place of a row.
 pub row-reaches : {allowance : ℕ} {c d : Configuration} (k n done : ℕ)
@@ -126,7 +119,7 @@ row-reaches {allowance} {c} {d = e} k n done (one-more {n = m} {d = d} r s f) h 
     let more : suc (done + m) ≡ done + suc m = omega arith in
     row-reaches k m done r earlier
     ∙ ap (λ x. advanced allowance x (done + m) d) left
-    ∙ turn-taken allowance (k - suc m) (done + m) s f
+    ∙ step-taken allowance (k - suc m) (done + m) s f
     ∙ ap (λ y. advanced allowance (k - suc m) y e) more
 
 -- Why steps ended where they did, by the step function.
@@ -147,7 +140,7 @@ Ends allowance limit b r =
 last-ends : (allowance limit : ℕ) (b c : Configuration) (d : Option Configuration)
     → next c ≡ d
     → Row allowance b limit c
-    → Ends allowance limit b (lastTurn limit c d)
+    → Ends allowance limit b (atLimit limit c d)
 last-ends allowance limit b c none p r = (r, omega arith, p)
 last-ends allowance limit b c (some d) p r = (r, omega arith, (refl, d, p))
 
@@ -159,16 +152,16 @@ module _ (allowance limit k n : ℕ) (b c : Configuration) (row : Row allowance 
   fitting-ends : (d : Configuration) (a : Bool)
       → next c ≡ some d
       → fits allowance d ≡ a
-      → Ends allowance limit b (turnTo a n c (advanced allowance k (suc n) d))
+      → Ends allowance limit b (stepTo a n c (advanced allowance k (suc n) d))
   fitting-ends d true p q =
       later d (one-more row (next→step c d p) (fits-true allowance d (subst IsTrue (sym q) tt)))
   fitting-ends d false p q = (row, omega arith, (earlier, d, p, q))
 
-  turn-ends : (d : Option Configuration)
+  step-ends : (d : Option Configuration)
       → next c ≡ d
-      → Ends allowance limit b (oneTurn allowance (advanced allowance k (suc n)) n c d)
-  turn-ends none p = (row, omega arith, p)
-  turn-ends (some d) p = fitting-ends d (fits allowance d) p refl
+      → Ends allowance limit b (oneStep allowance (advanced allowance k (suc n)) n c d)
+  step-ends none p = (row, omega arith, p)
+  step-ends (some d) p = fitting-ends d (fits allowance d) p refl
 
 -- Where n steps are done and k are to be taken.
 ends-from : (allowance limit k n : ℕ) (b c : Configuration)
@@ -177,10 +170,10 @@ ends-from : (allowance limit k n : ℕ) (b c : Configuration)
     → Ends allowance limit b (advanced allowance k n c)
 ends-from allowance limit zero n b c r h =
     let same : n ≡ limit = omega arith in
-    subst (λ m. Ends allowance limit b (lastTurn m c (next c))) (sym same)
+    subst (λ m. Ends allowance limit b (atLimit m c (next c))) (sym same)
     (last-ends allowance limit b c (next c) refl (subst (λ m. Row allowance b m c) same r))
 ends-from allowance limit (suc k) n b c r h =
-    turn-ends allowance limit k n b c r (omega arith)
+    step-ends allowance limit k n b c r (omega arith)
     (λ d t. ends-from allowance limit k (suc n) b d t (omega arith))
     (next c)
     refl
@@ -226,8 +219,8 @@ unfinished-next c typed h = of (progress typed)
 none-ends : (allowance k n : ℕ) (c : Configuration)
     → next c ≡ none
     → advanced allowance k n c ≡ ended at-finish n c
-none-ends allowance zero n c p = ap (lastTurn n c) p
-none-ends allowance (suc k) n c p = ap (oneTurn allowance (advanced allowance k (suc n)) n c) p
+none-ends allowance zero n c p = ap (atLimit n c) p
+none-ends allowance (suc k) n c p = ap (oneStep allowance (advanced allowance k (suc n)) n c) p
 
 -- Where a step may be taken and the next one exceeds a size it ends at once.
 exceeding-ends : (allowance k n : ℕ) (c d : Configuration)
@@ -235,8 +228,8 @@ exceeding-ends : (allowance k n : ℕ) (c d : Configuration)
     → fits allowance d ≡ false
     → advanced allowance (suc k) n c ≡ ended does-not-fit n c
 exceeding-ends allowance k n c d p q =
-    ap (oneTurn allowance (advanced allowance k (suc n)) n c) p
-    ∙ ap (λ a. turnTo a n c (advanced allowance k (suc n) d)) q
+    ap (oneStep allowance (advanced allowance k (suc n)) n c) p
+    ∙ ap (λ a. stepTo a n c (advanced allowance k (suc n) d)) q
 
 -- From a row of n steps on there are k - n to take.
 after-row : (allowance k n : ℕ) (c d : Configuration)
@@ -301,7 +294,7 @@ running-means allowance k c typed = record { says = says-so; only = only-so }
         let p = unfinished-next d (row-keeps (h .row) typed) (h .unfinished) in
         after-row allowance k n c d (h .row) (omega arith)
         ∙ ap (λ m. advanced allowance m n d) none-left
-        ∙ ap (lastTurn n d) (p .1)
+        ∙ ap (atLimit n d) (p .1)
 
 -- 22: the steps end so exactly if after fewer than k of the rules' steps, which all fit, the next one does not. 01:
 -- "earlier than that, the next step exceeds a size".
@@ -352,19 +345,19 @@ module _ (a b k n : ℕ) (c : Configuration) (less : a ≤ b)
     → advanced a k (suc n) d ≡ advanced b k (suc n) d) where
   same-if-fitting : (d : Configuration) (t : Bool)
       → fits a d ≡ t
-      → (turnTo t n c (advanced a k (suc n) d) .ending ≡ does-not-fit → ⊥)
-      → turnTo t n c (advanced a k (suc n) d) ≡ turnTo (fits b d) n c (advanced b k (suc n) d)
+      → (stepTo t n c (advanced a k (suc n) d) .ending ≡ does-not-fit → ⊥)
+      → stepTo t n c (advanced a k (suc n) d) ≡ stepTo (fits b d) n c (advanced b k (suc n) d)
   same-if-fitting d true p h =
       let fitting : Fits a d = fits-true a d (subst IsTrue (sym p) tt) in
       let more : fits b d ≡ true = is-true (fits b d) (true-fits b d (fits-more less fitting)) in
-      later d h ∙ ap (λ t. turnTo t n c (advanced b k (suc n) d)) (sym more)
+      later d h ∙ ap (λ t. stepTo t n c (advanced b k (suc n) d)) (sym more)
   same-if-fitting d false p h = absurd (h refl)
 
-  same-turn : (d : Option Configuration)
-      → (oneTurn a (advanced a k (suc n)) n c d .ending ≡ does-not-fit → ⊥)
-      → oneTurn a (advanced a k (suc n)) n c d ≡ oneTurn b (advanced b k (suc n)) n c d
-  same-turn none h = refl
-  same-turn (some d) h = same-if-fitting d (fits a d) refl h
+  same-step : (d : Option Configuration)
+      → (oneStep a (advanced a k (suc n)) n c d .ending ≡ does-not-fit → ⊥)
+      → oneStep a (advanced a k (suc n)) n c d ≡ oneStep b (advanced b k (suc n)) n c d
+  same-step none h = refl
+  same-step (some d) h = same-if-fitting d (fits a d) refl h
 
 -- The allowance matters only where it is exceeded: steps that end otherwise end alike with a larger one.
 pub larger-allowance : (a b k n : ℕ) (c : Configuration)
@@ -373,7 +366,7 @@ pub larger-allowance : (a b k n : ℕ) (c : Configuration)
     → advanced a k n c ≡ advanced b k n c
 larger-allowance a b zero n c less h = refl
 larger-allowance a b (suc k) n c less h =
-    same-turn a b k n c less (λ d. larger-allowance a b k (suc n) d less) (next c) h
+    same-step a b k n c less (λ d. larger-allowance a b k (suc n) d less) (next c) h
 
 -- What comes of at most R more steps after what came of earlier ones: of those that had ended, the same.
 abbrev pub continuedAs : ℕ → ℕ → Reached → Ending → Reached
@@ -392,7 +385,7 @@ in-two-parts allowance zero R n c =
   where
     of : (d : Option Configuration)
         → next c ≡ d
-        → advanced allowance R n c ≡ continued allowance R (lastTurn n c d)
+        → advanced allowance R n c ≡ continued allowance R (atLimit n c d)
     of none p = none-ends allowance R n c p
     of (some d) p = refl
 in-two-parts allowance (suc S) R n c =
@@ -400,16 +393,16 @@ in-two-parts allowance (suc S) R n c =
   where
     fitting : (d : Configuration) (t : Bool)
         → advanced allowance (S + R) (suc n) d ≡ continued allowance R (advanced allowance S (suc n) d)
-        → turnTo t n c (advanced allowance (S + R) (suc n) d)
-        ≡ continued allowance R (turnTo t n c (advanced allowance S (suc n) d))
+        → stepTo t n c (advanced allowance (S + R) (suc n) d)
+        ≡ continued allowance R (stepTo t n c (advanced allowance S (suc n) d))
     fitting d true later = later
     fitting d false later = refl
 
     of : (d : Option Configuration)
         → ((e : Configuration)
         → advanced allowance (S + R) (suc n) e ≡ continued allowance R (advanced allowance S (suc n) e))
-        → oneTurn allowance (advanced allowance (S + R) (suc n)) n c d
-        ≡ continued allowance R (oneTurn allowance (advanced allowance S (suc n)) n c d)
+        → oneStep allowance (advanced allowance (S + R) (suc n)) n c d
+        ≡ continued allowance R (oneStep allowance (advanced allowance S (suc n)) n c d)
     of none later = refl
     of (some d) later = fitting d (fits allowance d) (later d)
 
@@ -419,7 +412,7 @@ pub running-steps : (allowance S n : ℕ) (c : Configuration)
     → advanced allowance S n c .steps ≡ n + S
 running-steps allowance zero n c h = of (next c) h
   where
-    of : (d : Option Configuration) → lastTurn n c d .ending ≡ still-running → lastTurn n c d .steps ≡ n + zero
+    of : (d : Option Configuration) → atLimit n c d .ending ≡ still-running → atLimit n c d .steps ≡ n + zero
     of none e = let z : _≡_ {A = ℕ} 0 1 = cc in absurd (omega arith)
     of (some d) e = omega arith
 running-steps allowance (suc S) n c h = of (next c) (running-steps allowance S (suc n)) h
@@ -431,15 +424,15 @@ running-steps allowance (suc S) n c h = of (next c) (running-steps allowance S (
 
     fitting : (d : Configuration) (t : Bool)
         → Later d
-        → turnTo t n c (advanced allowance S (suc n) d) .ending ≡ still-running
-        → turnTo t n c (advanced allowance S (suc n) d) .steps ≡ n + suc S
+        → stepTo t n c (advanced allowance S (suc n) d) .ending ≡ still-running
+        → stepTo t n c (advanced allowance S (suc n) d) .steps ≡ n + suc S
     fitting d true later e = let more = later e in omega arith
     fitting d false later e = let z : _≡_ {A = ℕ} 0 1 = cc in absurd (omega arith)
 
     of : (d : Option Configuration)
         → ((e : Configuration) → Later e)
-        → oneTurn allowance (advanced allowance S (suc n)) n c d .ending ≡ still-running
-        → oneTurn allowance (advanced allowance S (suc n)) n c d .steps ≡ n + suc S
+        → oneStep allowance (advanced allowance S (suc n)) n c d .ending ≡ still-running
+        → oneStep allowance (advanced allowance S (suc n)) n c d .steps ≡ n + suc S
     of none later e = let z : _≡_ {A = ℕ} 0 1 = cc in absurd (omega arith)
     of (some d) later e = fitting d (fits allowance d) (later d) e
 

@@ -8,28 +8,27 @@ use mathlib.Core.Option.{none, some}
 use lib.Dec.{T as IsTrue}
 use Rattle.rules.specs.Types.{Wire, Ty, _⊗_, _⊸_, !_, Circ, isWireType, wires}
 use Rattle.rules.specs.Gates.{_to_, nth, gateType}
-use Rattle.rules.specs.Terms.{Tuple, tupleFrom, Gate, Boxed, boxed, Term, gate, constant}
-use Rattle.rules.specs.Terms.{abstraction, application, pair, let-in, lift, force, box, apply, value, tuple, substitute}
+use Rattle.rules.specs.Terms.{Tuple, tupleFrom, Gate, Boxed, boxed, Term, gate, constant, abstraction, application}
+use Rattle.rules.specs.Terms.{pair, let-in, lift, force, box, apply, value, tuple, substitute}
 use Rattle.rules.specs.Circuits.{Circuit, circuit, Sound, loose, appended, returned, gateBoxed}
-use Rattle.rules.specs.Typing.{LabelContext, split-end, NoLabel, Bounded, _∣_⊢_∶_}
-use Rattle.rules.specs.Typing.{by-var, by-label, by-gate, by-circ, by-abs, by-app, by-tuple, by-let, by-lift}
-use Rattle.rules.specs.Typing.{by-force, by-box, by-apply, parameters-end}
+use Rattle.rules.specs.Typing.{LabelContext, split-end, NoLabel, Bounded, _∣_⊢_∶_, by-var, by-label, by-gate, by-circ}
+use Rattle.rules.specs.Typing.{by-abs, by-app, by-tuple, by-let, by-lift, by-force, by-box, by-apply, parameters-end}
 use Rattle.rules.specs.Contexts.{EvaluationContext, hole, application-left, application-right, pair-left, pair-right}
 use Rattle.rules.specs.Contexts.{let-first, force-of, box-of, apply-left, apply-right, plug}
 use Rattle.rules.specs.Steps.{Frame, frame, Configuration, configuration, start, _⟶_, β-reduction, let-step}
 use Rattle.rules.specs.Steps.{force-step, apply-gate, apply-constant, box-entry, box-exit}
 use Rattle.rules.specs.Sizes.{Fits, Row, no-step, one-more}
-use Rattle.rules.specs.Demand3.{FrameHas, frame-has, FramesHave, outermost, opened, ClosedHave, none-closed, one-closed}
-use Rattle.rules.specs.Demand3.{ProgramHas, program-has, Finished, finished, OpenSound, none-open, one-open}
-use Rattle.rules.specs.Demand3.{ClosedSound, none-left, one-left, CircuitsSound, circuits-sound}
-use Rattle.rules.specs.Demand3.{AllGone, all-gone, GoneToTuple, gone-to-tuple, Demand3}
+use Rattle.rules.specs.Demand3.{FrameHas, frame-has, FramesHave, outermost, opened, ClosedHave, none-closed}
+use Rattle.rules.specs.Demand3.{one-closed, ProgramHas, program-has, Finished, finished, OpenSound, none-open}
+use Rattle.rules.specs.Demand3.{one-open, ClosedSound, none-left, one-left, CircuitsSound, circuits-sound, AllGone}
+use Rattle.rules.specs.Demand3.{all-gone, GoneToTuple, gone-to-tuple, Demand3}
 use Rattle.rules.specs.Values.{both-values}
-use Rattle.rules.specs.Theorems.Labels.{splits-none-left, splits-left-none}
-use Rattle.rules.specs.Theorems.Substitution.{copyable-no-label, substitute-one, substitute-two, canonical-function}
-use Rattle.rules.specs.Theorems.Substitution.{canonical-pair, canonical-reusable, canonical-circ, canonical-wires}
-use Rattle.rules.specs.Theorems.Substitution.{circ-wire-types, Plugged, plug-has}
-use Rattle.rules.specs.Theorems.Appending.{empty-sound, empty-loose, tupleFrom-has, gone-once, tuple-gone-once}
-use Rattle.rules.specs.Theorems.Appending.{append-has, gate-has}
+use Rattle.rules.specs.Laws.Labels.{splits-none-left, splits-left-none}
+use Rattle.rules.specs.Laws.Substitution.{copyable-no-label, substitute-one, substitute-two, canonical-function}
+use Rattle.rules.specs.Laws.Substitution.{canonical-pair, canonical-reusable, canonical-circ, canonical-wires}
+use Rattle.rules.specs.Laws.Substitution.{circ-wire-types, Plugged, plug-has}
+use Rattle.rules.specs.Laws.Appending.{empty-sound, empty-loose, tupleFrom-has, gone-once, tuple-gone-once, append-has}
+use Rattle.rules.specs.Laws.Appending.{gate-has}
 use Rattle.rules.specs.Theorems.Counting.{unique-types}
 use Rattle.rules.specs.Theorems.Deterministic.{deterministic, same-box, value-no-step}
 

@@ -3,10 +3,10 @@ use mathlib.Core.Path.{_≡_, sym, _∙_, ap, ap₂}
 use mathlib.Core.Bool.{true, false}
 use mathlib.Core.List.{[], _∷_}
 use Rattle.lent.specs.Lent.{tooShort}
-use Rattle.answers.specs.Lengths.{run-lengths}
-use Rattle.answers.specs.Theorems.Running.{run-means, run-is-safe}
-use Rattle.running.specs.Whole.{says-short}
-use Rattle.run.specs.Cleared.{untouched, cleared}
+use Rattle.run_answers.specs.Lengths.{run-lengths}
+use Rattle.run_answers.specs.Theorems.Running.{run-means, run-is-safe}
+use Rattle.run_parts.specs.Laws.Running.{says-short}
+use Rattle.run.specs.Laws.Cleared.{untouched, cleared}
 use borrow.Author.Needs.{needs}
 use Rattle.run.proofs.run.Statement.{statement}
 use Rattle.run.proofs.run.Tie as tie
@@ -14,7 +14,7 @@ use Rattle.run.proofs.run.Reads as reads
 use Rattle.run.proofs.run.Lts as lts
 use Rattle.run_buffers.proofs.clear_all.Reads as clear-all-reads
 use Rattle.run_buffers.proofs.too_short.Reads as too-short-reads
-use Rattle.running.proofs.run_uncleared.Reads as run-uncleared-reads
+use Rattle.run_parts.proofs.run_uncleared.Reads as run-uncleared-reads
 
 too-short-requires : tie.Need-too-short-requires
 too-short-requires c κs = search needs
@@ -23,9 +23,9 @@ returns : tie.Need-returns
 returns c =
     let s = c .before .before .before .before .before .before .before .before .before .before .before .before .before .before .args in
     let f = s .file .now in
-    let short : tooShort run-lengths (s .out .now ∷ s .nodes .now ∷ s .stack .now ∷ s .types .now ∷ s .frames .now ∷ s .gates .now ∷ s .closed .now ∷ s .first .now ∷ s .second .now ∷ s .third .now ∷ s .fourth .now ∷ []) ≡ true = sym (c .before .too-short .ensures) ∙ c .if1 .taken in (
-      says-short f (s .limit) (s .out .now ∷ s .nodes .now ∷ s .stack .now ∷ s .types .now ∷ s .frames .now ∷ s .gates .now ∷ s .closed .now ∷ s .first .now ∷ s .second .now ∷ s .third .now ∷ s .fourth .now ∷ []) (s .out .now) short .0,
-      (untouched f (s .limit) (s .out .now) (s .nodes .now ∷ s .stack .now ∷ s .types .now ∷ s .frames .now ∷ s .gates .now ∷ s .closed .now ∷ s .first .now ∷ s .second .now ∷ s .third .now ∷ s .fourth .now ∷ []) short, (run-means f (s .limit), run-is-safe f (s .limit))),
+    let short : tooShort run-lengths (s .out .now ∷ s .nodes .now ∷ s .stack .now ∷ s .types .now ∷ s .frames .now ∷ s .gates .now ∷ s .circuits .now ∷ s .results0 .now ∷ s .results1 .now ∷ s .results2 .now ∷ s .results3 .now ∷ []) ≡ true = sym (c .before .too-short .ensures) ∙ c .if1 .taken in (
+      says-short f (s .limit) (s .out .now ∷ s .nodes .now ∷ s .stack .now ∷ s .types .now ∷ s .frames .now ∷ s .gates .now ∷ s .circuits .now ∷ s .results0 .now ∷ s .results1 .now ∷ s .results2 .now ∷ s .results3 .now ∷ []) (s .out .now) short .0,
+      (untouched f (s .limit) (s .out .now) (s .nodes .now ∷ s .stack .now ∷ s .types .now ∷ s .frames .now ∷ s .gates .now ∷ s .circuits .now ∷ s .results0 .now ∷ s .results1 .now ∷ s .results2 .now ∷ s .results3 .now ∷ []) short, (run-means f (s .limit), run-is-safe f (s .limit))),
     )
 
 run-uncleared-requires : tie.Need-run-uncleared-requires
@@ -105,10 +105,10 @@ returns-2 c =
     let f = s .file .now in
     let u = c .before .before .before .before .before .before .before .before .before .before .before .before .before .before .before .before .before .before .before .before .before .before .before .before .before .before .before .before .before .before .before .before .before .before .before .before .before .before .before .before .before .before .before .before .before .before .before .before .before .before .before .before .before .run-uncleared in
     let k = c .before .before .before .before .before .before .before .before .before .before .before .before .before .before .before .before .before .before .before .before .clear-all in
-    let long : tooShort run-lengths (s .out .now ∷ s .nodes .now ∷ s .stack .now ∷ s .types .now ∷ s .frames .now ∷ s .gates .now ∷ s .closed .now ∷ s .first .now ∷ s .second .now ∷ s .third .now ∷ s .fourth .now ∷ []) ≡ false = sym (c .before .before .before .before .before .before .before .before .before .before .before .before .before .before .before .before .before .before .before .before .before .before .before .before .before .before .before .before .before .before .before .before .before .before .before .before .before .before .before .before .before .before .before .before .before .before .before .before .before .before .before .before .before .before .before .before .before .before .before .before .before .before .before .before .before .before .too-short .ensures) ∙ c .before .before .before .before .before .before .before .before .before .before .before .before .before .before .before .before .before .before .before .before .before .before .before .before .before .before .before .before .before .before .before .before .before .before .before .before .before .before .before .before .before .before .before .before .before .before .before .before .before .before .before .before .before .before .before .before .before .before .before .before .before .before .before .before .before .if1 .left in (
+    let long : tooShort run-lengths (s .out .now ∷ s .nodes .now ∷ s .stack .now ∷ s .types .now ∷ s .frames .now ∷ s .gates .now ∷ s .circuits .now ∷ s .results0 .now ∷ s .results1 .now ∷ s .results2 .now ∷ s .results3 .now ∷ []) ≡ false = sym (c .before .before .before .before .before .before .before .before .before .before .before .before .before .before .before .before .before .before .before .before .before .before .before .before .before .before .before .before .before .before .before .before .before .before .before .before .before .before .before .before .before .before .before .before .before .before .before .before .before .before .before .before .before .before .before .before .before .before .before .before .before .before .before .before .before .before .too-short .ensures) ∙ c .before .before .before .before .before .before .before .before .before .before .before .before .before .before .before .before .before .before .before .before .before .before .before .before .before .before .before .before .before .before .before .before .before .before .before .before .before .before .before .before .before .before .before .before .before .before .before .before .before .before .before .before .before .before .before .before .before .before .before .before .before .before .before .before .before .if1 .left in (
       u .ensures .0,
       (
-        cleared f (s .limit) (s .out .now) (s .nodes .now ∷ s .stack .now ∷ s .types .now ∷ s .frames .now ∷ s .gates .now ∷ s .closed .now ∷ s .first .now ∷ s .second .now ∷ s .third .now ∷ s .fourth .now ∷ []) (u .last .1 .1 .0)
+        cleared f (s .limit) (s .out .now) (s .nodes .now ∷ s .stack .now ∷ s .types .now ∷ s .frames .now ∷ s .gates .now ∷ s .circuits .now ∷ s .results0 .now ∷ s .results1 .now ∷ s .results2 .now ∷ s .results3 .now ∷ []) (u .last .1 .1 .0)
             (u .last .1 .1 .1 .0 ∷ u .last .1 .1 .1 .1 .0 ∷ u .last .1 .1 .1 .1 .1 .0 ∷ u .last .1 .1 .1 .1 .1 .1 .0 ∷ u .last .1 .1 .1 .1 .1 .1 .1 .0 ∷ u .last .1 .1 .1 .1 .1 .1 .1 .1 .0 ∷ u .last .1 .1 .1 .1 .1 .1 .1 .1 .1 .0 ∷ u .last .1 .1 .1 .1 .1 .1 .1 .1 .1 .1 .0 ∷ u .last .1 .1 .1 .1 .1 .1 .1 .1 .1 .1 .1 .0 ∷ u .last .1 .1 .1 .1 .1 .1 .1 .1 .1 .1 .1 .1 .0 ∷ [])
             (k .last .0 ∷ k .last .1 .0 ∷ k .last .1 .1 .0 ∷ k .last .1 .1 .1 .0 ∷ k .last .1 .1 .1 .1 .0 ∷ k .last .1 .1 .1 .1 .1 .0 ∷ k .last .1 .1 .1 .1 .1 .1 .0 ∷ k .last .1 .1 .1 .1 .1 .1 .1 .0 ∷ k .last .1 .1 .1 .1 .1 .1 .1 .1 .0 ∷ k .last .1 .1 .1 .1 .1 .1 .1 .1 .1 .0 ∷ [])
             long

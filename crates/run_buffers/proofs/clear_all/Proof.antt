@@ -6,7 +6,7 @@ use Rattle.run_buffers.proofs.clear_all.Statement.{statement}
 use Rattle.run_buffers.proofs.clear_all.Tie as tie
 use Rattle.run_buffers.proofs.clear_all.Reads as reads
 use Rattle.run_buffers.proofs.clear_all.Lts as lts
-use Rattle.memory.proofs.clear.Reads as clear-reads
+use Rattle.words.proofs.clear.Reads as clear-reads
 
 clear-requires : tie.Need-clear-requires
 clear-requires c κs = search needs

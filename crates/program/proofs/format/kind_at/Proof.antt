@@ -1,23 +1,31 @@
--- `format::kind_at` meets its contract. Past the end the kind is 0.
+-- `program::format::kind_at` meets its contract. Past the end `getD` gives 0.
+use Prim.Native.Nat.{_+_}
+use native.Mathlib.Omega.{arith}
 use mathlib.Core.Path.{sym}
 use borrow.Author.Needs.{needs}
-use Rattle.program.specs.Laws.{kind-past}
+use Rattle.words.specs.Laws.Numbers.{byte-past}
 use Rattle.program.specs.Format.{kindAt}
 use Rattle.program.proofs.format.kind_at.Statement.{statement}
 use Rattle.program.proofs.format.kind_at.Tie as tie
 
 returns : tie.Need-returns
-returns c = sym (kind-past (c .before .before .args .file .now) (c .before .before .args .e) (c .if1 .taken))
+unfolding kindAt
+returns c =
+    let a = c .before .before .args in
+    (sym (byte-past (a .file .now) (6 + a .e) (omega (arith, c .if1 .taken))), omega arith)
 
-add-byte : tie.Need-add-byte
-add-byte c = search needs
+add-byte-at : tie.Need-add-byte-at
+add-byte-at c = search needs
 
-byte-requires : tie.Need-byte-requires
-byte-requires c κs = search needs
+byte-at-requires : tie.Need-byte-at-requires
+byte-at-requires c κs = search needs
+
+cast-result : tie.Need-cast-result
+cast-result c = search needs
 
 returns-2 : tie.Need-returns-2
 unfolding kindAt
-returns-2 c = c .byte .ensures
+returns-2 c = (c .byte-at .ensures, omega arith)
 
 pub kind-at-spec : {M : Type 1} → statement M
-kind-at-spec = tie.close (tie.spec returns add-byte byte-requires returns-2)
+kind-at-spec = tie.close (tie.spec returns add-byte-at byte-at-requires cast-result returns-2)

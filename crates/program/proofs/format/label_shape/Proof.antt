@@ -1,4 +1,4 @@
--- `format::label_shape` meets its contract.
+-- `program::format::label_shape` meets its contract.
 use native.Mathlib.Omega.{arith}
 use borrow.Author.Tests.{le-leb, lt-leb}
 use Rattle.program.specs.Format.{labelShape}

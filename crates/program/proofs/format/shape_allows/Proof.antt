@@ -1,4 +1,4 @@
--- `format::shape_allows` meets its contract, one arm for each rule of an argument.
+-- `program::format::shape_allows` meets its contract, one arm for each rule of an argument.
 use borrow.Author.Needs.{needs}
 use Rattle.program.proofs.format.shape_allows.Statement.{statement}
 use Rattle.program.proofs.format.shape_allows.Tie as tie

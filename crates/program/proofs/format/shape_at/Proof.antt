@@ -1,8 +1,8 @@
--- `format::shape_at` meets its contract. The section that the tests find is the definition's.
+-- `program::format::shape_at` meets its contract. The section that the tests find is the definition's.
 use native.Mathlib.Omega.{arith}
 use mathlib.Core.Path.{_∙_, ap, sym}
 use borrow.Author.Needs.{needs}
-use Rattle.program.specs.Laws.{label-entry, type-entry, term-entry}
+use Rattle.program.specs.Laws.Scans.{label-entry, type-entry, term-entry}
 use Rattle.program.specs.Format.{labelShape, typeShape, termShape}
 use Rattle.program.proofs.format.shape_at.Statement.{statement}
 use Rattle.program.proofs.format.shape_at.Tie as tie
@@ -17,7 +17,7 @@ returns : tie.Need-returns
 returns c =
     let start = c .before .before .before .before .before in
     c .label-shape .ensures
-    ∙ ap labelShape (c .before .before .before .kind-at .ensures)
+    ∙ ap labelShape (c .before .before .before .kind-at .ensures .0)
     ∙ sym (label-entry (start .pre) (start .args .e) (omega arith))
 
 add-if2 : tie.Need-add-if2
@@ -30,7 +30,7 @@ returns-2 : tie.Need-returns-2
 returns-2 c =
     let start = c .before .before .before .before .before .before .before in
     c .type-shape .ensures
-    ∙ ap typeShape (c .before .before .before .before .before .kind-at .ensures)
+    ∙ ap typeShape (c .before .before .before .before .before .kind-at .ensures .0)
     ∙ sym (type-entry (start .pre) (start .args .e) (omega arith) (omega arith))
 
 term-shape-requires : tie.Need-term-shape-requires
@@ -40,7 +40,7 @@ returns-3 : tie.Need-returns-3
 returns-3 c =
     let start = c .before .before .before .before .before .before .before in
     c .term-shape .ensures
-    ∙ ap termShape (c .before .before .before .before .before .kind-at .ensures)
+    ∙ ap termShape (c .before .before .before .before .before .kind-at .ensures .0)
     ∙ sym (term-entry (start .pre) (start .args .e) (omega arith))
 
 pub shape-at-spec : {M : Type 1} → statement M

@@ -1,7 +1,7 @@
--- `format::term_shape` meets its contract: first the arms of one kind, then those of a range, then every other kind.
+-- `program::format::term_shape` meets its contract: first the arms of one kind, then those of a range, then every other kind.
 use native.Mathlib.Omega.{arith}
 use mathlib.Core.Path.{sym}
-use Rattle.program.specs.Laws.{two-part-terms, one-part-terms, no-terms-below, no-terms-above}
+use Rattle.program.specs.Laws.Scans.{two-part-terms, one-part-terms, no-terms-below, no-terms-above}
 use Rattle.program.specs.Format.{termShape}
 use Rattle.program.proofs.format.term_shape.Statement.{statement}
 use Rattle.program.proofs.format.term_shape.Tie as tie

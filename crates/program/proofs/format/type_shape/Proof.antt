@@ -1,7 +1,7 @@
--- `format::type_shape` meets its contract: first the arms of one kind, then those of a range, then every other kind.
+-- `program::format::type_shape` meets its contract: first the arms of one kind, then those of a range, then every other kind.
 use native.Mathlib.Omega.{arith}
 use mathlib.Core.Path.{sym}
-use Rattle.program.specs.Laws.{wire-kinds, two-part-types, no-types}
+use Rattle.program.specs.Laws.Scans.{wire-kinds, two-part-types, no-types}
 use Rattle.program.specs.Format.{typeShape}
 use Rattle.program.proofs.format.type_shape.Statement.{statement}
 use Rattle.program.proofs.format.type_shape.Tie as tie

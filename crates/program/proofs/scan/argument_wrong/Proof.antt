@@ -1,4 +1,4 @@
--- `scan::argument_wrong` meets its contract.
+-- `program::scan::argument_wrong` meets its contract.
 use borrow.Author.Needs.{needs}
 use Rattle.program.specs.Reading.{argumentWrong}
 use Rattle.program.proofs.scan.argument_wrong.Statement.{statement}
@@ -16,11 +16,11 @@ shape-allows-requires c κs = search needs
 returns : tie.Need-returns
 unfolding argumentWrong
 returns c =
-    let sized = c .before .before .before .before .pre .0 in
+    let sized = c .before .before .before .before .pre in
     rw (
       c .shape-allows .ensures,
       c .before .before .shape-at .ensures,
-      c .before .argument-at .ensures,
+      c .before .argument-at .ensures .0,
       sized .labels-are,
       sized .types-are,
     )

@@ -1,4 +1,4 @@
--- `scan::kind_wrong` meets its contract.
+-- `program::scan::kind_wrong` meets its contract.
 use borrow.Author.Needs.{needs}
 use Rattle.program.specs.Reading.{kindWrong}
 use Rattle.program.proofs.scan.kind_wrong.Statement.{statement}

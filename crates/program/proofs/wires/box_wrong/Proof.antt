@@ -2,7 +2,7 @@
 use borrow.Author.Needs.{needs}
 use mathlib.Core.Path.{ap, _∙_}
 use mathlib.Core.Bool.{not}
-use Rattle.program.specs.ReadLaws.{no-position, box-test}
+use Rattle.program.specs.Laws.Reading.{no-position, box-test}
 use Rattle.program.proofs.wires.box_wrong.Statement.{statement}
 use Rattle.program.proofs.wires.box_wrong.Tie as tie
 
@@ -13,16 +13,16 @@ returns : tie.Need-returns
 returns c =
     let at-argument-at = c .before .before in
     let start = at-argument-at .before .before in
-    no-position (start .pre .0) (start .args .e) (at-argument-at .argument-at .ensures) (c .if1 .taken)
+    no-position (start .pre) (start .args .e) (at-argument-at .argument-at .ensures .0) (c .if1 .taken)
 
 add-end : tie.Need-add-end
 add-end c = search needs
 
-add-walk : tie.Need-add-walk
-add-walk c = search needs
+add-traverse : tie.Need-add-traverse
+add-traverse c = search needs
 
-walk-requires : tie.Need-walk-requires
-walk-requires c κs = search needs
+traverse-requires : tie.Need-traverse-requires
+traverse-requires c κs = search needs
 
 reaches-requires : tie.Need-reaches-requires
 reaches-requires c κs = search needs
@@ -33,8 +33,8 @@ returns-2 c =
     let at-argument-at = at-if1 .before .before in
     let start = at-argument-at .before .before in
     ap not (c .reaches .ensures)
-    ∙ box-test (start .pre .0) (start .args .e) (at-argument-at .argument-at .ensures) (at-if1 .if1 .left)
-    (c .before .walk .ensures)
+    ∙ box-test (start .pre) (start .args .e) (at-argument-at .argument-at .ensures .0) (at-if1 .if1 .left)
+    (c .before .traverse .ensures)
 
 pub box-wrong-spec : {M : Type 1} → statement M
 box-wrong-spec =
@@ -43,7 +43,7 @@ box-wrong-spec =
     argument-at-requires
     returns
     add-end
-    add-walk
-    walk-requires
+    add-traverse
+    traverse-requires
     reaches-requires
     returns-2)

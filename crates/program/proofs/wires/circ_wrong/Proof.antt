@@ -8,23 +8,23 @@ use denote.Enum.Declared.{tagOf}
 use Prim.Native.Nat.{ℕ}
 use mathlib.Core.List.{List}
 use Rattle.program.specs.Reading.{reaches}
-use Rattle.program.specs.Walking.{Ends, WalkedOf}
-use Rattle.program.specs.ReadLaws.{circ-first, circ-second}
-use Rattle.program.specs.declared.walk.Subject.the-variants.{WireType}
-use Rattle.program.specs.declared.walk.Walked.{Walked}
-use Rattle.program.specs.declared.walk.Walked.the-variants.{To, Stopped, Out}
-use Rattle.program.proofs.walk.Walked.{the-type}
+use Rattle.program.specs.Reach.{Ends, TraversedOf}
+use Rattle.program.specs.Laws.Reading.{circ-first, circ-second}
+use Rattle.program.specs.declared.traversal.Subject.the-variants.{WireType}
+use Rattle.program.specs.declared.traversal.Traversed.{Traversed}
+use Rattle.program.specs.declared.traversal.Traversed.the-variants.{To, Stopped, Out}
+use Rattle.program.proofs.traversal.Traversed.{the-type}
 use Rattle.program.proofs.wires.circ_wrong.Statement.{statement}
 use Rattle.program.proofs.wires.circ_wrong.Tie as tie
 
--- A walk that came to an end before entry m.
+-- A traverse that came to an end before entry m.
 reached
-    : {f : List ℕ} {end e m : ℕ} {r : Walked} → WalkedOf WireType f end e 0 r → r ≡ To m
+    : {f : List ℕ} {end e m : ℕ} {r : Traversed} → TraversedOf WireType f end e 0 r → r ≡ To m
     → Ends WireType f end e 0 (To m)
 reached {f} {end} {e} walked is = subst (λ r. Ends WireType f end e 0 r) is (walked .ends)
 
--- A walk that stopped or ran out.
-not-reached : (r : Walked) → (tagOf the-type r ≡ 1) ⊎ (tagOf the-type r ≡ 2) → reaches r ≡ true → ⊥
+-- A traverse that stopped or ran out.
+not-reached : (r : Traversed) → (tagOf the-type r ≡ 1) ⊎ (tagOf the-type r ≡ 2) → reaches r ≡ true → ⊥
 not-reached (To m) (inl tag) is = omega arith
 not-reached (To m) (inr tag) is = omega arith
 not-reached (Stopped at) tag is = false≢true is
@@ -33,11 +33,11 @@ not-reached Out tag is = false≢true is
 add-end : tie.Need-add-end
 add-end c = search needs
 
-add-walk : tie.Need-add-walk
-add-walk c = search needs
+add-traverse : tie.Need-add-traverse
+add-traverse c = search needs
 
-walk-requires : tie.Need-walk-requires
-walk-requires c κs = search needs
+traverse-requires : tie.Need-traverse-requires
+traverse-requires c κs = search needs
 
 enum-known-m : tie.Need-enum-known-m
 enum-known-m c = search needs
@@ -45,16 +45,11 @@ enum-known-m c = search needs
 returns : tie.Need-returns
 returns c =
     let start = c .before .before .before .before in
-    let stuck = not-reached (c .before .walk .result) (c .match .keys2) in
-    circ-first (start .pre .0) (start .args .e) stuck (c .before .walk .ensures)
+    let stuck = not-reached (c .before .traverse .result) (c .match .keys2) in
+    circ-first (start .pre .0) (start .args .e) stuck (c .before .traverse .ensures)
 
-walk-requires-2 : tie.Need-walk-requires-2
-walk-requires-2 c κs =
-    let at-walk = c .before .before .before in
-    let start = at-walk .before .before .before in
-    let sized = start .pre .0 in
-    let ends = reached (at-walk .walk .ensures) (c .before .m .given .1) in
-    record { sized = sized; end-fits = omega arith; start-fits = ends .1; binders-fit = omega arith }
+traverse-requires-2 : tie.Need-traverse-requires-2
+traverse-requires-2 c κs = search needs
 
 reaches-requires : tie.Need-reaches-requires
 reaches-requires c κs = search needs
@@ -62,20 +57,20 @@ reaches-requires c κs = search needs
 returns-2 : tie.Need-returns-2
 returns-2 c =
     let at-m = c .before .before .before in
-    let at-walk = at-m .before .before in
-    let start = at-walk .before .before .before in
-    let ends = reached (at-walk .walk .ensures) (at-m .m .given .1) in
-    ap not (c .reaches .ensures) ∙ circ-second (start .pre .0) (start .args .e) ends (c .before .walk2 .ensures)
+    let at-traverse = at-m .before .before in
+    let start = at-traverse .before .before .before in
+    let ends = reached (at-traverse .traverse .ensures) (at-m .m .given .1) in
+    ap not (c .reaches .ensures) ∙ circ-second (start .pre .0) (start .args .e) ends (c .before .traverse2 .ensures)
 
 pub circ-wrong-spec : {M : Type 1} → statement M
 circ-wrong-spec =
     tie.close
     (tie.spec
     add-end
-    add-walk
-    walk-requires
+    add-traverse
+    traverse-requires
     enum-known-m
     returns
-    walk-requires-2
+    traverse-requires-2
     reaches-requires
     returns-2)

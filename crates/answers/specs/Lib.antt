@@ -1,5 +1,0 @@
-pub mod Lengths
-pub mod Answers
-pub mod Demand2
-pub mod Safe
-pub mod Theorems

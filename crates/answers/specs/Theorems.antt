@@ -1,3 +1,0 @@
-pub mod Finishing
-pub mod Families
-pub mod Running

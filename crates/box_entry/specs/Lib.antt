@@ -1,3 +1,0 @@
-pub mod Opening
-pub mod Laws
-pub mod Stepping

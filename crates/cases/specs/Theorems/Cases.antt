@@ -1,0 +1,162 @@
+-- Every case of the table holds, by computation from the bytes of its file; so all answers to it are known.
+use Prim.Native.Nat.{ℕ}
+use mathlib.Core.Path.{_≡_, refl, sym, _∙_, ap, ap₂}
+use mathlib.Core.Bool.{false, cond}
+use mathlib.Core.List.{List, [], _∷_, _++_, map, flatMap}
+use lib.ListN.{length, drop}
+use Rattle.rules.specs.Types.{typeCodes}
+use Rattle.rules.specs.Laws.TypeCodes.{typeCodes-entries}
+use Rattle.lent.specs.Lent.{anyBelow, tooShort, zeroed, answered, bytesLeft}
+use Rattle.refusals.specs.declared.Refusal.the-variants.{Run}
+use Rattle.check_program.specs.declared.CheckAnswer.the-variants.{Accepted, Refused}
+use Rattle.check_program.specs.Answers.{Judged, accepts, refuses, checkOf, checkAnswer, checkBytes, answerTo as judgedAnswer}
+use Rattle.check_program.specs.Answers.{outTo as judgedOut}
+use Rattle.check_program.specs.Lengths.{check-lengths}
+use Rattle.check_program.specs.Laws.Opened.{opened as check-opened}
+use Rattle.listing.specs.Listing.{listing}
+use Rattle.run_answers.specs.declared.RunAnswer.the-variants.{Refused as RunRefused}
+use Rattle.run_answers.specs.Lengths.{run-lengths}
+use Rattle.run_answers.specs.Answers.{Ran, runOf, answerTo, outTo, runAnswer, runBytes}
+use Rattle.cases.specs.Table.{CheckResult, LimitedRun, limit_gives_, Case, checkedAs, RunsHold, Holds, AllHold, table}
+use Rattle.cases.specs.Table.{c1, c2, c3, c4, c5, c6, c7, c8, c9, c10, c11, c12, empty-file, sizes-alone}
+use Rattle.cases.specs.Answers.{checkAnswerTo, checkOutTo, RunsAnswer, Answers, AllAnswer}
+
+-- `runOf` with every definition of the reader, the check and the run open: a line `unfolding opened` below opens them all.
+opened : List ℕ → ℕ → Ran
+unfolding check-opened listing flatMap runOf
+opened f n = runOf f n
+
+-- Each case: what is read, what the check gives, what each run gives.
+pub c1-holds : Holds c1
+unfolding opened
+c1-holds = (refl, refl, (refl, tt))
+
+pub c2-holds : Holds c2
+unfolding opened
+c2-holds = (refl, refl, (refl, (refl, tt)))
+
+pub c3-holds : Holds c3
+unfolding opened
+c3-holds = (refl, refl, (refl, (refl, (refl, tt))))
+
+pub c4-holds : Holds c4
+unfolding opened
+c4-holds = (refl, refl, (refl, (refl, tt)))
+
+pub c5-holds : Holds c5
+unfolding opened
+c5-holds = (refl, refl, (refl, tt))
+
+pub c6-holds : Holds c6
+unfolding opened
+c6-holds = (refl, refl, (refl, tt))
+
+pub c7-holds : Holds c7
+unfolding opened
+c7-holds = (refl, refl, (refl, tt))
+
+pub c8-holds : Holds c8
+unfolding opened
+c8-holds = (refl, refl, (refl, tt))
+
+pub c9-holds : Holds c9
+unfolding opened
+c9-holds = (refl, refl, (refl, tt))
+
+pub c10-holds : Holds c10
+unfolding opened
+c10-holds = (refl, refl, (refl, (refl, tt)))
+
+pub c11-holds : Holds c11
+unfolding opened
+c11-holds = (refl, refl, (refl, tt))
+
+pub c12-holds : Holds c12
+unfolding opened
+c12-holds = (refl, refl, (refl, (refl, tt)))
+
+pub empty-file-holds : Holds empty-file
+unfolding opened
+empty-file-holds = (refl, refl, (refl, tt))
+
+pub sizes-alone-holds : Holds sizes-alone
+unfolding opened
+sizes-alone-holds = (refl, refl, (refl, tt))
+
+-- A fact and those behind it.
+_also_ : {A B : Type 0} → A → B → A × B
+a also b = (a, b)
+
+infixr 50 _also_
+-- Every case of the table holds.
+pub all-hold : AllHold table
+all-hold =
+    c1-holds also c2-holds also c3-holds also c4-holds also c5-holds also c6-holds also c7-holds
+    also c8-holds also c9-holds also c10-holds also c11-holds also c12-holds
+    also empty-file-holds also sizes-alone-holds also tt
+
+-- The answer to a judgement, by what the table has of it.
+same-answer : (j : Judged) → judgedAnswer j ≡ checkAnswerTo (checkedAs j)
+same-answer (accepts A) = ap Accepted (sym (typeCodes-entries A))
+same-answer (refuses r) = refl
+
+same-out : (out : List ℕ) (j : Judged) → judgedOut out j ≡ checkOutTo out (checkedAs j)
+same-out out (accepts A) = ap (λ n. typeCodes A ++ drop n out) (sym (typeCodes-entries A))
+same-out out (refuses r) = refl
+
+module _ (check-buffers run-buffers : List (List ℕ))
+    (check-long : tooShort check-lengths check-buffers ≡ false) (run-long : tooShort run-lengths run-buffers ≡ false)
+  where
+    -- The answer and the buffers of a run, and of a check.
+    run-answers : (f : List ℕ) (n : ℕ) (r : Ran)
+        → runOf f n ≡ r
+        → (runAnswer f n run-buffers ≡ answerTo r)
+        × (runBytes f n run-buffers ≡ answered (λ out. outTo out r) run-buffers)
+    unfolding runAnswer bytesLeft
+    run-answers f n r e = (
+      ap₂ (λ short x. cond short (RunRefused (Run 19 0)) (answerTo x)) run-long e,
+      ap₂ (λ short x. cond short run-buffers (answered (λ out. outTo out x) run-buffers)) run-long e,
+    )
+
+    -- What is written by a judgement, by what the table has of it, whatever the buffers.
+    same-buffers : (j : Judged) (buffers : List (List ℕ))
+        → answered (λ out. judgedOut out j) buffers ≡ answered (λ out. checkOutTo out (checkedAs j)) buffers
+    same-buffers j [] = refl
+    same-buffers j (out ∷ work) = ap (λ o. o ∷ map zeroed work) (same-out out j)
+
+    check-answers : (f : List ℕ) (g : CheckResult)
+        → checkedAs (checkOf f) ≡ g
+        → (checkAnswer f check-buffers ≡ checkAnswerTo g)
+        × (checkBytes f check-buffers ≡ answered (λ out. checkOutTo out g) check-buffers)
+    unfolding checkAnswer bytesLeft
+    check-answers f g e = (
+      ap₂ (λ short x. cond short (Refused (Run 19 0)) x) check-long (same-answer (checkOf f) ∙ ap checkAnswerTo e),
+      ap₂ (λ short x. cond short check-buffers x) check-long
+          (same-buffers (checkOf f) check-buffers ∙ ap (λ g. answered (λ out. checkOutTo out g) check-buffers) e),
+    )
+
+    -- One case after the other.
+    runs-answer : (f : List ℕ) (rs : List LimitedRun) → RunsHold f rs → RunsAnswer check-buffers run-buffers f rs
+    runs-answer f [] h = tt
+    runs-answer f ((limit n gives r) ∷ more) h =
+        let a = run-answers f n r (h .0) in (a .0, a .1, runs-answer f more (h .1))
+
+    answers : (c : Case) → Holds c → Answers check-buffers run-buffers c
+    answers c h =
+        let a = check-answers (c .file) (c .check) (h .1) in (a .0, a .1, runs-answer (c .file) (c .runs) (h .2))
+
+    all-answer : (cs : List Case) → AllHold cs → AllAnswer check-buffers run-buffers cs
+    all-answer [] h = tt
+    all-answer (c ∷ more) h = (answers c (h .0), all-answer more (h .1))
+
+    -- With buffers that are long enough every check and run of the table answers and leaves what the table says.
+    pub table-answers : AllAnswer check-buffers run-buffers table
+    table-answers = all-answer table all-hold
+
+-- With buffers of the least lengths, whatever they hold.
+pub least-answers : (check-buffers run-buffers : List (List ℕ))
+    → map length check-buffers ≡ check-lengths
+    → map length run-buffers ≡ run-lengths
+    → AllAnswer check-buffers run-buffers table
+least-answers check-buffers run-buffers e g =
+    table-answers check-buffers run-buffers (ap (anyBelow check-lengths) e) (ap (anyBelow run-lengths) g)

@@ -1,0 +1,15 @@
+pub mod Layout
+pub mod Scope
+pub mod Counting
+pub mod Heads
+pub mod Tests
+pub mod Arms
+pub mod Ends
+pub mod Leaves
+pub mod ArmsTwo
+pub mod Meeting
+pub mod ReadBack
+pub mod Loading
+pub mod Deciding
+pub mod ProgramTypes
+pub mod Opened

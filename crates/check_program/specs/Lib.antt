@@ -1,0 +1,15 @@
+pub mod Layout
+pub mod Scope
+pub mod Heads
+pub mod Loading
+pub mod Deciding
+pub mod ProgramTypes
+pub mod Checking
+pub mod Lengths
+pub mod Inferring
+pub mod Answers
+pub mod Demand2
+pub mod Safe
+pub mod Places
+pub mod Laws
+pub mod Theorems

@@ -1,0 +1,67 @@
+-- `check_types::entry_size` meets its contract: by the number of parts. Assumes nothing.
+use Prim.Native.Nat.{_+_, _-_}
+use mathlib.Core.Path.{_∙_, ap, ap₂}
+use Rattle.words.specs.Words.{words}
+use Rattle.check_types.specs.Cells.{cellSize}
+use Rattle.check_types.specs.Laws.Load.{size-of-wire, size-of-one, size-of-two}
+use borrow.Author.Needs.{needs}
+use Rattle.check_types.proofs.entry_size.Statement.{statement}
+use Rattle.check_types.proofs.entry_size.Tie as tie
+
+returns : tie.Need-returns
+returns c =
+    let s = c .before .before .args in
+    let w = words (s .work .now) in
+    size-of-wire w (s .n) (s .kind) (c .if1 .taken)
+
+saturating-sub-requires : tie.Need-saturating-sub-requires
+saturating-sub-requires c κs = search needs
+
+cell-size-requires : tie.Need-cell-size-requires
+cell-size-requires c κs = search needs
+
+add-result : tie.Need-add-result
+add-result c = search needs
+
+returns-2 : tie.Need-returns-2
+returns-2 c =
+    let s = c .before .before .before .before .before .args in
+    let w = words (s .work .now) in
+    let e = c .before .cell-size .ensures .0 ∙ ap (cellSize w) (c .before .before .saturating-sub .ensures) in
+    ap (λ x. 1 + x) e ∙ size-of-one w (s .n) (s .kind) (c .if2 .taken)
+
+add-result-2 : tie.Need-add-result-2
+add-result-2 c = search needs
+
+saturating-sub-requires-2 : tie.Need-saturating-sub-requires-2
+saturating-sub-requires-2 c κs = search needs
+
+cell-size-requires-2 : tie.Need-cell-size-requires-2
+cell-size-requires-2 c κs = search needs
+
+add-result-3 : tie.Need-add-result-3
+add-result-3 c = search needs
+
+returns-3 : tie.Need-returns-3
+returns-3 c =
+    let s = c .before .before .before .before .before .before .before .args in
+    let w = words (s .work .now) in
+    let e = c .before .before .before .cell-size .ensures .0 ∙ ap (cellSize w) (c .before .before .before .before .saturating-sub .ensures) in
+    let behind = c .before .saturating-sub2 .ensures ∙ ap₂ (λ x y. x - y) (c .before .before .before .before .saturating-sub .ensures) e in
+    let e2 = c .cell-size2 .ensures .0 ∙ ap (cellSize w) behind in
+    ap₂ (λ x y. 1 + x + y) e e2 ∙ size-of-two w (s .n) (s .kind) (c .before .before .before .before .before .if1 .left) (c .before .before .if2 .left)
+
+pub entry-size-spec : {M : Type 1} → statement M
+entry-size-spec =
+    tie.close
+    (tie.spec
+    returns
+    saturating-sub-requires
+    cell-size-requires
+    add-result
+    returns-2
+    add-result-2
+    saturating-sub-requires-2
+    cell-size-requires-2
+    add-result-3
+    returns-3)

@@ -1,0 +1,128 @@
+-- Laws of the meaning of cells.
+use Prim.Native.Nat.{ℕ, _+_, _*_, _≤_, _<_}
+use native.Mathlib.Omega.{arith}
+use mathlib.Core.Path.{_≡_, refl, sym, _∙_, subst}
+use mathlib.Core.List.{List}
+use Rattle.rules.specs.Types.{Wire, Bit, Qubit, Ty, wire, _⊗_, _⊸_, !_, Circ, entries, wireCode}
+use Rattle.check_types.specs.Cells.{cellKind, cellFirst, cellSecond, Cell, Agree, Denotes, wire-cell, pair-cell}
+use Rattle.check_types.specs.Cells.{function-cell, reusable-cell, circuit-cell, Made, made-pair, made-function}
+use Rattle.check_types.specs.Cells.{made-circuit}
+
+-- The quadword of a cell.
+pub cell-of : {w : List ℕ} {n i : ℕ} {A : Ty} → Denotes w n i A → Cell w n i A
+cell-of (wire-cell r) = r
+cell-of (pair-cell r d e) = r
+cell-of (function-cell r d e) = r
+cell-of (reusable-cell r d) = r
+cell-of (circuit-cell r d e) = r
+
+-- Agreement is kept for fewer cells, and chains.
+pub agree-refl : (w : List ℕ) (n : ℕ) → Agree w w n
+agree-refl w n = record { words-same = λ k h. refl }
+
+pub agree-less : {w w′ : List ℕ} {n : ℕ} (m : ℕ) → m ≤ n → Agree w w′ n → Agree w w′ m
+agree-less m h a = record { words-same = λ k b. a .words-same k (omega arith) }
+
+pub agree-trans : {w w′ w″ : List ℕ} {n : ℕ} → Agree w w′ n → Agree w′ w″ n → Agree w w″ n
+agree-trans a b = record { words-same = λ k h. b .words-same k h ∙ a .words-same k h }
+
+-- The meaning of a cell is kept where the first n quadwords agree, and there may be more cells.
+cell-kept : {w w′ : List ℕ} {n n′ i : ℕ} {A : Ty} → Agree w w′ n → n ≤ n′ → Cell w n i A → Cell w′ n′ i A
+cell-kept {i = i} a h r =
+    let b = r .below in
+    record {
+      below = omega arith;
+      kind = a .words-same (4 * i) (omega arith) ∙ r .kind;
+      size = a .words-same (4 * i + 3) (omega arith) ∙ r .size;
+      bounded = r .bounded;
+    }
+
+first-kept : {w w′ : List ℕ} {n i : ℕ} {A : Ty} → Agree w w′ n → Cell w n i A → cellFirst w i ≡ cellFirst w′ i
+first-kept {i = i} a r = let b = r .below in sym (a .words-same (4 * i + 1) (omega arith))
+
+second-kept : {w w′ : List ℕ} {n i : ℕ} {A : Ty} → Agree w w′ n → Cell w n i A → cellSecond w i ≡ cellSecond w′ i
+second-kept {i = i} a r = let b = r .below in sym (a .words-same (4 * i + 2) (omega arith))
+
+pub denotes-kept : {w w′ : List ℕ} {n n′ i : ℕ} {A : Ty} → Agree w w′ n → n ≤ n′ → Denotes w n i A → Denotes w′ n′ i A
+denotes-kept a h (wire-cell r) = wire-cell (cell-kept a h r)
+denotes-kept {w′ = w′} {n′ = n′} a h (pair-cell {A = A} {B = B} r d e) =
+    pair-cell
+    (cell-kept a h r)
+    (subst (λ j. Denotes w′ n′ j A) (first-kept a r) (denotes-kept a h d))
+    (subst (λ j. Denotes w′ n′ j B) (second-kept a r) (denotes-kept a h e))
+denotes-kept {w′ = w′} {n′ = n′} a h (function-cell {A = A} {B = B} r d e) =
+    function-cell
+    (cell-kept a h r)
+    (subst (λ j. Denotes w′ n′ j A) (first-kept a r) (denotes-kept a h d))
+    (subst (λ j. Denotes w′ n′ j B) (second-kept a r) (denotes-kept a h e))
+denotes-kept {w′ = w′} {n′ = n′} a h (reusable-cell {A = A} r d) =
+    reusable-cell (cell-kept a h r) (subst (λ j. Denotes w′ n′ j A) (first-kept a r) (denotes-kept a h d))
+denotes-kept {w′ = w′} {n′ = n′} a h (circuit-cell {T = T} {U = U} r d e) =
+    circuit-cell
+    (cell-kept a h r)
+    (subst (λ j. Denotes w′ n′ j T) (first-kept a r) (denotes-kept a h d))
+    (subst (λ j. Denotes w′ n′ j U) (second-kept a r) (denotes-kept a h e))
+
+pub made-entries : {k : ℕ} {A B C : Ty} → Made k A B C → entries C ≡ 1 + (entries A + entries B)
+made-entries made-pair = refl
+made-entries made-function = refl
+made-entries made-circuit = refl
+
+pub made-kind : {k : ℕ} {A B C : Ty} → Made k A B C → 2 ≤ k
+made-kind made-pair = omega arith
+made-kind made-function = omega arith
+made-kind made-circuit = omega arith
+
+pub made-not-reusable : {k : ℕ} {A B C : Ty} → Made k A B C → k ≡ 4 → ⊥
+made-not-reusable made-pair e = omega arith
+made-not-reusable made-function e = omega arith
+made-not-reusable made-circuit e = omega arith
+
+-- A type has at least one entry.
+pub entries-positive : (A : Ty) → 0 < entries A
+entries-positive (wire α) = omega arith
+entries-positive (A ⊗ B) = omega arith
+entries-positive (A ⊸ B) = omega arith
+entries-positive (! A) = omega arith
+entries-positive (Circ T U) = omega arith
+
+-- A cell by the number of its parts.
+pub data View (w : List ℕ) (n i : ℕ) : Ty → Type 0 where
+  no-part : (α : Wire) → cellKind w i ≡ wireCode α → View w n i (wire α)
+  two-parts : {k : ℕ} {A B C : Ty}
+      → Made k A B C → cellKind w i ≡ k → Denotes w n (cellFirst w i) A → Denotes w n (cellSecond w i) B
+      → View w n i C
+  one-part : {A : Ty} → cellKind w i ≡ 4 → Denotes w n (cellFirst w i) A → View w n i (! A)
+
+pub view : {w : List ℕ} {n i : ℕ} {A : Ty} → Denotes w n i A → View w n i A
+view (wire-cell {α = α} r) = no-part α (r .kind)
+view (pair-cell r d e) = two-parts made-pair (r .kind) d e
+view (function-cell r d e) = two-parts made-function (r .kind) d e
+view (reusable-cell r d) = one-part (r .kind) d
+view (circuit-cell r d e) = two-parts made-circuit (r .kind) d e
+
+pub wire-kind : (α : Wire) → wireCode α < 2
+wire-kind Bit = omega arith
+wire-kind Qubit = omega arith
+
+pub same-wire : (α β : Wire) → wireCode α ≡ wireCode β → α ≡ β
+same-wire Bit Bit e = refl
+same-wire Bit Qubit e = absurd (omega arith)
+same-wire Qubit Bit e = absurd (omega arith)
+same-wire Qubit Qubit e = refl
+
+-- Types of one kind are equal where their parts are, and only there.
+pub made-whole : {k : ℕ} {A B C A′ B′ C′ : Ty} → Made k A B C → Made k A′ B′ C′ → A ≡ A′ → B ≡ B′ → C ≡ C′
+made-whole made-pair made-pair p q = cc
+made-whole made-function made-function p q = cc
+made-whole made-circuit made-circuit p q = cc
+
+pub made-first : {k : ℕ} {A B C A′ B′ C′ : Ty} → Made k A B C → Made k A′ B′ C′ → C ≡ C′ → A ≡ A′
+made-first made-pair made-pair e = cc
+made-first made-function made-function e = cc
+made-first made-circuit made-circuit e = cc
+
+pub made-second : {k : ℕ} {A B C A′ B′ C′ : Ty} → Made k A B C → Made k A′ B′ C′ → C ≡ C′ → B ≡ B′
+made-second made-pair made-pair e = cc
+made-second made-function made-function e = cc
+made-second made-circuit made-circuit e = cc

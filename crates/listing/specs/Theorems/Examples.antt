@@ -1,0 +1,52 @@
+-- Listings by computation: of c1 to c3 and c10, as these cases end in crate rules, and of a circuit with a Bit.
+use mathlib.Core.Path.{_≡_, refl}
+use mathlib.Core.List.{[], _∷_, flatMap}
+use Rattle.rules.specs.Types.{Bit, Qubit}
+use Rattle.rules.specs.Terms.{single, both, _on_}
+use Rattle.rules.specs.Circuits.{circuit}
+use Rattle.rules.specs.CaseTerms.{one-label, two-labels, H, CNOT, Meas}
+use Rattle.listing.specs.Listing.{listing, most-bytes}
+
+-- c1: "output wire 0".
+pub c1-listing : listing (circuit one-label []) (single 0)
+    ≡ 1 ∷ 0 ∷ 0 ∷ 0 ∷ 1 ∷ 0 ∷ 129 ∷ 255 ∷ 255 ∷ 255 ∷ 255 ∷ 0 ∷ 0 ∷ []
+unfolding listing flatMap
+c1-listing = refl
+
+-- c2: "listing (hex) 01 00 01 00 01 00 81 00 FF FF FF FF 00 00 FF FF 01 00".
+pub c2-listing : listing (circuit one-label ((H on 0 ∷ []) ∷ [])) (single 1)
+    ≡ 1 ∷ 0 ∷ 1 ∷ 0 ∷ 1 ∷ 0 ∷ 129 ∷ 0 ∷ 255 ∷ 255 ∷ 255 ∷ 255 ∷ 0 ∷ 0 ∷ 255 ∷ 255 ∷ 1 ∷ 0 ∷ []
+unfolding listing flatMap
+c2-listing = refl
+
+-- c3: CNOT takes wires 0 and 1; the outputs are 3 and 2.
+pub c3-listing : listing (circuit two-labels ((CNOT on 0 ∷ 1 ∷ []) ∷ [])) (both (single 3) (single 2))
+    ≡ 2 ∷ 0 ∷ 1 ∷ 0 ∷ 2 ∷ 0
+    ∷ 129 ∷ 129 ∷ 5
+    ∷ 255 ∷ 255 ∷ 255 ∷ 255 ∷ 255 ∷ 255 ∷ 255 ∷ 255 ∷ 0 ∷ 0 ∷ 1 ∷ 0
+    ∷ 3 ∷ 0 ∷ 2 ∷ 0 ∷ []
+unfolding listing flatMap
+c3-listing = refl
+
+-- c10: two gates, the older one on wire 0 first.
+pub c10-listing : listing (circuit one-label ((H on 1 ∷ []) ∷ (H on 0 ∷ []) ∷ [])) (single 2)
+    ≡ 1 ∷ 0 ∷ 2 ∷ 0 ∷ 1 ∷ 0
+    ∷ 129 ∷ 0 ∷ 0
+    ∷ 255 ∷ 255 ∷ 255 ∷ 255 ∷ 0 ∷ 0 ∷ 255 ∷ 255 ∷ 1 ∷ 0 ∷ 255 ∷ 255
+    ∷ 2 ∷ 0 ∷ []
+unfolding listing flatMap
+c10-listing = refl
+
+-- Inputs Bit and Qubit: BX, gate 7, takes both, then Meas takes the Qubit that BX makes, wire 3.
+pub bit-listing
+    : listing (circuit (Bit ∷ Qubit ∷ []) ((Meas on 3 ∷ []) ∷ (7 on 0 ∷ 1 ∷ []) ∷ [])) (both (single 2) (single 4))
+    ≡ 2 ∷ 0 ∷ 2 ∷ 0 ∷ 2 ∷ 0
+    ∷ 128 ∷ 129 ∷ 7 ∷ 6
+    ∷ 255 ∷ 255 ∷ 255 ∷ 255 ∷ 255 ∷ 255 ∷ 255 ∷ 255 ∷ 0 ∷ 0 ∷ 1 ∷ 0 ∷ 3 ∷ 0 ∷ 255 ∷ 255
+    ∷ 2 ∷ 0 ∷ 4 ∷ 0 ∷ []
+unfolding listing flatMap
+bit-listing = refl
+
+-- "Length: 6 + 5(L+G) + 2O, at most 11,078."
+pub longest-listing : most-bytes ≡ 11078
+longest-listing = refl

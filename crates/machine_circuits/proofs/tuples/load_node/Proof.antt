@@ -1,0 +1,62 @@
+-- `machine_circuits::tuples::load_node` meets its contract. Assumes nothing.
+use Prim.Native.Nat.{_%_}
+use native.Mathlib.Omega.{arith}
+use mathlib.Core.Path.{sym, _∙_, ap}
+use mathlib.Core.Bool.{cond}
+use lib.ListN.{set, take}
+use borrow.Author.Tests.{eq-eqb, ne-eqb}
+use borrow.Author.Needs.{needs}
+use Rattle.rules.specs.Circuits.{rename}
+use Rattle.machine_terms.specs.Trees.{node}
+use Rattle.words.specs.Words.{words}
+use Rattle.rules.specs.Slots.{no-wire}
+use Rattle.machine_nodes.specs.Nodes.{nodesIn}
+use Rattle.machine_nodes.specs.Laws.Nodes.{node-put}
+use Rattle.machine_circuits.proofs.tuples.load_node.Statement.{statement}
+use Rattle.machine_circuits.proofs.tuples.load_node.Tie as tie
+
+put-node-requires : tie.Need-put-node-requires
+put-node-requires c κs = search needs
+
+same-length : tie.Need-same-length
+same-length c = search needs
+
+returns : tie.Need-returns
+returns c = λ h.
+    let a = c .before .before .before .before .before .before .before .args in
+    let ks = take (a .n) (words (a .labels .now)) in
+    node-put _ _ _ _ _ (c .before .before .put-node .ensures)
+    ∙ ap
+    (λ b. set (nodesIn (a .nodes .now)) (a .to) (cond b (node 20 0) (node 17 (rename ks (a .next) (a .word) % 65536))))
+    (sym (eq-eqb (a .word) no-wire (c .before .before .before .before .if1 .taken)))
+
+renamed-requires : tie.Need-renamed-requires
+renamed-requires c κs = search needs
+
+put-node-requires-2 : tie.Need-put-node-requires-2
+put-node-requires-2 c κs = search needs
+
+same-length-2 : tie.Need-same-length-2
+same-length-2 c = search needs
+
+returns-2 : tie.Need-returns-2
+returns-2 c = λ h.
+    let a = c .before .before .before .before .before .before .before .before .args in
+    let ks = take (a .n) (words (a .labels .now)) in
+    node-put _ _ _ _ _ (c .before .before .put-node2 .ensures)
+    ∙ ap (λ w. set (nodesIn (a .nodes .now)) (a .to) (node 17 (w % 65536))) (c .before .before .before .renamed .ensures (omega arith))
+    ∙ ap
+    (λ b. set (nodesIn (a .nodes .now)) (a .to) (cond b (node 20 0) (node 17 (rename ks (a .next) (a .word) % 65536))))
+    (sym (ne-eqb (a .word) no-wire (c .before .before .before .before .before .if1 .left)))
+
+pub load-node-spec : {M : Type 1} → statement M
+load-node-spec =
+    tie.close
+    (tie.spec
+    put-node-requires
+    same-length
+    returns
+    renamed-requires
+    put-node-requires-2
+    same-length-2
+    returns-2)

@@ -1,0 +1,9 @@
+pub mod Gates
+pub mod Copies
+pub mod Prefixes
+pub mod Tuples
+pub mod Writing
+pub mod Outputs
+pub mod Typed
+pub mod Held
+pub mod Applying

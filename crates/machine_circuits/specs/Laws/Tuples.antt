@@ -1,0 +1,245 @@
+-- Laws of specs/Tuples.antt.
+use Prim.Native.Nat.{ℕ, zero, suc, _+_, _≤_, _<_, _%_}
+use native.Mathlib.Omega.{arith}
+use mathlib.Core.Path.{_≡_, refl, sym, _∙_, ap, ap₂}
+use mathlib.Core.Bool.{cond}
+use mathlib.Core.List.{List, [], _∷_, _++_, map, append-assoc, append-nil}
+use lib.Dec.{T as IsTrue, eqb}
+use lib.ListN.{length, take, drop, length-append}
+use borrow.Author.Tests.{eq-eqb, ne-eqb}
+use Rattle.rules.specs.Types.{Wire, Bit, Qubit, Ty, wire, _⊗_, _⊸_, !_, Circ, isWireType, wires, entries, wireCode}
+use Rattle.rules.specs.Types.{typeCodes}
+use Rattle.rules.specs.Terms.{Tuple, single, both, labels, tupleFrom}
+use Rattle.rules.specs.Circuits.{rename, renameTuple}
+use Rattle.rules.specs.Laws.Wires.{and-left, and-right}
+use Rattle.machine_terms.specs.Trees.{Node, node, kind, argument, Tree, preorder, tupleTree}
+use Rattle.machine_terms.specs.Laws.Tuples.{IsTuple, is-label, is-pair}
+use Rattle.rules.specs.Slots.{no-wire}
+use Rattle.machine_circuits.specs.Layout.{tupleWords}
+use Rattle.machine_nodes.specs.Nodes.{nodeAt, no-node}
+use Rattle.machine_circuits.specs.Laws.Prefixes.{prefix-next}
+use Rattle.machine_circuits.specs.Copies.{AllBelow}
+use Rattle.machine_circuits.specs.Laws.Copies.{renamed-below}
+use Rattle.machine_circuits.specs.Tuples.{labelOf, labelNumbers, labelsPassed, wordOf, loadedNode, nodeOfCode}
+use Rattle.machine_circuits.specs.Tuples.{labelAfter, codeSpan}
+
+-- A tuple has as many nodes as words, and at least one.
+pub tuple-size : (k : Tuple) → length (preorder (tupleTree k)) ≡ length (tupleWords k)
+tuple-size (single ℓ) = refl
+tuple-size (both k l) =
+    ap suc (
+    length-append (preorder (tupleTree k)) (preorder (tupleTree l))
+    ∙ ap₂ _+_ (tuple-size k) (tuple-size l)
+    ∙ sym (length-append (tupleWords k) (tupleWords l))
+    )
+
+-- The tuple of a wire type's wires has as many nodes as the type has entries.
+pub tuple-entries : (ℓ : ℕ) (T : Ty) → IsTrue (isWireType T) → length (preorder (tupleTree (tupleFrom ℓ T))) ≡ entries T
+tuple-entries ℓ (wire α) t = refl
+tuple-entries ℓ (A ⊗ B) t =
+    let k = preorder (tupleTree (tupleFrom ℓ A)) in
+    let l = preorder (tupleTree (tupleFrom (ℓ + length (wires A)) B)) in
+    omega (
+      arith,
+      length-append k l,
+      tuple-entries ℓ A (and-left (isWireType A) (isWireType B) t),
+      tuple-entries (ℓ + length (wires A)) B (and-right (isWireType A) (isWireType B) t),
+    )
+tuple-entries ℓ (A ⊸ B) t = absurd t
+tuple-entries ℓ (! A) t = absurd t
+tuple-entries ℓ (Circ T U) t = absurd t
+
+-- No type has more wires than entries.
+pub wires-few : (T : Ty) → length (wires T) ≤ entries T
+wires-few (wire α) = omega arith
+wires-few (A ⊗ B) = omega (arith, length-append (wires A) (wires B), wires-few A, wires-few B)
+wires-few (A ⊸ B) = omega arith
+wires-few (! A) = omega arith
+wires-few (Circ T U) = omega arith
+
+pub labels-append : (ns ms : List Node) → labelNumbers (ns ++ ms) ≡ labelNumbers ns ++ labelNumbers ms
+labels-append [] ms = refl
+labels-append (n ∷ ns) ms =
+    ap (λ l. labelOf n ++ l) (labels-append ns ms)
+    ∙ sym (append-assoc (labelOf n) (labelNumbers ns) (labelNumbers ms))
+
+pub labels-tree : {v : Tree} {k : Tuple} → IsTuple v k → labelNumbers (preorder v) ≡ labels k
+labels-tree (is-label {n = n} e) = ap (λ b. cond b (argument n ∷ []) [] ++ []) (eq-eqb (kind n) 17 e)
+labels-tree (is-pair {n = n} {t = t} {u = u} {k = k} {l = l} e i j) =
+    ap (λ b. cond b (argument n ∷ []) [] ++ labelNumbers (preorder t ++ preorder u)) (ne-eqb (kind n) 17 (λ h. omega arith))
+    ∙ labels-append (preorder t) (preorder u)
+    ∙ ap₂ _++_ (labels-tree i) (labels-tree j)
+
+labels-next : (ns : List Node) (at i : ℕ)
+    → at + i < length ns
+    → labelsPassed ns at (i + 1) ≡ labelsPassed ns at i ++ labelOf (nodeAt ns (at + i))
+labels-next ns at i h =
+    ap labelNumbers (prefix-next ns at i no-node h)
+    ∙ labels-append (take i (drop at ns)) (nodeAt ns (at + i) ∷ [])
+    ∙ ap (λ l. labelsPassed ns at i ++ l) (append-nil (labelOf (nodeAt ns (at + i))))
+
+pub label-passed : (ns : List Node) (at i : ℕ)
+    → at + i < length ns
+    → kind (nodeAt ns (at + i)) ≡ 17
+    → labelsPassed ns at (i + 1) ≡ labelsPassed ns at i ++ (argument (nodeAt ns (at + i)) ∷ [])
+label-passed ns at i h e =
+    labels-next ns at i h
+    ∙ ap
+    (λ b. labelsPassed ns at i ++ cond b (argument (nodeAt ns (at + i)) ∷ []) [])
+    (eq-eqb (kind (nodeAt ns (at + i))) 17 e)
+
+pub other-passed : (ns : List Node) (at i : ℕ)
+    → at + i < length ns
+    → (kind (nodeAt ns (at + i)) ≡ 17 → ⊥)
+    → labelsPassed ns at (i + 1) ≡ labelsPassed ns at i
+other-passed ns at i h e =
+    labels-next ns at i h
+    ∙ ap
+    (λ b. labelsPassed ns at i ++ cond b (argument (nodeAt ns (at + i)) ∷ []) [])
+    (ne-eqb (kind (nodeAt ns (at + i))) 17 e)
+    ∙ append-nil (labelsPassed ns at i)
+
+map-append : {A B : Type 0} (f : A → B) (xs ys : List A) → map f (xs ++ ys) ≡ map f xs ++ map f ys
+map-append f [] ys = refl
+map-append f (x ∷ xs) ys = ap (λ l. f x ∷ l) (map-append f xs ys)
+
+pub words-tree : {v : Tree} {k : Tuple} → IsTuple v k → map wordOf (preorder v) ≡ tupleWords k
+words-tree (is-label {n = n} e) =
+    ap (λ b. cond b no-wire (argument n) ∷ []) (ne-eqb (kind n) 20 (λ h. omega arith))
+words-tree (is-pair {n = n} {t = t} {u = u} e i j) =
+    ap₂
+    (λ b l. cond b no-wire (argument n) ∷ l)
+    (eq-eqb (kind n) 20 e)
+    (map-append wordOf (preorder t) (preorder u) ∙ ap₂ _++_ (words-tree i) (words-tree j))
+
+all-below-left : (m : ℕ) (xs ys : List ℕ) → AllBelow m (xs ++ ys) → AllBelow m xs
+all-below-left m [] ys h = tt
+all-below-left m (x ∷ xs) ys h = (h .0, all-below-left m xs ys (h .1))
+
+all-below-right : (m : ℕ) (xs ys : List ℕ) → AllBelow m (xs ++ ys) → AllBelow m ys
+all-below-right m [] ys h = h
+all-below-right m (x ∷ xs) ys h = all-below-right m xs ys (h .1)
+
+loaded-label : (ks : List ℕ) (next m ℓ : ℕ)
+    → AllBelow 65536 ks
+    → next + m ≤ no-wire
+    → ℓ < m
+    → loadedNode ks next ℓ ≡ node 17 (rename ks next ℓ)
+loaded-label ks next m ℓ low room below =
+    let small : rename ks next ℓ < 65536 = renamed-below ks next m ℓ low room below in
+    let e : rename ks next ℓ % 65536 ≡ rename ks next ℓ = omega arith in
+    ap
+    (λ b. cond b (node 20 0) (node 17 (rename ks next ℓ % 65536)))
+    (ne-eqb ℓ no-wire (λ p. omega arith))
+    ∙ ap (node 17) e
+
+pub loaded-tuple : (ks : List ℕ) (next m : ℕ) (k : Tuple)
+    → AllBelow 65536 ks
+    → next + m ≤ no-wire
+    → AllBelow m (labels k)
+    → map (loadedNode ks next) (tupleWords k) ≡ preorder (tupleTree (renameTuple ks next k))
+loaded-tuple ks next m (single ℓ) low room below = ap (λ n. n ∷ []) (loaded-label ks next m ℓ low room (below .0))
+loaded-tuple ks next m (both k l) low room below =
+    ap
+    (λ t. node 20 0 ∷ t)
+    (map-append (loadedNode ks next) (tupleWords k) (tupleWords l)
+    ∙ ap₂
+    _++_
+    (loaded-tuple ks next m k low room (all-below-left m (labels k) (labels l) below))
+    (loaded-tuple ks next m l low room (all-below-right m (labels k) (labels l) below)))
+
+abbrev pub nodesOfCodes : ℕ → List ℕ → List Node
+nodesOfCodes ℓ [] = []
+nodesOfCodes ℓ (c ∷ cs) = nodeOfCode ℓ c ∷ nodesOfCodes (labelAfter ℓ c) cs
+
+abbrev pub labelBehind : ℕ → List ℕ → ℕ
+labelBehind ℓ [] = ℓ
+labelBehind ℓ (c ∷ cs) = labelBehind (labelAfter ℓ c) cs
+
+pub nodes-append : (ℓ : ℕ) (cs ds : List ℕ)
+    → nodesOfCodes ℓ (cs ++ ds) ≡ nodesOfCodes ℓ cs ++ nodesOfCodes (labelBehind ℓ cs) ds
+nodes-append ℓ [] ds = refl
+nodes-append ℓ (c ∷ cs) ds = ap (λ t. nodeOfCode ℓ c ∷ t) (nodes-append (labelAfter ℓ c) cs ds)
+
+pub behind-append : (ℓ : ℕ) (cs ds : List ℕ) → labelBehind ℓ (cs ++ ds) ≡ labelBehind (labelBehind ℓ cs) ds
+behind-append ℓ [] ds = refl
+behind-append ℓ (c ∷ cs) ds = behind-append (labelAfter ℓ c) cs ds
+
+pub length-nodesOfCodes : (ℓ : ℕ) (cs : List ℕ) → length (nodesOfCodes ℓ cs) ≡ length cs
+length-nodesOfCodes ℓ [] = refl
+length-nodesOfCodes ℓ (c ∷ cs) = ap suc (length-nodesOfCodes (labelAfter ℓ c) cs)
+
+-- A wire type has no code 2 at a wire.
+wire-code : (ℓ : ℕ) (α : Wire) → nodeOfCode ℓ (wireCode α) ≡ node 17 (ℓ % 65536)
+wire-code ℓ Bit = refl
+wire-code ℓ Qubit = refl
+
+wire-after : (ℓ : ℕ) (α : Wire) → labelAfter ℓ (wireCode α) ≡ ℓ + 1
+wire-after ℓ Bit = refl
+wire-after ℓ Qubit = refl
+
+-- Behind the tuple of a wire type, as many labels are used as it has wires.
+pub behind-type : (ℓ : ℕ) (T : Ty) → IsTrue (isWireType T) → labelBehind ℓ (typeCodes T) ≡ ℓ + length (wires T)
+behind-type ℓ (wire α) t = wire-after ℓ α
+behind-type ℓ (A ⊗ B) t =
+    behind-append ℓ (typeCodes A) (typeCodes B)
+    ∙ ap (λ j. labelBehind j (typeCodes B)) (behind-type ℓ A (and-left (isWireType A) (isWireType B) t))
+    ∙ behind-type (ℓ + length (wires A)) B (and-right (isWireType A) (isWireType B) t)
+    ∙ omega (arith, length-append (wires A) (wires B))
+behind-type ℓ (A ⊸ B) t = absurd t
+behind-type ℓ (! A) t = absurd t
+behind-type ℓ (Circ T U) t = absurd t
+
+-- The nodes from a wire type's codes are those of the tuple of its wires.
+pub nodes-type : (ℓ : ℕ) (T : Ty)
+    → IsTrue (isWireType T)
+    → ℓ + length (wires T) ≤ 65536
+    → nodesOfCodes ℓ (typeCodes T) ≡ preorder (tupleTree (tupleFrom ℓ T))
+nodes-type ℓ (wire α) t room =
+    let e : ℓ % 65536 ≡ ℓ = omega arith in
+    ap (λ n. n ∷ []) (wire-code ℓ α ∙ ap (node 17) e)
+nodes-type ℓ (A ⊗ B) t room =
+    let long : length (wires A ++ wires B) ≡ length (wires A) + length (wires B) = length-append (wires A) (wires B) in
+    ap
+    (λ l. node 20 0 ∷ l)
+    (nodes-append ℓ (typeCodes A) (typeCodes B)
+    ∙ ap₂
+    _++_
+    (nodes-type ℓ A (and-left (isWireType A) (isWireType B) t) (omega arith))
+    (ap (λ j. nodesOfCodes j (typeCodes B)) (behind-type ℓ A (and-left (isWireType A) (isWireType B) t))
+    ∙ nodes-type (ℓ + length (wires A)) B (and-right (isWireType A) (isWireType B) t) (omega arith)))
+nodes-type ℓ (A ⊸ B) t room = absurd t
+nodes-type ℓ (! A) t room = absurd t
+nodes-type ℓ (Circ T U) t room = absurd t
+
+pub span-none : (cs : List ℕ) → codeSpan cs 0 ≡ 0
+unfolding codeSpan
+span-none [] = refl
+span-none (c ∷ cs) = refl
+
+pub span-at-most : (cs : List ℕ) (waiting : ℕ) → codeSpan cs waiting ≤ length cs
+unfolding codeSpan
+span-at-most [] waiting = omega arith
+span-at-most (c ∷ cs) zero = omega arith
+span-at-most (c ∷ cs) (suc waiting) = omega (arith, span-at-most cs (cond (eqb c 2) (suc (suc waiting)) waiting))
+
+wire-waits : (w : ℕ) (α : Wire) → cond (eqb (wireCode α) 2) (suc (suc w)) w ≡ w
+wire-waits w Bit = refl
+wire-waits w Qubit = refl
+
+pub span-type : (T : Ty) (cs : List ℕ) (waiting : ℕ)
+    → IsTrue (isWireType T)
+    → codeSpan (typeCodes T ++ cs) (suc waiting) ≡ entries T + codeSpan cs waiting
+unfolding codeSpan
+span-type (wire α) cs waiting t =
+    ap (λ w. suc (codeSpan cs w)) (wire-waits waiting α) ∙ omega arith
+span-type (A ⊗ B) cs waiting t =
+    rw (append-assoc (typeCodes A) (typeCodes B) cs)
+    (omega (
+      arith,
+      span-type A (typeCodes B ++ cs) (suc waiting) (and-left (isWireType A) (isWireType B) t),
+      span-type B cs waiting (and-right (isWireType A) (isWireType B) t),
+    ))
+span-type (A ⊸ B) cs waiting t = absurd t
+span-type (! A) cs waiting t = absurd t
+span-type (Circ T U) cs waiting t = absurd t

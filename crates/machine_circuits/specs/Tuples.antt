@@ -1,0 +1,51 @@
+-- Label tuples as nodes, as the words of a result, and as the tuple of a type's wires.
+use Prim.Native.Nat.{ℕ, zero, suc, _+_, _%_}
+use mathlib.Core.Bool.{cond}
+use mathlib.Core.List.{List, [], _∷_, _++_}
+use lib.Dec.{eqb}
+use lib.ListN.{take, drop}
+use Rattle.rules.specs.Circuits.{rename}
+use Rattle.rules.specs.Gates.{gateType}
+use Rattle.rules.specs.GateCodes.{circCodes}
+use Rattle.machine_terms.specs.Trees.{Node, node, kind, argument}
+use Rattle.rules.specs.Slots.{no-wire}
+use Rattle.machine_circuits.specs.declared.tuples.Source.{Source}
+use Rattle.machine_circuits.specs.declared.tuples.Source.the-variants.{Section, Gate}
+
+-- The labels among nodes, in order.
+abbrev pub labelOf : Node → List ℕ
+labelOf n = cond (eqb (kind n) 17) (argument n ∷ []) []
+
+abbrev pub labelNumbers : List Node → List ℕ
+labelNumbers [] = []
+labelNumbers (n ∷ ns) = labelOf n ++ labelNumbers ns
+
+-- The labels among the nodes passed, and with one node more.
+abbrev pub labelsPassed : List Node → ℕ → ℕ → List ℕ
+labelsPassed ns at i = labelNumbers (take i (drop at ns))
+
+-- The word of a node in a result.
+abbrev pub wordOf : Node → ℕ
+wordOf n = cond (eqb (kind n) 20) no-wire (argument n)
+
+-- The node of a word of a result, its wire renamed.
+abbrev pub loadedNode : List ℕ → ℕ → ℕ → Node
+loadedNode ks next w = cond (eqb w no-wire) (node 20 0) (node 17 (rename ks next w % 65536))
+
+-- The nodes of a tuple from the codes of its type: a pair for a pair, else the next label.
+abbrev pub nodeOfCode : ℕ → ℕ → Node
+nodeOfCode ℓ c = cond (eqb c 2) (node 20 0) (node 17 (ℓ % 65536))
+
+abbrev pub labelAfter : ℕ → ℕ → ℕ
+labelAfter ℓ c = cond (eqb c 2) ℓ (ℓ + 1)
+
+-- The codes that a source has, where the words of the types' buffer are these.
+abbrev pub codesOf : List ℕ → Source → List ℕ
+codesOf ws Section = ws
+codesOf ws (Gate n) = circCodes (gateType n)
+
+-- How many codes so many wire types take that stand one behind the other; all codes where they run out before.
+unfoldable pub codeSpan : List ℕ → ℕ → ℕ
+codeSpan [] waiting = zero
+codeSpan (c ∷ cs) zero = zero
+codeSpan (c ∷ cs) (suc waiting) = suc (codeSpan cs (cond (eqb c 2) (suc (suc waiting)) waiting))

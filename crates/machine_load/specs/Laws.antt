@@ -1,0 +1,5 @@
+pub mod Trees
+pub mod Values
+pub mod Start
+pub mod Writing
+pub mod Loading

@@ -1,0 +1,28 @@
+-- `machine_nodes::kind_at` meets its contract: the kind of node i is the number at its first byte. Assumes nothing.
+use native.Mathlib.Omega.{arith}
+use mathlib.Core.Path.{sym, ap, _∙_}
+use borrow.Author.Needs.{needs}
+use Rattle.machine_terms.specs.Trees.{kind}
+use Rattle.machine_nodes.specs.Laws.Nodes.{past-in, kind-number}
+use Rattle.machine_nodes.proofs.kind_at.Statement.{statement}
+use Rattle.machine_nodes.proofs.kind_at.Tie as tie
+
+returns : tie.Need-returns
+returns c =
+    let s = c .before .before .args in
+    (sym (ap kind (past-in (s .nodes .now) (s .i) (c .if1 .taken))), omega arith)
+
+mul-word-at : tie.Need-mul-word-at
+mul-word-at c = search needs
+
+word-at-requires : tie.Need-word-at-requires
+word-at-requires c κs = search needs
+
+returns-2 : tie.Need-returns-2
+returns-2 c =
+    let s = c .before .before .before .args in
+    let number = c .word-at .ensures in
+    (number .0 ∙ kind-number (s .nodes .now) (s .i) (c .before .if1 .left), number .1)
+
+pub kind-at-spec : {M : Type 1} → statement M
+kind-at-spec = tie.close (tie.spec returns mul-word-at word-at-requires returns-2)

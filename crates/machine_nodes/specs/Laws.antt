@@ -1,0 +1,5 @@
+pub mod Nodes
+pub mod Kinds
+pub mod Spans
+pub mod Copies
+pub mod Bytes

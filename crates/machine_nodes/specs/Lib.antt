@@ -1,0 +1,4 @@
+pub mod Nodes
+pub mod Spans
+pub mod Copying
+pub mod Laws

@@ -1,0 +1,3 @@
+pub mod Memory
+pub mod Outcomes
+pub mod Laws

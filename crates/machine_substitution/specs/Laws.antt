@@ -1,0 +1,5 @@
+pub mod Forests
+pub mod Waiting
+pub mod Pieces
+pub mod Reducts
+pub mod Contractions

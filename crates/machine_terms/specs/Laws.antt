@@ -1,0 +1,11 @@
+pub mod Trees
+pub mod States
+pub mod Kinds
+pub mod Renaming
+pub mod Tuples
+pub mod Meanings
+pub mod Walking
+pub mod Filling
+pub mod Typed
+pub mod Keeping
+pub mod Forms

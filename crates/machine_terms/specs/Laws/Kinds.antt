@@ -1,0 +1,92 @@
+-- The kinds as numbers: what a kind number says of a node, and which number a kind of node has.
+use Prim.Native.Nat.{ℕ}
+use native.Mathlib.Omega.{arith}
+use mathlib.Core.Path.{_≡_, refl, sym, subst}
+use mathlib.Core.Bool.{Bool, true, false, _||_, cond}
+use lib.Dec.{T as IsTrue, eqb, eqb→eq}
+use Rattle.machine_terms.specs.Trees.{LeafKind, a-variable, a-label, a-gate, a-constant, leafKind, OneKind}
+use Rattle.machine_terms.specs.Trees.{an-abstraction, a-lift, a-force, a-box, oneKind, TwoKind, an-application, a-pair}
+use Rattle.machine_terms.specs.Trees.{a-let, an-apply, twoKind, parts}
+
+-- The numbers of the kinds without parts (01, "Program file"; 32 is the machine's own).
+abbrev pub leafNumber : LeafKind → ℕ
+leafNumber a-variable = 16
+leafNumber a-label = 17
+leafNumber a-gate = 26
+leafNumber a-constant = 32
+
+-- The numbers of the kinds with one part.
+abbrev pub oneNumber : OneKind → ℕ
+oneNumber an-abstraction = 18
+oneNumber a-lift = 22
+oneNumber a-force = 23
+oneNumber a-box = 24
+
+-- The numbers of the kinds with two parts.
+abbrev pub twoNumber : TwoKind → ℕ
+twoNumber an-application = 19
+twoNumber a-pair = 20
+twoNumber a-let = 21
+twoNumber an-apply = 25
+
+-- The number of a kind without parts is read as that kind.
+pub leaf-number-read : (c : LeafKind) → (leafKind (leafNumber c) ≡ c) × (parts (leafNumber c) ≡ 0)
+unfolding leafKind parts
+leaf-number-read a-variable = (refl, refl)
+leaf-number-read a-label = (refl, refl)
+leaf-number-read a-gate = (refl, refl)
+leaf-number-read a-constant = (refl, refl)
+
+-- The number of a kind with one part is read as that kind.
+pub one-number-read : (c : OneKind) → (oneKind (oneNumber c) ≡ c) × (parts (oneNumber c) ≡ 1)
+unfolding oneKind parts
+one-number-read an-abstraction = (refl, refl)
+one-number-read a-lift = (refl, refl)
+one-number-read a-force = (refl, refl)
+one-number-read a-box = (refl, refl)
+
+-- The number of a kind with two parts is read as that kind.
+pub two-number-read : (c : TwoKind) → (twoKind (twoNumber c) ≡ c) × (parts (twoNumber c) ≡ 2)
+unfolding twoKind parts
+two-number-read an-application = (refl, refl)
+two-number-read a-pair = (refl, refl)
+two-number-read a-let = (refl, refl)
+two-number-read an-apply = (refl, refl)
+
+-- The first of three tests that passes.
+abbrev pick : Bool → Bool → Bool → ℕ
+pick a b c = cond a 0 (cond b 1 (cond c 2 3))
+
+picks-zero : (a b c : Bool) → pick a b c ≡ 0 → IsTrue a
+picks-zero true b c e = tt
+picks-zero false true c e = absurd (omega arith)
+picks-zero false false true e = absurd (omega arith)
+picks-zero false false false e = absurd (omega arith)
+
+-- Four numbers, and a kind for each: the last where the first three tests fail.
+is-number : (k m : ℕ) → eqb k m ≡ true → k ≡ m
+is-number k m e = eqb→eq k m (subst IsTrue (sym e) tt)
+
+module _ {A : Type 0} (number : A → ℕ) (k : ℕ) (a b c d : A) where
+  four : (p q r s : Bool)
+      → eqb k (number a) ≡ p
+      → eqb k (number b) ≡ q
+      → eqb k (number c) ≡ r
+      → eqb k (number d) ≡ s
+      → IsTrue (p || q || r || s)
+      → k ≡ number (cond p a (cond q b (cond r c d)))
+  four true q r s e f g h t = is-number k (number a) e
+  four false true r s e f g h t = is-number k (number b) f
+  four false false true s e f g h t = is-number k (number c) g
+  four false false false true e f g h t = is-number k (number d) h
+  four false false false false e f g h t = absurd t
+
+-- A number of a kind without parts is that of the kind read.
+pub leaf-number : (k : ℕ) → parts k ≡ 0 → k ≡ leafNumber (leafKind k)
+unfolding parts leafKind
+leaf-number k e =
+    four leafNumber k a-variable a-label a-gate a-constant (eqb k 16) (eqb k 17) (eqb k 26) (eqb k 32) refl refl refl
+    refl
+    (picks-zero (eqb k 16 || eqb k 17 || eqb k 26 || eqb k 32) (eqb k 18 || eqb k 22 || eqb k 23 || eqb k 24)
+    (eqb k 19 || eqb k 20 || eqb k 21 || eqb k 25)
+    e)

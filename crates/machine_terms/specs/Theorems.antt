@@ -1,0 +1,4 @@
+pub mod Stepping
+pub mod Counting
+pub mod Running
+pub mod Finishing

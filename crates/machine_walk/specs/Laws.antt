@@ -1,0 +1,5 @@
+pub mod Places
+pub mod Heads
+pub mod Moving
+pub mod Functions
+pub mod Redexes

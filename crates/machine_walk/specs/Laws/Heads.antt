@@ -1,0 +1,83 @@
+-- Laws of specs/Heads.antt.
+use Prim.Native.Nat.{ℕ}
+use mathlib.Core.Path.{_≡_, refl, subst}
+use mathlib.Core.List.{List, _∷_}
+use borrow.Author.Tests.{ne-eqb}
+use Rattle.machine_terms.specs.Trees.{Node, node, kind, Tree, leaf, one, two, leafKind, oneKind, WellKinded}
+use Rattle.machine_terms.specs.Holes.{Hole, only}
+use Rattle.machine_terms.specs.Walks.{evaluating, returning, goes-on, stops, at-variable, move}
+use Rattle.machine_nodes.specs.Laws.Kinds.{KindIs, kind-variable, kind-label, kind-gate, kind-constant, kind-abstraction}
+use Rattle.machine_nodes.specs.Laws.Kinds.{kind-lift, kind-force, kind-box, kind-application, kind-pair, kind-let}
+use Rattle.machine_nodes.specs.Laws.Kinds.{kind-apply, kind-view}
+use Rattle.machine_walk.specs.declared.Head.{Head}
+use Rattle.machine_walk.specs.declared.Head.the-variants.{Value, OnePart, TwoParts, Neither}
+use Rattle.machine_walk.specs.Heads.{headOf}
+
+-- There is nothing to do with a number that is none of these.
+pub head-neither : (k : ℕ)
+    → (k ≡ 17 → ⊥) → (k ≡ 18 → ⊥) → (k ≡ 19 → ⊥) → (k ≡ 20 → ⊥) → (k ≡ 21 → ⊥) → (k ≡ 22 → ⊥) → (k ≡ 23 → ⊥)
+    → (k ≡ 24 → ⊥) → (k ≡ 25 → ⊥) → (k ≡ 26 → ⊥) → (k ≡ 32 → ⊥)
+    → headOf k ≡ Neither
+unfolding headOf
+head-neither k h17 h18 h19 h20 h21 h22 h23 h24 h25 h26 h32 =
+    simp (
+      headOf,
+      ne-eqb k 17 h17,
+      ne-eqb k 18 h18,
+      ne-eqb k 19 h19,
+      ne-eqb k 20 h20,
+      ne-eqb k 21 h21,
+      ne-eqb k 22 h22,
+      ne-eqb k 23 h23,
+      ne-eqb k 24 h24,
+      ne-eqb k 25 h25,
+      ne-eqb k 26 h26,
+      ne-eqb k 32 h32,
+    )
+
+-- The move at a tree, by what is to be done with it.
+pub data Headed (positions closed : ℕ) (hs : List Hole) : Head → Tree → Type 0 where
+  head-value : {t : Tree} → WellKinded positions closed t
+      → move (evaluating t hs) ≡ goes-on (returning t hs) → Headed positions closed hs Value t
+  head-one : {n : Node} {t : Tree}
+      → move (evaluating (one n t) hs) ≡ goes-on (evaluating t (only n ∷ hs))
+      → Headed positions closed hs OnePart (one n t)
+  head-two : {n : Node} {t u : Tree} → Headed positions closed hs TwoParts (two n t u)
+  head-neither-one : {t : Tree} → move (evaluating t hs) ≡ stops at-variable → Headed positions closed hs Neither t
+
+-- The first node of a tree.
+abbrev pub rootOf : Tree → Node
+rootOf (leaf n) = n
+rootOf (one n t) = n
+rootOf (two n t u) = n
+
+module _ (positions closed : ℕ) (hs : List Hole) where
+  leaf-headed : {k : ℕ} (a : ℕ) → KindIs k 0 → WellKinded positions closed (leaf (node k a))
+      → Headed positions closed hs (headOf k) (leaf (node k a))
+  unfolding headOf leafKind
+  leaf-headed a kind-variable h = head-neither-one refl
+  leaf-headed a kind-label h = head-value h refl
+  leaf-headed a kind-gate h = head-value h refl
+  leaf-headed a kind-constant h = head-value h refl
+
+  one-headed : {k : ℕ} (a : ℕ) (t : Tree) → KindIs k 1 → WellKinded positions closed (one (node k a) t)
+      → Headed positions closed hs (headOf k) (one (node k a) t)
+  unfolding headOf oneKind
+  one-headed a t kind-abstraction h = head-value h refl
+  one-headed a t kind-lift h = head-value h refl
+  one-headed a t kind-force h = head-one refl
+  one-headed a t kind-box h = head-one refl
+
+  two-headed : {k : ℕ} (a : ℕ) (t u : Tree) → KindIs k 2 → Headed positions closed hs (headOf k) (two (node k a) t u)
+  unfolding headOf
+  two-headed a t u kind-application = head-two
+  two-headed a t u kind-pair = head-two
+  two-headed a t u kind-let = head-two
+  two-headed a t u kind-apply = head-two
+
+  pub headed : (t : Tree)
+      → WellKinded positions closed t
+      → Headed positions closed hs (headOf (kind (rootOf t))) t
+  headed (leaf (node k a)) h = leaf-headed a (subst (KindIs k) (h .0) (kind-view k)) h
+  headed (one (node k a) t) h = one-headed a t (subst (KindIs k) (h .0 .0) (kind-view k)) h
+  headed (two (node k a) t u) h = two-headed a t u (subst (KindIs k) (h .0) (kind-view k))

@@ -1,0 +1,3 @@
+pub mod Families
+pub mod Lengths
+pub mod Running

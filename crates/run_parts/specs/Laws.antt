@@ -1,0 +1,4 @@
+pub mod Parts
+pub mod Finish
+pub mod Running
+pub mod Begin

@@ -1,4 +1,0 @@
-pub mod Parts
-pub mod Finish
-pub mod Core
-pub mod Whole

@@ -1,0 +1,3 @@
+pub mod Taking
+pub mod Reductions
+pub mod Laws

@@ -1,6 +1,0 @@
-pub mod Substituted
-pub mod Forests
-pub mod Waiting
-pub mod Pieces
-pub mod Reducts
-pub mod Contractions

@@ -1,0 +1,6 @@
+pub mod Names
+pub mod Lines
+pub mod Least
+pub mod LinesAt
+pub mod Laws
+pub mod Theorems

@@ -1,0 +1,5 @@
+pub mod Words
+pub mod Numbers
+pub mod Regions
+pub mod Quadwords
+pub mod Laws
