@@ -4,6 +4,9 @@ use mathlib.Core.Bool.{cond}
 use mathlib.Core.List.{List, [], _∷_, _++_}
 use lib.Dec.{eqb}
 use lib.ListN.{drop}
+use Rattle.rules.specs.Kinds.{qubit-kind, pair-type-kind, function-kind, reusable-kind, circuit-kind, variable-kind}
+use Rattle.rules.specs.Kinds.{label-kind, abstraction-kind, application-kind, pair-kind, let-kind, lift-kind}
+use Rattle.rules.specs.Kinds.{force-kind, box-kind, apply-kind}
 use Rattle.rules.specs.Types.{Wire, Bit, Qubit, Ty, wire, _⊗_, _⊸_, !_, Circ, entries, typeCodes}
 use Rattle.rules.specs.Terms.{Term, variable, label, gate, abstraction, application, pair, let-in, lift, force, box, apply}
 use Rattle.rules.specs.Sizes.{nodes, most-types}
@@ -49,10 +52,10 @@ built size part e (two-parts c) = let x = part (suc e) in c x (part (suc e + siz
 -- 01, type section: "0 Bit, 1 Qubit (no parts); 2 pair, 3 function, 5 circuit (two parts); 4 reusable (one)".
 abbrev pub typeNode : ℕ → Node Ty
 typeNode k =
-    cond (eqb k 1) (no-part (wire Qubit))
-    (cond (eqb k 2) (two-parts _⊗_)
-    (cond (eqb k 3) (two-parts _⊸_)
-    (cond (eqb k 4) (one-part !_) (cond (eqb k 5) (two-parts Circ) (no-part (wire Bit))))))
+    cond (eqb k qubit-kind) (no-part (wire Qubit))
+    (cond (eqb k pair-type-kind) (two-parts _⊗_)
+    (cond (eqb k function-kind) (two-parts _⊸_)
+    (cond (eqb k reusable-kind) (one-part !_) (cond (eqb k circuit-kind) (two-parts Circ) (no-part (wire Bit))))))
 
 -- The type whose preorder starts at entry e, of at most so many entries.
 unfoldable pub typeFrom : ℕ → List ℕ → ℕ → Ty
@@ -67,16 +70,16 @@ namedType f e = typeFrom most-types f (labelCount f + argumentAt f e)
 -- 19 application, 20 pair, 21 let, 25 apply (two)."
 abbrev pub termNode : List ℕ → ℕ → ℕ → Node Term
 termNode f e k =
-    cond (eqb k 16) (no-part (variable (argumentAt f e)))
-    (cond (eqb k 17) (no-part (label (argumentAt f e)))
-    (cond (eqb k 18) (one-part λ M. abstraction (namedType f e) M)
-    (cond (eqb k 19) (two-parts application)
-    (cond (eqb k 20) (two-parts pair)
-    (cond (eqb k 21) (two-parts let-in)
-    (cond (eqb k 22) (one-part lift)
-    (cond (eqb k 23) (one-part force)
-    (cond (eqb k 24) (one-part λ M. box (namedType f e) M)
-    (cond (eqb k 25) (two-parts apply) (no-part (gate (argumentAt f e))))))))))))
+    cond (eqb k variable-kind) (no-part (variable (argumentAt f e)))
+    (cond (eqb k label-kind) (no-part (label (argumentAt f e)))
+    (cond (eqb k abstraction-kind) (one-part λ M. abstraction (namedType f e) M)
+    (cond (eqb k application-kind) (two-parts application)
+    (cond (eqb k pair-kind) (two-parts pair)
+    (cond (eqb k let-kind) (two-parts let-in)
+    (cond (eqb k lift-kind) (one-part lift)
+    (cond (eqb k force-kind) (one-part force)
+    (cond (eqb k box-kind) (one-part λ M. box (namedType f e) M)
+    (cond (eqb k apply-kind) (two-parts apply) (no-part (gate (argumentAt f e))))))))))))
 
 -- The term whose preorder starts at entry e, of at most so many nodes.
 unfoldable pub termFrom : ℕ → List ℕ → ℕ → Term

@@ -1,6 +1,8 @@
 -- The nodes of a term by the number of their parts, and the check said by them.
 use Prim.Native.Nat.{ℕ}
 use mathlib.Core.Option.{Option, none, some}
+use Rattle.rules.specs.Kinds.{abstraction-kind, application-kind, pair-kind, let-kind, lift-kind, force-kind, box-kind}
+use Rattle.rules.specs.Kinds.{apply-kind}
 use Rattle.rules.specs.Types.{Ty}
 use Rattle.rules.specs.Inference.{asPair, asReusable, abstractionType, applicationType, pairType, liftType, boxType}
 use Rattle.rules.specs.Inference.{applyType}
@@ -16,10 +18,10 @@ pub data OnePart : Type 0 where
   of-box : Ty → OnePart
 
 abbrev pub oneKind : OnePart → ℕ
-oneKind (of-abstraction A) = 18
-oneKind of-lift = 22
-oneKind of-force = 23
-oneKind (of-box T) = 24
+oneKind (of-abstraction A) = abstraction-kind
+oneKind of-lift = lift-kind
+oneKind of-force = force-kind
+oneKind (of-box T) = box-kind
 
 -- The type that the rule gives, and the 17 of the node itself, if its variable is used so often.
 abbrev pub oneRule : OnePart → Ty → Option Ty
@@ -39,10 +41,10 @@ pub data TwoParts : Type 0 where
   of-application of-pair of-let of-apply : TwoParts
 
 abbrev pub twoKind : TwoParts → ℕ
-twoKind of-application = 19
-twoKind of-pair = 20
-twoKind of-let = 21
-twoKind of-apply = 25
+twoKind of-application = application-kind
+twoKind of-pair = pair-kind
+twoKind of-let = let-kind
+twoKind of-apply = apply-kind
 
 abbrev pub twoRule : TwoParts → Ty → Ty → Option Ty
 twoRule of-application F A = applicationType F A

@@ -6,6 +6,7 @@ use mathlib.Core.List.{List}
 use mathlib.Core.Option.{Option, none, some}
 use lib.Dec.{T as IsTrue, eqb}
 use lib.ListN.{length, set}
+use Rattle.rules.specs.Kinds.{label-kind, abstraction-kind, let-kind, lift-kind}
 use Rattle.rules.specs.Types.{Wire, Ty}
 use Rattle.rules.specs.Terms.{Term}
 use Rattle.rules.specs.Sizes.{nodes, most-labels}
@@ -89,22 +90,22 @@ concludes Fails e next unused crossing = Fault e
 -- The memory before the first part of a node is looked at: an abstraction pushes its binder.
 unfoldable pub entered : List ℕ → List ℕ → ℕ → ℕ → ℕ → List ℕ
 entered f w e binders lifts =
-    cond (eqb (kindAt f e) 18) (pushed w binders (typeCell f (argumentAt f e)) lifts) w
+    cond (eqb (kindAt f e) abstraction-kind) (pushed w binders (typeCell f (argumentAt f e)) lifts) w
 
 -- How many binders and lifts are around the first part of a node of a kind.
 abbrev pub bindersInside : ℕ → ℕ → ℕ
-bindersInside kind binders = cond (eqb kind 18) (binders + 1) binders
+bindersInside kind binders = cond (eqb kind abstraction-kind) (binders + 1) binders
 
 abbrev pub liftsInside : ℕ → ℕ → ℕ
-liftsInside kind lifts = cond (eqb kind 22) (lifts + 1) lifts
+liftsInside kind lifts = cond (eqb kind lift-kind) (lifts + 1) lifts
 
 -- And how many binders around its second part.
 abbrev pub bindersAfter : ℕ → ℕ → ℕ
-bindersAfter kind binders = cond (eqb kind 21) (binders + 2) binders
+bindersAfter kind binders = cond (eqb kind let-kind) (binders + 2) binders
 
 -- The binding that a variable or a label names; and the memory with one more use of a binding.
 unfoldable pub bindingAt : List ℕ → ℕ → ℕ → ℕ
-bindingAt f e binders = cond (eqb (kindAt f e) 17) (argumentAt f e) (variableBinding binders (argumentAt f e))
+bindingAt f e binders = cond (eqb (kindAt f e) label-kind) (argumentAt f e) (variableBinding binders (argumentAt f e))
 
 abbrev pub usedOnce : List ℕ → ℕ → List ℕ
 usedOnce w i = set w (4 * (most-cells + i) + 2) (bindingUses w i + 1)

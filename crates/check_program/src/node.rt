@@ -22,8 +22,9 @@ use rules::kinds::LET;
 use rules::kinds::LIFT;
 use rules::kinds::PAIR;
 ghost use mathlib.Core.Path.{_≡_};
-ghost use Prim.Native.Nat.{_<_};
+ghost use Prim.Native.Nat.{_≤_, _<_};
 ghost use Rattle.words.specs.Words.{words};
+ghost use Rattle.check_program.specs.Layout.{most-binders};
 ghost use Rattle.check_program.specs.Heads.{partCount};
 ghost use Rattle.check_program.specs.Inferring.{RightLength, bindersInside, liftsInside, bindersAfter, sooner, concludes};
 ghost use Rattle.check_program.specs.Inferring.{SaysOneRule, SaysMisuseAtAbstraction, EndsOne, SaysTwoRule};
@@ -126,7 +127,7 @@ pub(crate) fn one_rule(file: &[u8], work: &mut [u8], e: usize, cells: usize, cel
 
 // The 17 of a node of one part itself.
 pub(crate) fn misuse_at_abstraction(file: &[u8], work: &[u8], e: usize, binders: usize) -> usize
-    requires { ⌜ (e < 65536) × (binders < 60000) ⌝ }
+    requires { ⌜ (e < 65536) × (binders ≤ most-binders) ⌝ }
     ensures { λ r. ⌜ SaysMisuseAtAbstraction (now (file .entry)) (words (now (work .entry))) e binders r ⌝ }
 {
     if kind_at(file, e) == ABSTRACTION {
@@ -143,7 +144,7 @@ pub(crate) fn finish_one(
     binders: usize,
     part: Inferred,
 ) -> Inferred
-    requires { ⌜ RightLength (now file) × (e < 65536) × (binders < 60000) ⌝ }
+    requires { ⌜ RightLength (now file) × (e < 65536) × (binders ≤ most-binders) ⌝ }
     ensures { λ r. ⌜ EndsOne (now (file .entry)) (words (now (work .entry))) (words (now (work .exit))) e binders part r ⌝ }
 {
     let Inferred::Typed {
@@ -190,7 +191,7 @@ pub(crate) fn two_rule(
 
 // The 17 of a node of two parts itself.
 pub(crate) fn misuse_at_let(file: &[u8], work: &[u8], e: usize, binders: usize) -> usize
-    requires { ⌜ (e < 65536) × (binders < 60000) ⌝ }
+    requires { ⌜ (e < 65536) × (binders ≤ most-binders) ⌝ }
     ensures { λ r. ⌜ SaysMisuseAtLet (now (file .entry)) (words (now (work .entry))) e binders r ⌝ }
 {
     if kind_at(file, e) == LET {
@@ -210,7 +211,7 @@ pub(crate) fn finish_two(
     first: Inferred,
     second: Inferred,
 ) -> Inferred
-    requires { ⌜ (e < 65536) × (binders < 60000) ⌝ }
+    requires { ⌜ (e < 65536) × (binders ≤ most-binders) ⌝ }
     ensures { λ r. ⌜ EndsTwo (now (file .entry)) (words (now (work .entry))) (words (now (work .exit))) e binders first second r ⌝ }
 {
     let Inferred::Typed {

@@ -5,6 +5,7 @@ use mathlib.Core.Path.{_≡_}
 use mathlib.Core.List.{List, [], _∷_}
 use mathlib.Core.Option.{Option, none, some}
 use lib.ListN.{length, getD}
+use Rattle.rules.specs.Kinds.{pair-type-kind, function-kind, reusable-kind, circuit-kind}
 use Rattle.rules.specs.Types.{Wire, Ty, wire, _⊗_, _⊸_, !_, Circ, entries, most-entries, wireCode}
 use Rattle.words.specs.Words.{putWords}
 use Rattle.check_types.specs.declared.Ruled.{Ruled}
@@ -27,10 +28,10 @@ cellSize w i = getD w (4 * i + 3) 0
 -- 01, type section: "0 Bit, 1 Qubit (no parts); 2 pair, 3 function, 5 circuit (two parts); 4 reusable (one)".
 abbrev pub kindOf : Ty → ℕ
 kindOf (wire α) = wireCode α
-kindOf (A ⊗ B) = 2
-kindOf (A ⊸ B) = 3
-kindOf (! A) = 4
-kindOf (Circ T U) = 5
+kindOf (A ⊗ B) = pair-type-kind
+kindOf (A ⊸ B) = function-kind
+kindOf (! A) = reusable-kind
+kindOf (Circ T U) = circuit-kind
 
 -- Cell i is one of the first n cells, and has the kind and the number of entries of A, at most 512.
 pub record Cell (w : List ℕ) (n i : ℕ) (A : Ty) : Type 0 where
@@ -55,9 +56,9 @@ pub data Denotes (w : List ℕ) (n : ℕ) : ℕ → Ty → Type 0 where
 
 -- C is the type of this kind with the parts A and B.
 pub data Made : ℕ → Ty → Ty → Ty → Type 0 where
-  made-pair : {A B : Ty} → Made 2 A B (A ⊗ B)
-  made-function : {A B : Ty} → Made 3 A B (A ⊸ B)
-  made-circuit : {T U : Ty} → Made 5 T U (Circ T U)
+  made-pair : {A B : Ty} → Made pair-type-kind A B (A ⊗ B)
+  made-function : {A B : Ty} → Made function-kind A B (A ⊸ B)
+  made-circuit : {T U : Ty} → Made circuit-kind T U (Circ T U)
 
 -- The first n cells are the same: every word below 4 * n.
 pub record Agree (w w′ : List ℕ) (n : ℕ) : Type 0 where

@@ -5,6 +5,7 @@ use mathlib.Core.Bool.{Bool, true, false}
 use mathlib.Core.List.{List}
 use lib.ListN.{length, getD}
 use lib.Dec.{ltb, eqb}
+use Rattle.rules.specs.Kinds.{reusable-kind}
 use Rattle.check_types.specs.Cells.{cellSize}
 use Rattle.check_types.specs.NewCell.{withCell}
 
@@ -23,7 +24,7 @@ secondBehind w n = firstBehind n - cellSize w (firstBehind n)
 unfoldable pub entrySize : List ℕ → ℕ → ℕ → ℕ
 entrySize w n kind =
     pick (ltb kind 2) 1
-    (pick (eqb kind 4) (1 + cellSize w (firstBehind n)) (1 + cellSize w (firstBehind n) + cellSize w (secondBehind w n)))
+    (pick (eqb kind reusable-kind) (1 + cellSize w (firstBehind n)) (1 + cellSize w (firstBehind n) + cellSize w (secondBehind w n)))
 
 -- One entry is loaded as cell n.
 unfoldable pub loadEntry : List ℕ → ℕ → ℕ → List ℕ

@@ -1,9 +1,8 @@
 -- What taking steps on lent memory has to do.
-use Prim.Native.Nat.{ℕ, _<_, _≤_}
+use Prim.Native.Nat.{ℕ, _≤_}
 use mathlib.Core.Path.{_≡_}
-use lib.ListN.{length}
 use Rattle.rules.specs.Types.{Ty}
-use Rattle.rules.specs.Sizes.{most-nodes, most-gates}
+use Rattle.rules.specs.Sizes.{most-gates}
 use Rattle.rules.specs.Demand3.{ProgramHas}
 use Rattle.rules.specs.Runs.{Ending as EndingOf, at-finish, still-running, does-not-fit, ended, advanced}
 use Rattle.machine_terms.specs.Walks.{Stopped, at-end}

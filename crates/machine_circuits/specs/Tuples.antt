@@ -4,6 +4,7 @@ use mathlib.Core.Bool.{cond}
 use mathlib.Core.List.{List, [], _∷_, _++_}
 use lib.Dec.{eqb}
 use lib.ListN.{take, drop}
+use Rattle.rules.specs.Kinds.{pair-type-kind, label-kind, pair-kind}
 use Rattle.rules.specs.Circuits.{rename}
 use Rattle.rules.specs.Gates.{gateType}
 use Rattle.rules.specs.GateCodes.{circCodes}
@@ -14,7 +15,7 @@ use Rattle.machine_circuits.specs.declared.tuples.Source.the-variants.{S
 
 -- The labels among nodes, in order.
 abbrev pub labelOf : Node → List ℕ
-labelOf n = cond (eqb (kind n) 17) (argument n ∷ []) []
+labelOf n = cond (eqb (kind n) label-kind) (argument n ∷ []) []
 
 abbrev pub labelNumbers : List Node → List ℕ
 labelNumbers [] = []
@@ -26,18 +27,18 @@ labelsPassed ns at i = labelNumbers (take i (drop at ns))
 
 -- The word of a node in a result.
 abbrev pub wordOf : Node → ℕ
-wordOf n = cond (eqb (kind n) 20) no-wire (argument n)
+wordOf n = cond (eqb (kind n) pair-kind) no-wire (argument n)
 
 -- The node of a word of a result, its wire renamed.
 abbrev pub loadedNode : List ℕ → ℕ → ℕ → Node
-loadedNode ks next w = cond (eqb w no-wire) (node 20 0) (node 17 (rename ks next w % 65536))
+loadedNode ks next w = cond (eqb w no-wire) (node pair-kind 0) (node label-kind (rename ks next w % 65536))
 
 -- The nodes of a tuple from the codes of its type: a pair for a pair, else the next label.
 abbrev pub nodeOfCode : ℕ → ℕ → Node
-nodeOfCode ℓ c = cond (eqb c 2) (node 20 0) (node 17 (ℓ % 65536))
+nodeOfCode ℓ c = cond (eqb c pair-type-kind) (node pair-kind 0) (node label-kind (ℓ % 65536))
 
 abbrev pub labelAfter : ℕ → ℕ → ℕ
-labelAfter ℓ c = cond (eqb c 2) ℓ (ℓ + 1)
+labelAfter ℓ c = cond (eqb c pair-type-kind) ℓ (ℓ + 1)
 
 -- The codes that a source has, where the words of the types' buffer are these.
 abbrev pub codesOf : List ℕ → Source → List ℕ
@@ -48,4 +49,4 @@ codesOf ws (Gate n) = circCodes (gateType n)
 unfoldable pub codeSpan : List ℕ → ℕ → ℕ
 codeSpan [] waiting = zero
 codeSpan (c ∷ cs) zero = zero
-codeSpan (c ∷ cs) (suc waiting) = suc (codeSpan cs (cond (eqb c 2) (suc (suc waiting)) waiting))
+codeSpan (c ∷ cs) (suc waiting) = suc (codeSpan cs (cond (eqb c pair-type-kind) (suc (suc waiting)) waiting))

@@ -4,6 +4,7 @@ use mathlib.Core.Bool.{cond}
 use mathlib.Core.Logic.{_⊎_}
 use lib.Dec.{eqb, ltb}
 use lib.ListN.{length}
+use Rattle.rules.specs.Kinds.{variable-kind}
 use Rattle.machine_terms.specs.Trees.{Node, kind, argument}
 use Rattle.machine_substitution.specs.declared.Region.{Region}
 use Rattle.machine_substitution.specs.declared.Values.{Values}
@@ -24,7 +25,7 @@ variableRegion values b a place = cond (ltb a b) (nodeRegion place) (valueRegion
 
 -- What a node n, which stands at a place under b binders, becomes: itself or a value.
 unfoldable pub pieceRegion : Values → ℕ → Node → ℕ → Region
-pieceRegion values b n place = cond (eqb (kind n) 16) (variableRegion values b (argument n) place) (nodeRegion place)
+pieceRegion values b n place = cond (eqb (kind n) variable-kind) (variableRegion values b (argument n) place) (nodeRegion place)
 
 -- A region of a buffer with so many nodes that does not meet the k places from `to` on: it ends before them, or starts
 -- behind them.

@@ -4,6 +4,7 @@ use mathlib.Core.Bool.{cond}
 use mathlib.Core.List.{List, [], _∷_, _++_}
 use lib.Dec.{eqb}
 use lib.ListN.{length, take, drop}
+use Rattle.rules.specs.Kinds.{variable-kind}
 use Rattle.machine_terms.specs.Trees.{Node, kind, argument, parts, oneKind, twoKind, bindersOne, bindersTwo}
 use Rattle.machine_substitution.specs.declared.Region.{Region}
 use Rattle.machine_substitution.specs.declared.Values.{Values}
@@ -22,7 +23,7 @@ variableNodes (suc b) vs (suc a) own = variableNodes b vs a own
 
 -- What becomes of a node under b binders, without its parts. Kind 16 is a variable.
 unfoldable pub pieceFor : List (List Node) → ℕ → Node → List Node
-pieceFor vs b n = cond (eqb (kind n) 16) (variableNodes b vs (argument n) (n ∷ [])) (n ∷ [])
+pieceFor vs b n = cond (eqb (kind n) variable-kind) (variableNodes b vs (argument n) (n ∷ [])) (n ∷ [])
 
 -- The binders around each part that is waited for after a node of kind k with so many parts, under b binders.
 abbrev pub partsWaiting : ℕ → ℕ → ℕ → List ℕ → List ℕ

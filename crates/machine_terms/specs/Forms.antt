@@ -4,6 +4,7 @@ use mathlib.Core.Path.{_≡_}
 use mathlib.Core.List.{List, [], _∷_}
 use mathlib.Core.Option.{some}
 use lib.ListN.{length}
+use Rattle.rules.specs.Kinds.{application-kind, constant-kind}
 use Rattle.rules.specs.Types.{Wire, Ty, wires}
 use Rattle.rules.specs.Gates.{_to_, gateType}
 use Rattle.rules.specs.Terms.{Tuple, tupleFrom, Gate, Boxed, boxed}
@@ -69,7 +70,7 @@ pub data Contracts (types : ℕ → Ty) : State → State → Type 0 where
       → Contracts types
       (state (returning (one m t) (only n ∷ hs)) C Cs closed)
       (state
-      (evaluating (two (node 19 0) t (tupleTree (tupleFrom 0 (types (argument n))))) (opened n (one m t) ∷ hs))
+      (evaluating (two (node application-kind 0) t (tupleTree (tupleFrom 0 (types (argument n))))) (opened n (one m t) ∷ hs))
       (circuit (wires (types (argument n))) [])
       (C ∷ Cs)
       closed)
@@ -78,4 +79,4 @@ pub data Contracts (types : ℕ → Ty) : State → State → Type 0 where
       → tupleOfTree v ≡ some k
       → Contracts types
       (state (returning v (opened n b ∷ hs)) (circuit I gs) (C ∷ Cs) closed)
-      (state (evaluating (leaf (node 32 (length closed))) hs) C Cs (boxed (types (argument n)) gs k ∷ closed))
+      (state (evaluating (leaf (node constant-kind (length closed))) hs) C Cs (boxed (types (argument n)) gs k ∷ closed))

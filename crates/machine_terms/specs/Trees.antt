@@ -5,6 +5,8 @@ use mathlib.Core.Bool.{Bool, true, false, _&&_, _||_, cond}
 use mathlib.Core.List.{List, [], _∷_, _++_}
 use mathlib.Core.Option.{Option, none, some}
 use lib.Dec.{eqb}
+use Rattle.rules.specs.Kinds.{variable-kind, label-kind, abstraction-kind, application-kind, pair-kind, let-kind}
+use Rattle.rules.specs.Kinds.{lift-kind, force-kind, box-kind, apply-kind, gate-kind, constant-kind}
 use Rattle.rules.specs.Terms.{Tuple, single, both}
 use Rattle.rules.specs.Next.{joined}
 
@@ -40,7 +42,7 @@ pub data LeafKind : Type 0 where
 -- The kind without parts that a number is; a number that is none is read as a circuit constant (WellKinded excludes
 -- it).
 unfoldable pub leafKind : ℕ → LeafKind
-leafKind k = cond (eqb k 16) a-variable (cond (eqb k 17) a-label (cond (eqb k 26) a-gate a-constant))
+leafKind k = cond (eqb k variable-kind) a-variable (cond (eqb k label-kind) a-label (cond (eqb k gate-kind) a-gate a-constant))
 
 -- The kinds with one part: 18 abstraction, 22 lift, 23 force, 24 box.
 pub data OneKind : Type 0 where
@@ -48,7 +50,7 @@ pub data OneKind : Type 0 where
 
 -- The kind with one part that a number is; a number that is none is read as a box.
 unfoldable pub oneKind : ℕ → OneKind
-oneKind k = cond (eqb k 18) an-abstraction (cond (eqb k 22) a-lift (cond (eqb k 23) a-force a-box))
+oneKind k = cond (eqb k abstraction-kind) an-abstraction (cond (eqb k lift-kind) a-lift (cond (eqb k force-kind) a-force a-box))
 
 -- The kinds with two parts: 19 application, 20 pair, 21 let, 25 apply.
 pub data TwoKind : Type 0 where
@@ -56,14 +58,14 @@ pub data TwoKind : Type 0 where
 
 -- The kind with two parts that a number is; a number that is none is read as an apply.
 unfoldable pub twoKind : ℕ → TwoKind
-twoKind k = cond (eqb k 19) an-application (cond (eqb k 20) a-pair (cond (eqb k 21) a-let an-apply))
+twoKind k = cond (eqb k application-kind) an-application (cond (eqb k pair-kind) a-pair (cond (eqb k let-kind) a-let an-apply))
 
 -- How many parts follow a kind; 3 for a number that is no kind.
 unfoldable pub parts : ℕ → ℕ
 parts k =
-    cond (eqb k 16 || eqb k 17 || eqb k 26 || eqb k 32) 0
-    (cond (eqb k 18 || eqb k 22 || eqb k 23 || eqb k 24) 1
-    (cond (eqb k 19 || eqb k 20 || eqb k 21 || eqb k 25) 2 3))
+    cond (eqb k variable-kind || eqb k label-kind || eqb k gate-kind || eqb k constant-kind) 0
+    (cond (eqb k abstraction-kind || eqb k lift-kind || eqb k force-kind || eqb k box-kind) 1
+    (cond (eqb k application-kind || eqb k pair-kind || eqb k let-kind || eqb k apply-kind) 2 3))
 
 -- The argument of a circuit constant is the number of a circuit closed so far.
 abbrev pub ConstantFits : LeafKind → ℕ → ℕ → Type 0
@@ -147,8 +149,8 @@ tupleOfTree (two n t u) = twoTuple (twoKind (kind n)) (joined (tupleOfTree t) (t
 
 -- A label tuple as a tree.
 abbrev pub tupleTree : Tuple → Tree
-tupleTree (single ℓ) = leaf (node 17 ℓ)
-tupleTree (both k l) = two (node 20 0) (tupleTree k) (tupleTree l)
+tupleTree (single ℓ) = leaf (node label-kind ℓ)
+tupleTree (both k l) = two (node pair-kind 0) (tupleTree k) (tupleTree l)
 
 -- Tree a, counted from the first of the list; the given tree where the list ends before.
 abbrev pub treeAt : List Tree → ℕ → Tree → Tree

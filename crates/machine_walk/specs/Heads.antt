@@ -2,6 +2,8 @@
 use Prim.Native.Nat.{ℕ}
 use mathlib.Core.Bool.{cond}
 use lib.Dec.{eqb}
+use Rattle.rules.specs.Kinds.{label-kind, abstraction-kind, application-kind, pair-kind, let-kind, lift-kind}
+use Rattle.rules.specs.Kinds.{force-kind, box-kind, apply-kind, gate-kind, constant-kind}
 use Rattle.machine_walk.specs.declared.Head.{Head}
 use Rattle.machine_walk.specs.declared.Head.the-variants.{Value, OnePart, TwoParts, Neither}
 
@@ -9,11 +11,11 @@ use Rattle.machine_walk.specs.declared.Head.the-variants.{Value, OnePart
 -- and apply two. With a variable there is nothing to do.
 unfoldable pub headOf : ℕ → Head
 headOf k =
-    cond (eqb k 17) Value
-    (cond (eqb k 18) Value
-    (cond (eqb k 19) TwoParts
-    (cond (eqb k 20) TwoParts
-    (cond (eqb k 21) TwoParts
-    (cond (eqb k 22) Value
-    (cond (eqb k 23) OnePart
-    (cond (eqb k 24) OnePart (cond (eqb k 25) TwoParts (cond (eqb k 26) Value (cond (eqb k 32) Value Neither))))))))))
+    cond (eqb k label-kind) Value
+    (cond (eqb k abstraction-kind) Value
+    (cond (eqb k application-kind) TwoParts
+    (cond (eqb k pair-kind) TwoParts
+    (cond (eqb k let-kind) TwoParts
+    (cond (eqb k lift-kind) Value
+    (cond (eqb k force-kind) OnePart
+    (cond (eqb k box-kind) OnePart (cond (eqb k apply-kind) TwoParts (cond (eqb k gate-kind) Value (cond (eqb k constant-kind) Value Neither))))))))))

@@ -32,6 +32,7 @@ ghost use mathlib.Core.List.{List};
 ghost use mathlib.Core.Bool.{true, false};
 ghost use lib.Dec.{T as IsTrue};
 ghost use lib.ListN.{length};
+ghost use Rattle.rules.specs.Kinds.{pair-kind};
 ghost use Rattle.machine_terms.specs.Trees.{kind, oneKind, twoKind};
 ghost use Rattle.machine_terms.specs.Holes.{waits};
 ghost use Rattle.machine_terms.specs.Walks.{stopOne};
@@ -186,7 +187,7 @@ fn stop_one(kind: usize) -> Stop
 
 // The stop at a node of two values that is no pair.
 fn stop_two(kind: usize) -> Stop
-    requires { ⌜ (kind ≡ 20 → ⊥) ⌝ }
+    requires { ⌜ (kind ≡ pair-kind → ⊥) ⌝ }
     ensures { λ r. ⌜ stopOf r ≡ stopTwo (twoKind kind) ⌝ }
 {
     match kind {

@@ -5,6 +5,9 @@ use mathlib.Core.List.{List}
 use lib.Dec.{eqb, leb, ltb}
 use lib.ListN.{getD}
 use Rattle.words.specs.Numbers.{wordAt}
+use Rattle.rules.specs.Kinds.{qubit-kind, pair-type-kind, function-kind, reusable-kind, circuit-kind, variable-kind}
+use Rattle.rules.specs.Kinds.{label-kind, abstraction-kind, application-kind, let-kind, lift-kind, force-kind, box-kind}
+use Rattle.rules.specs.Kinds.{apply-kind, gate-kind}
 use Rattle.rules.specs.Gates.{isGate}
 use Rattle.program.specs.declared.format.Argument.{Argument}
 use Rattle.program.specs.declared.format.Argument.the-variants.{Zero, LabelNumber, GateNumber, TypePosition}
@@ -46,26 +49,27 @@ within least greatest k = leb least k && leb k greatest
 
 -- 01: "label section: 0 Bit, 1 Qubit."
 unfoldable pub labelShape : ℕ → Shape
-labelShape k = cond (leb k 1) (Node 0 Zero) Unknown
+labelShape k = cond (leb k qubit-kind) (Node 0 Zero) Unknown
 
 -- 01: "type section: 0 Bit, 1 Qubit (no parts); 2 pair, 3 function, 5 circuit (two parts); 4 reusable (one)."
 unfoldable pub typeShape : ℕ → Shape
 typeShape k =
-    cond (leb k 1) (Node 0 Zero)
-    (cond (within 2 3 k) (Node 2 Zero) (cond (eqb k 4) (Node 1 Zero) (cond (eqb k 5) (Node 2 Zero) Unknown)))
+    cond (leb k qubit-kind) (Node 0 Zero)
+    (cond (within pair-type-kind function-kind k) (Node 2 Zero)
+    (cond (eqb k reusable-kind) (Node 1 Zero) (cond (eqb k circuit-kind) (Node 2 Zero) Unknown)))
 
 -- 01: "term section: 16 variable, 17 label, 26 gate (no parts); 18 abstraction, 22 lift, 23 force, 24 box (one);
 -- 19 application, 20 pair, 21 let, 25 apply (two)." "A label or gate has its number. Abstraction and box have a type
 -- position, 0 to P−1. Every other argument is 0."
 unfoldable pub termShape : ℕ → Shape
 termShape k =
-    cond (eqb k 16) (Node 0 BinderCount)
-    (cond (eqb k 17) (Node 0 LabelNumber)
-    (cond (eqb k 18) (Node 1 TypePosition)
-    (cond (within 19 21 k) (Node 2 Zero)
-    (cond (within 22 23 k) (Node 1 Zero)
-    (cond (eqb k 24) (Node 1 TypePosition)
-    (cond (eqb k 25) (Node 2 Zero) (cond (eqb k 26) (Node 0 GateNumber) Unknown)))))))
+    cond (eqb k variable-kind) (Node 0 BinderCount)
+    (cond (eqb k label-kind) (Node 0 LabelNumber)
+    (cond (eqb k abstraction-kind) (Node 1 TypePosition)
+    (cond (within application-kind let-kind k) (Node 2 Zero)
+    (cond (within lift-kind force-kind k) (Node 1 Zero)
+    (cond (eqb k box-kind) (Node 1 TypePosition)
+    (cond (eqb k apply-kind) (Node 2 Zero) (cond (eqb k gate-kind) (Node 0 GateNumber) Unknown)))))))
 
 -- The shape of an entry, by its section.
 unfoldable pub shapeAt : List ℕ → ℕ → Shape

@@ -1,14 +1,12 @@
 -- What `read` answers (01, "When each operation says no", Read). "Each test covers the whole file before the next."
-use Prim.Native.Nat.{ℕ, suc, _+_, _*_, _-_}
+use Prim.Native.Nat.{ℕ, _+_, _*_, _-_}
 use mathlib.Core.Bool.{Bool, true, false, not, _&&_, cond}
 use mathlib.Core.List.{List, [], _∷_}
 use lib.Dec.{eqb, leb, ltb}
 use lib.ListN.{length}
 use Rattle.program.specs.Format.{labelCount, typeCount, termCount, firstTerm, entryCount, kindAt, argumentAt, within}
 use Rattle.program.specs.Format.{shapeAt, isKnown, shapeAllows}
-use Rattle.words.specs.Numbers.{wordAt}
 use Rattle.program.specs.Traversal.{firstFrom, traverseFrom}
-use Rattle.refusals.specs.declared.Refusal.{Refusal}
 use Rattle.refusals.specs.declared.Refusal.the-variants.{Form}
 use Rattle.program.specs.declared.ReadAnswer.{ReadAnswer}
 use Rattle.program.specs.declared.ReadAnswer.the-variants.{Accepted, Refused}
@@ -17,6 +15,7 @@ use Rattle.program.specs.declared.Found.the-variants.{At, Nothing}
 use Rattle.program.specs.declared.traversal.Subject.the-variants.{TypeEnd, WireType, TermEnd, Scope}
 use Rattle.program.specs.declared.traversal.Traversed.{Traversed}
 use Rattle.program.specs.declared.traversal.Traversed.the-variants.{To, Stopped, Out}
+use Rattle.rules.specs.Kinds.{circuit-kind, box-kind}
 use Rattle.rules.specs.Sizes.{most-labels, most-types, most-terms}
 
 -- A refusal of the family form, with its number and place.
@@ -64,7 +63,7 @@ boxWrong f e =
 unfoldable pub wiresWrong : List ℕ → ℕ → Bool
 wiresWrong f e =
     cond (ltb e (labelCount f)) false
-    (cond (ltb e (firstTerm f)) (eqb (kindAt f e) 5 && circWrong f e) (eqb (kindAt f e) 24 && boxWrong f e))
+    (cond (ltb e (firstTerm f)) (eqb (kindAt f e) circuit-kind && circWrong f e) (eqb (kindAt f e) box-kind && boxWrong f e))
 
 -- 9: "a variable with no binder; first entry." The traversal does not run out here: by 8 the section is one whole term.
 abbrev pub scopeAnswer : List ℕ → Traversed → ReadAnswer

@@ -1,9 +1,10 @@
 -- Reading in preorder, and the first entry at which a test fails.
-use Prim.Native.Nat.{ℕ, zero, suc, _+_, _-_}
-use mathlib.Core.Bool.{Bool, true, false, cond}
+use Prim.Native.Nat.{ℕ, zero, suc, _+_}
+use mathlib.Core.Bool.{Bool, cond}
 use mathlib.Core.List.{List, [], _∷_}
 use lib.Dec.{eqb, leb, ltb}
-use Rattle.program.specs.Format.{labelCount, typeCount, firstTerm, kindAt, argumentAt, shapeAt}
+use Rattle.rules.specs.Kinds.{qubit-kind, pair-type-kind, variable-kind, abstraction-kind, let-kind}
+use Rattle.program.specs.Format.{kindAt, argumentAt, shapeAt}
 use Rattle.program.specs.declared.format.Shape.{Shape}
 use Rattle.program.specs.declared.format.Shape.the-variants.{Node, Unknown}
 use Rattle.program.specs.declared.Found.{Found}
@@ -28,15 +29,15 @@ partsOf Unknown binders = Stop
 
 -- 01: "Wire types are Bit, Qubit and pairs of wire types".
 abbrev pub wireParts : ℕ → Parts
-wireParts k = cond (leb k 1) Leaf (cond (eqb k 2) (Two 0 0) Stop)
+wireParts k = cond (leb k qubit-kind) Leaf (cond (eqb k pair-type-kind) (Two 0 0) Stop)
 
 -- 01: "A variable's argument counts the binders between it and its own. Let binds two in its second part". An
 -- abstraction binds one in its part. A variable with no binder stops the traversal.
 abbrev pub scopeParts : List ℕ → ℕ → ℕ → Parts
 scopeParts f e binders =
-    cond (eqb (kindAt f e) 16) (cond (ltb (argumentAt f e) binders) Leaf Stop)
-    (cond (eqb (kindAt f e) 18) (One (binders + 1))
-    (cond (eqb (kindAt f e) 21) (Two binders (binders + 2)) (partsOf (shapeAt f e) binders)))
+    cond (eqb (kindAt f e) variable-kind) (cond (ltb (argumentAt f e) binders) Leaf Stop)
+    (cond (eqb (kindAt f e) abstraction-kind) (One (binders + 1))
+    (cond (eqb (kindAt f e) let-kind) (Two binders (binders + 2)) (partsOf (shapeAt f e) binders)))
 
 -- The parts that follow entry e, by what is read: a type, a wire type, a term, or a term with its binders.
 abbrev pub partsAt : Subject → List ℕ → ℕ → ℕ → Parts

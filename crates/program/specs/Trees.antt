@@ -7,6 +7,9 @@ use mathlib.Core.List.{List}
 use mathlib.Core.Option.{some}
 use lib.Dec.{T as IsTrue, ltb}
 use lib.ListN.{length}
+use Rattle.rules.specs.Kinds.{bit-kind, qubit-kind, pair-type-kind, function-kind, reusable-kind, circuit-kind}
+use Rattle.rules.specs.Kinds.{variable-kind, label-kind, abstraction-kind, application-kind, pair-kind, let-kind}
+use Rattle.rules.specs.Kinds.{lift-kind, force-kind, box-kind, apply-kind, gate-kind}
 use Rattle.rules.specs.Types.{Wire, Bit, Qubit, Ty, wire, _⊗_, _⊸_, !_, Circ, isWireType, wireCode}
 use Rattle.rules.specs.Gates.{nth, isGate}
 use Rattle.rules.specs.Terms.{Term, variable, label, gate, constant, abstraction, application, pair, let-in, lift, force}
@@ -18,17 +21,17 @@ use Rattle.rules.specs.Sizes.{most-labels, most-types, most-terms}
 -- A type stands in preorder in the entries e to n − 1. 01, type section: "0 Bit, 1 Qubit (no parts); 2 pair, 3 function,
 -- 5 circuit (two parts); 4 reusable (one)."
 pub data TypeAt (f : List ℕ) : ℕ → Ty → ℕ → Type 0 where
-  bit-at : {e : ℕ} → kindAt f e ≡ 0 → TypeAt f e (wire Bit) (suc e)
-  qubit-at : {e : ℕ} → kindAt f e ≡ 1 → TypeAt f e (wire Qubit) (suc e)
+  bit-at : {e : ℕ} → kindAt f e ≡ bit-kind → TypeAt f e (wire Bit) (suc e)
+  qubit-at : {e : ℕ} → kindAt f e ≡ qubit-kind → TypeAt f e (wire Qubit) (suc e)
   tensor-at : {e m n : ℕ} {A B : Ty}
-      → kindAt f e ≡ 2 → TypeAt f (suc e) A m → TypeAt f m B n
+      → kindAt f e ≡ pair-type-kind → TypeAt f (suc e) A m → TypeAt f m B n
       → TypeAt f e (A ⊗ B) n
   function-at : {e m n : ℕ} {A B : Ty}
-      → kindAt f e ≡ 3 → TypeAt f (suc e) A m → TypeAt f m B n
+      → kindAt f e ≡ function-kind → TypeAt f (suc e) A m → TypeAt f m B n
       → TypeAt f e (A ⊸ B) n
-  reusable-at : {e n : ℕ} {A : Ty} → kindAt f e ≡ 4 → TypeAt f (suc e) A n → TypeAt f e (! A) n
+  reusable-at : {e n : ℕ} {A : Ty} → kindAt f e ≡ reusable-kind → TypeAt f (suc e) A n → TypeAt f e (! A) n
   circ-at : {e m n : ℕ} {A B : Ty}
-      → kindAt f e ≡ 5 → TypeAt f (suc e) A m → TypeAt f m B n
+      → kindAt f e ≡ circuit-kind → TypeAt f (suc e) A m → TypeAt f m B n
       → TypeAt f e (Circ A B) n
 
 -- A type stands at a position of the type section. 01: "The type at a position is read in preorder from there and must
@@ -40,33 +43,33 @@ pub data TypeAtPosition (f : List ℕ) (p : ℕ) (A : Ty) : Type 0 where
 -- 18 abstraction, 22 lift, 23 force, 24 box (one); 19 application, 20 pair, 21 let, 25 apply (two)." "A label or gate has
 -- its number. Abstraction and box have a type position, 0 to P−1. Every other argument is 0."
 pub data TermAt (f : List ℕ) : ℕ → Term → ℕ → Type 0 where
-  variable-at : {e x : ℕ} → kindAt f e ≡ 16 → argumentAt f e ≡ x → TermAt f e (variable x) (suc e)
-  label-at : {e x : ℕ} → kindAt f e ≡ 17 → argumentAt f e ≡ x → TermAt f e (label x) (suc e)
+  variable-at : {e x : ℕ} → kindAt f e ≡ variable-kind → argumentAt f e ≡ x → TermAt f e (variable x) (suc e)
+  label-at : {e x : ℕ} → kindAt f e ≡ label-kind → argumentAt f e ≡ x → TermAt f e (label x) (suc e)
   abstraction-at : {e n : ℕ} {A : Ty} {M : Term}
-      → kindAt f e ≡ 18 → TypeAtPosition f (argumentAt f e) A → TermAt f (suc e) M n
+      → kindAt f e ≡ abstraction-kind → TypeAtPosition f (argumentAt f e) A → TermAt f (suc e) M n
       → TermAt f e (abstraction A M) n
   application-at : {e m n : ℕ} {M N : Term}
-      → kindAt f e ≡ 19 → argumentAt f e ≡ 0 → TermAt f (suc e) M m → TermAt f m N n
+      → kindAt f e ≡ application-kind → argumentAt f e ≡ 0 → TermAt f (suc e) M m → TermAt f m N n
       → TermAt f e (application M N) n
   pair-at : {e m n : ℕ} {M N : Term}
-      → kindAt f e ≡ 20 → argumentAt f e ≡ 0 → TermAt f (suc e) M m → TermAt f m N n
+      → kindAt f e ≡ pair-kind → argumentAt f e ≡ 0 → TermAt f (suc e) M m → TermAt f m N n
       → TermAt f e (pair M N) n
   let-at : {e m n : ℕ} {M N : Term}
-      → kindAt f e ≡ 21 → argumentAt f e ≡ 0 → TermAt f (suc e) M m → TermAt f m N n
+      → kindAt f e ≡ let-kind → argumentAt f e ≡ 0 → TermAt f (suc e) M m → TermAt f m N n
       → TermAt f e (let-in M N) n
   lift-at : {e n : ℕ} {M : Term}
-      → kindAt f e ≡ 22 → argumentAt f e ≡ 0 → TermAt f (suc e) M n
+      → kindAt f e ≡ lift-kind → argumentAt f e ≡ 0 → TermAt f (suc e) M n
       → TermAt f e (lift M) n
   force-at : {e n : ℕ} {M : Term}
-      → kindAt f e ≡ 23 → argumentAt f e ≡ 0 → TermAt f (suc e) M n
+      → kindAt f e ≡ force-kind → argumentAt f e ≡ 0 → TermAt f (suc e) M n
       → TermAt f e (force M) n
   box-at : {e n : ℕ} {T : Ty} {M : Term}
-      → kindAt f e ≡ 24 → TypeAtPosition f (argumentAt f e) T → TermAt f (suc e) M n
+      → kindAt f e ≡ box-kind → TypeAtPosition f (argumentAt f e) T → TermAt f (suc e) M n
       → TermAt f e (box T M) n
   apply-at : {e m n : ℕ} {M N : Term}
-      → kindAt f e ≡ 25 → argumentAt f e ≡ 0 → TermAt f (suc e) M m → TermAt f m N n
+      → kindAt f e ≡ apply-kind → argumentAt f e ≡ 0 → TermAt f (suc e) M m → TermAt f m N n
       → TermAt f e (apply M N) n
-  gate-at : {e x : ℕ} → kindAt f e ≡ 26 → argumentAt f e ≡ x → TermAt f e (gate x) (suc e)
+  gate-at : {e x : ℕ} → kindAt f e ≡ gate-kind → argumentAt f e ≡ x → TermAt f e (gate x) (suc e)
 
 -- Each Circ in a type has wire types for its parts. 01: "both parts of Circ must be wire types."
 abbrev pub formed : Ty → Bool

@@ -3,7 +3,7 @@
 use Prim.Native.Nat.{ℕ, zero, suc, _≤_, _<_}
 use native.Mathlib.Omega.{arith}
 use mathlib.Core.Path.{_≡_, refl, sym, _∙_, ap}
-use mathlib.Core.Bool.{Bool, true, false, _&&_}
+use mathlib.Core.Bool.{Bool, true, _&&_}
 use mathlib.Core.List.{List, [], _∷_, _++_, map}
 use mathlib.Core.Option.{Option, none, some}
 use lib.Dec.{T as IsTrue, leb, ltb, leb→le, leb·zero, leb·suc-zero, leb·suc-suc}
@@ -12,14 +12,7 @@ use Rattle.rules.specs.Gates.{GateType, _to_, nth, gateTable, gateType, 
 use Rattle.rules.specs.GateCodes.{codeAt, circCodes, typeEntries, typeCode, filled}
 use Rattle.rules.specs.Laws.GateCodes.{most-type}
 use Rattle.rules.specs.Types.{typeCodes}
-
-and-left : (a b : Bool) → IsTrue (a && b) → IsTrue a
-and-left true b t = tt
-and-left false b t = t
-
-and-right : (a b : Bool) → IsTrue (a && b) → IsTrue b
-and-right true b t = t
-and-right false b t = absurd t
+use Rattle.rules.specs.Laws.Booleans.{and-left, and-right}
 
 -- A test holds where there is no gate and at each gate of a list.
 abbrev pub tests : (Option GateType → Bool) → List GateType → Bool

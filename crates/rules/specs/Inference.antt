@@ -2,7 +2,7 @@
 -- types of its parts.
 use Prim.Native.Nat.{ℕ, suc, _+_}
 use mathlib.Core.Bool.{Bool, true, false, _&&_, not}
-use mathlib.Core.List.{List, [], _∷_}
+use mathlib.Core.List.{List, _∷_}
 use mathlib.Core.Option.{Option, none, some, Option·map}
 use lib.Dec.{T as IsTrue, eqb, leb}
 use Rattle.rules.specs.Types.{Ty, wire, _⊗_, _⊸_, !_, Circ, isWireType, copyable, entries, most-entries, Wire-discrete}

@@ -1,3 +1,4 @@
+pub mod Booleans
 pub mod GateCodes
 pub mod Counting
 pub mod TypeCodes

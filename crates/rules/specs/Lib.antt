@@ -1,3 +1,4 @@
+pub mod Kinds
 pub mod GateCodes
 pub mod Counting
 pub mod Types

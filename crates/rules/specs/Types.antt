@@ -2,6 +2,7 @@
 use Prim.Native.Nat.{ℕ, _+_}
 use mathlib.Core.Bool.{Bool, true, false, _&&_}
 use mathlib.Core.List.{List, [], _∷_, _++_}
+use Rattle.rules.specs.Kinds.{bit-kind, qubit-kind, pair-type-kind, function-kind, reusable-kind, circuit-kind}
 
 -- The type of one wire. 000, definition 2.4, calls these the wire types; 01 has two of them.
 pub data Wire : Type 0 where
@@ -58,14 +59,14 @@ most-entries = 512
 
 -- 01, type section: "0 Bit, 1 Qubit".
 abbrev pub wireCode : Wire → ℕ
-wireCode Bit = 0
-wireCode Qubit = 1
+wireCode Bit = bit-kind
+wireCode Qubit = qubit-kind
 
 -- A type in preorder. 01, type section: "0 Bit, 1 Qubit (no parts); 2 pair, 3 function, 5 circuit (two parts); 4 reusable
 -- (one)".
 abbrev pub typeCodes : Ty → List ℕ
 typeCodes (wire α) = wireCode α ∷ []
-typeCodes (A ⊗ B) = 2 ∷ typeCodes A ++ typeCodes B
-typeCodes (A ⊸ B) = 3 ∷ typeCodes A ++ typeCodes B
-typeCodes (! A) = 4 ∷ typeCodes A
-typeCodes (Circ T U) = 5 ∷ typeCodes T ++ typeCodes U
+typeCodes (A ⊗ B) = pair-type-kind ∷ typeCodes A ++ typeCodes B
+typeCodes (A ⊸ B) = function-kind ∷ typeCodes A ++ typeCodes B
+typeCodes (! A) = reusable-kind ∷ typeCodes A
+typeCodes (Circ T U) = circuit-kind ∷ typeCodes T ++ typeCodes U

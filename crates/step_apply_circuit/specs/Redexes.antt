@@ -4,6 +4,7 @@ use mathlib.Core.Path.{_≡_}
 use mathlib.Core.Bool.{false}
 use mathlib.Core.List.{List}
 use lib.ListN.{length}
+use Rattle.rules.specs.Kinds.{gate-kind}
 use Rattle.rules.specs.Types.{most-entries}
 use Rattle.rules.specs.Circuits.{outputs}
 use Rattle.rules.specs.Sizes.{most-nodes}
@@ -85,5 +86,5 @@ Applied ns ns′ wide gs gs′ fs fs′ results x r r′ =
     → RedexRead ns rs gs cs fs (r .place .depth - 1) (r .counts .frames - 1) x
     → Room x r (length ns) allowance
     → most-entries ≤ wide
-    → (kind (nodeAt ns (stackNode (quadwordAt rs (r .place .depth - 1)) + 1)) ≡ 26 → ⊥)
+    → (kind (nodeAt ns (stackNode (quadwordAt rs (r .place .depth - 1)) + 1)) ≡ gate-kind → ⊥)
     → Steps at-apply allowance (memory ns rs gs cs fs ws results) (memory ns′ rs gs′ cs fs′ ws results) r (Taken r′)

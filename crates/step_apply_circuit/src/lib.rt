@@ -27,6 +27,7 @@ ghost use mathlib.Core.Bool.{true, false};
 ghost use mathlib.Core.List.{List};
 ghost use lib.Dec.{ltb};
 ghost use lib.ListN.{length, take};
+ghost use Rattle.rules.specs.Kinds.{gate-kind};
 ghost use Rattle.rules.specs.Types.{most-entries};
 ghost use Rattle.rules.specs.Terms.{Tuple};
 ghost use Rattle.machine_terms.specs.Trees.{kind};
@@ -265,7 +266,7 @@ pub fn apply_constant(
     allowance: usize,
 ) -> Stepped
     ensures { λ r. ⌜ (most-entries ≤ length (words (now (labels .entry))) → (ws : List ℕ)
-        → (kind (nodeAt (nodesIn (now (nodes .entry))) (stackNode (quadwordAt (quadwordsIn (now (stack .entry))) (numbers .place .depth - 1)) + 1)) ≡ 26 → ⊥)
+        → (kind (nodeAt (nodesIn (now (nodes .entry))) (stackNode (quadwordAt (quadwordsIn (now (stack .entry))) (numbers .place .depth - 1)) + 1)) ≡ gate-kind → ⊥)
         → Steps at-apply allowance
         (memoryOf (nodesIn (now (nodes .entry))) (quadwordsIn (now (stack .entry))) (quadwordsIn (now (gates .entry))) (quadwordsIn (now (circuits .entry)))
         (quadwordsIn (now (frames .entry))) ws

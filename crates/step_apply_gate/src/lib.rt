@@ -23,6 +23,7 @@ ghost use mathlib.Core.Path.{_≡_};
 ghost use mathlib.Core.List.{List};
 ghost use lib.Dec.{ltb};
 ghost use lib.ListN.{length};
+ghost use Rattle.rules.specs.Kinds.{gate-kind};
 ghost use Rattle.rules.specs.Types.{most-entries};
 ghost use Rattle.rules.specs.Sizes.{most-nodes};
 ghost use Rattle.machine_terms.specs.Trees.{kind};
@@ -101,7 +102,7 @@ pub fn apply_gate(
     allowance: usize,
 ) -> Stepped
     ensures { λ r. ⌜ (most-entries ≤ length (words (now (labels .entry))) → (cs : List Quadword) (ws : List ℕ) (results : ℕ → List ℕ)
-        → kind (nodeAt (nodesIn (now (nodes .entry))) (stackNode (quadwordAt (quadwordsIn (now (stack .entry))) (numbers .place .depth - 1)) + 1)) ≡ 26
+        → kind (nodeAt (nodesIn (now (nodes .entry))) (stackNode (quadwordAt (quadwordsIn (now (stack .entry))) (numbers .place .depth - 1)) + 1)) ≡ gate-kind
         → Steps at-apply allowance
         (memory (nodesIn (now (nodes .entry))) (quadwordsIn (now (stack .entry))) (quadwordsIn (now (gates .entry))) cs (quadwordsIn (now (frames .entry))) ws results)
         (memory (nodesIn (now (nodes .exit))) (quadwordsIn (now (stack .entry))) (quadwordsIn (now (gates .exit))) cs (quadwordsIn (now (frames .exit))) ws results)

@@ -5,6 +5,7 @@ use mathlib.Core.Bool.{Bool, true, false}
 use mathlib.Core.List.{List}
 use lib.Dec.{T as IsTrue}
 use lib.ListN.{length, drop}
+use Rattle.rules.specs.Kinds.{application-kind}
 use Rattle.rules.specs.Types.{Ty, isWireType, wires, entries, most-entries, typeCodes}
 use Rattle.rules.specs.Terms.{tupleFrom}
 use Rattle.rules.specs.Sizes.{most-nodes}
@@ -26,7 +27,7 @@ use Rattle.step_box_entry.specs.declared.Measured.the-variants.{Fits, Ex
 -- The term of the new frame, the lift's body t applied to one label for each wire of T, left to right from 0 (01: "evaluates
 -- M applied to that tuple").
 abbrev pub applied : Ty → Tree → Tree
-applied T t = two (node 19 0) t (tupleTree (tupleFrom 0 T))
+applied T t = two (node application-kind 0) t (tupleTree (tupleFrom 0 T))
 
 -- Whether so many new nodes fit between the walked nodes and those still to be walked, in a buffer of n nodes.
 abbrev pub RoomFor : ℕ → ℕ → ℕ → ℕ → Bool → Type 0

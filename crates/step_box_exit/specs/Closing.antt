@@ -5,6 +5,7 @@ use mathlib.Core.Bool.{false}
 use mathlib.Core.List.{List}
 use mathlib.Core.Option.{some}
 use lib.ListN.{length, set}
+use Rattle.rules.specs.Kinds.{constant-kind}
 use Rattle.rules.specs.Terms.{Tuple}
 use Rattle.rules.specs.Sizes.{most-boxes}
 use Rattle.machine_terms.specs.Trees.{Node, node, Tree, preorder, tupleOfTree}
@@ -57,7 +58,7 @@ pub record CircuitPut (gs gs′ cs cs′ : List Quadword) (e : Exit) (n : Counts
 
 -- The constant with the number of circuits closed before stands in front of what is still to be walked.
 abbrev pub ConstantPut : List Node → List Node → StateNumbers → Type 0
-ConstantPut ns ns′ r = ns′ ≡ set ns (r .place .right - 1) (node 32 (r .counts .boxes % 65536))
+ConstantPut ns ns′ r = ns′ ≡ set ns (r .place .right - 1) (node constant-kind (r .counts .boxes % 65536))
 
 -- The numbers after box exit: the constant is evaluated in the frame below.
 abbrev pub afterExit : StateNumbers → Exit → StateNumbers

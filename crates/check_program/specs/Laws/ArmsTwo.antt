@@ -14,6 +14,7 @@ use Rattle.rules.specs.Sizes.{nodes}
 use Rattle.rules.specs.Inference.{asPair, uses}
 use Rattle.program.specs.Format.{kindAt}
 use Rattle.program.specs.Trees.{TermAt, closedUnder, labelsBelow}
+use Rattle.program.specs.Laws.TreeTraversal.{term-end}
 use Rattle.check_types.specs.Cells.{Denotes, Room}
 use Rattle.check_types.specs.Laws.Cells.{denotes-kept}
 use Rattle.check_program.specs.declared.Inferred.{Inferred}
@@ -28,7 +29,7 @@ use Rattle.check_program.specs.Laws.Scope.{kept-refl, binding-kept, uses
 use Rattle.check_program.specs.Laws.Counting.{counted-least, some-node, counted-variable}
 use Rattle.check_program.specs.Heads.{TwoParts, of-application, of-pair, of-let, of-apply, twoKind, twoRule}
 use Rattle.check_program.specs.Heads.{misuseAtLet, ownHalves}
-use Rattle.check_program.specs.Laws.Heads.{two, bindersBehind, bound, halves, term-ends, two-nodes, two-closed}
+use Rattle.check_program.specs.Laws.Heads.{two, bindersBehind, bound, halves, two-nodes, two-closed}
 use Rattle.check_program.specs.Laws.Heads.{two-labels, two-gates, two-counted, behind-binders}
 use Rattle.check_program.specs.Inferring.{Ready, Gets, Answered, sooner, Halved, Untouched, Passed, HalfBindings}
 use Rattle.check_program.specs.Inferring.{NewBindings, EndsTwo}
@@ -252,7 +253,7 @@ module _ {f w : List ℕ} {e binders lifts cells : ℕ} {L : List Wire} {Γ : Li
       let c = ready .cells-fit in
       let b = ready .binders-fit in
       let l = ready .lifts-fit in
-      let after = term-ends d′ in
+      let after = term-end d′ in
       let end = ready .ends in
       record {
         length-is = ready .length-is;
@@ -273,7 +274,7 @@ module _ {f w : List ℕ} {e binders lifts cells : ℕ} {L : List Wire} {Γ : Li
   module _ {w₁ : List ℕ} {A : Ty} {u v : Option ℕ} {first : Inferred} (g : Gets w w₁ cells Γ M m A u v first) where
     first-environment : Environment f w₁ m (g .cells′) L Γ
     first-environment =
-        let after = term-ends d in
+        let after = term-end d in
         environment-kept (ready .environment) (g .kept) (g .at-least)
         (λ i. omega (arith, counted-least (length Γ) i M))
 

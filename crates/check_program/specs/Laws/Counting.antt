@@ -3,7 +3,7 @@ use Prim.Native.Nat.{ℕ, suc, _+_, _≤_, _<_}
 use native.Mathlib.Numerals.{add-one, add-two}
 use native.Mathlib.Omega.{arith}
 use mathlib.Core.Path.{_≡_, refl, _∙_, ap, ap₂}
-use mathlib.Core.Bool.{Bool, true, false, _&&_}
+use mathlib.Core.Bool.{Bool, true, false}
 use lib.Dec.{T as IsTrue, eqb, ltb→lt}
 use borrow.Author.Tests.{eq-eqb, ne-eqb, eqb-true, eqb-false}
 use Rattle.rules.specs.Terms.{Term, variable, label, gate, constant, abstraction, application, pair, let-in, lift, force}
@@ -14,14 +14,7 @@ use Rattle.rules.specs.Inference.{uses, labelUses}
 use Rattle.program.specs.Trees.{closedUnder, labelsBelow}
 use Rattle.check_program.specs.Layout.{variableBinding, counted}
 use Rattle.rules.specs.Sizes.{most-labels}
-
-pub and-left : (a b : Bool) → IsTrue (a && b) → IsTrue a
-and-left true b t = tt
-and-left false b t = absurd t
-
-pub and-right : (a b : Bool) → IsTrue (a && b) → IsTrue b
-and-right true b t = t
-and-right false b t = absurd t
+use Rattle.rules.specs.Laws.Booleans.{and-left, and-right}
 
 one-at-most : (t : Bool) → one-if t ≤ 1
 one-at-most true = omega arith

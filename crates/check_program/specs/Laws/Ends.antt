@@ -6,6 +6,8 @@ use mathlib.Core.Bool.{true, false}
 use mathlib.Core.List.{List}
 use mathlib.Core.Option.{Option, none, some}
 use lib.ListN.{length, set}
+use Rattle.rules.specs.Kinds.{abstraction-kind, application-kind, pair-kind, let-kind, lift-kind, force-kind}
+use Rattle.rules.specs.Kinds.{apply-kind}
 use Rattle.rules.specs.Types.{Ty}
 use Rattle.rules.specs.Inference.{asPair, asReusable, abstractionType, applicationType, pairType, liftType, boxType}
 use Rattle.rules.specs.Inference.{applyType}
@@ -25,23 +27,23 @@ use Rattle.rules.specs.Sizes.{most-labels}
 use Rattle.check_program.specs.Scope.{pushed}
 use Rattle.check_program.specs.Heads.{of-abstraction, of-lift, of-force, of-box, of-application, of-pair, of-let}
 use Rattle.check_program.specs.Heads.{of-apply, ownHalves}
-use Rattle.check_program.specs.Laws.Heads.{term-ends}
 use Rattle.check_program.specs.Laws.Counting.{some-node}
 use Rattle.check_program.specs.Inferring.{sooner, concludes, SaysUsedWrongly, SaysOneRule, SaysMisuseAtAbstraction}
 use Rattle.check_program.specs.Inferring.{EndsOne, Halved, SaysBetween, HalfBindings, RightLength, Possible, SaysCrosses}
 use Rattle.check_program.specs.Inferring.{SaysUsed, SaysTwoRule, SaysMisuseAtLet, EndsTwo}
 use Rattle.check_program.specs.Laws.Arms.{coded-earlier}
 use Rattle.program.specs.Sized.{most-file-entries}
+use Rattle.program.specs.Laws.TreeTraversal.{term-end}
 
 -- The rule of a node of one part, by its kind.
 module _ (f w w′ : List ℕ) (e cells cell : ℕ) (r : Ruled) where
-  pub rule-lift : kindAt f e ≡ 22 → MeetsOne liftType w w′ cells cell r → SaysOneRule f w w′ e cells cell r
+  pub rule-lift : kindAt f e ≡ lift-kind → MeetsOne liftType w w′ cells cell r → SaysOneRule f w w′ e cells cell r
   rule-lift k meets of-lift A q room named d = meets room A d
   rule-lift k meets (of-abstraction T) A q room named d = absurd (omega arith)
   rule-lift k meets of-force A q room named d = absurd (omega arith)
   rule-lift k meets (of-box T) A q room named d = absurd (omega arith)
 
-  pub rule-force : kindAt f e ≡ 23 → MeetsOne asReusable w w′ cells cell r → SaysOneRule f w w′ e cells cell r
+  pub rule-force : kindAt f e ≡ force-kind → MeetsOne asReusable w w′ cells cell r → SaysOneRule f w w′ e cells cell r
   rule-force k meets of-force A q room named d = meets room A d
   rule-force k meets (of-abstraction T) A q room named d = absurd (omega arith)
   rule-force k meets of-lift A q room named d = absurd (omega arith)
@@ -51,14 +53,14 @@ module _ (f w w′ : List ℕ) (e cells cell : ℕ) (r : Ruled) where
     at-named : (T : Ty) → Denotes w cells (typeCell f (argumentAt f e)) T → Denotes w cells named T
     at-named T d = subst (λ i. Denotes w cells i T) (sym is) d
 
-    pub rule-abstraction : kindAt f e ≡ 18 → MeetsTwo abstractionType w w′ cells named cell r
+    pub rule-abstraction : kindAt f e ≡ abstraction-kind → MeetsTwo abstractionType w w′ cells named cell r
         → SaysOneRule f w w′ e cells cell r
     rule-abstraction k meets (of-abstraction T) A q room t d = meets room T A (at-named T t) d
     rule-abstraction k meets of-lift A q room t d = absurd (omega arith)
     rule-abstraction k meets of-force A q room t d = absurd (omega arith)
     rule-abstraction k meets (of-box T) A q room t d = absurd (omega arith)
 
-    pub rule-box : (kindAt f e ≡ 22 → ⊥) → (kindAt f e ≡ 23 → ⊥) → (kindAt f e ≡ 18 → ⊥)
+    pub rule-box : (kindAt f e ≡ lift-kind → ⊥) → (kindAt f e ≡ force-kind → ⊥) → (kindAt f e ≡ abstraction-kind → ⊥)
         → MeetsTwo boxType w w′ cells named cell r
         → SaysOneRule f w w′ e cells cell r
     rule-box a b c meets (of-box T) A q room t d = meets room T A (at-named T t) d
@@ -68,13 +70,13 @@ module _ (f w w′ : List ℕ) (e cells cell : ℕ) (r : Ruled) where
 
 -- The 17 of a node of one part itself.
 pub own-abstraction : (f w : List ℕ) (e binders r : ℕ)
-    → kindAt f e ≡ 18 → SaysUsedWrongly w (most-labels + binders) e r → SaysMisuseAtAbstraction f w e binders r
+    → kindAt f e ≡ abstraction-kind → SaysUsedWrongly w (most-labels + binders) e r → SaysMisuseAtAbstraction f w e binders r
 own-abstraction f w e binders r k says (of-abstraction A) n q b = says n A b
 own-abstraction f w e binders r k says of-lift n q b = absurd (omega arith)
 own-abstraction f w e binders r k says of-force n q b = absurd (omega arith)
 own-abstraction f w e binders r k says (of-box T) n q b = absurd (omega arith)
 
-pub own-none : (f w : List ℕ) (e binders : ℕ) → (kindAt f e ≡ 18 → ⊥) → SaysMisuseAtAbstraction f w e binders 0
+pub own-none : (f w : List ℕ) (e binders : ℕ) → (kindAt f e ≡ abstraction-kind → ⊥) → SaysMisuseAtAbstraction f w e binders 0
 own-none f w e binders k (of-abstraction A) n q b = absurd (k q)
 own-none f w e binders k of-lift n q b = refl
 own-none f w e binders k of-force n q b = refl
@@ -103,21 +105,21 @@ ends-one f w w′ e binders part r ruling cell next cells unused crossing own pl
 
 -- The rule of a node of two parts, by its kind.
 module _ (f w w′ : List ℕ) (e cells first second : ℕ) (r : Ruled) where
-  pub rule-application : kindAt f e ≡ 19 → MeetsTwo applicationType w w′ cells first second r
+  pub rule-application : kindAt f e ≡ application-kind → MeetsTwo applicationType w w′ cells first second r
       → SaysTwoRule f w w′ e cells first second r
   rule-application k meets of-application A B q room d d′ = meets room A B d d′
   rule-application k meets of-pair A B q room d d′ = absurd (omega arith)
   rule-application k meets of-let A B q room d d′ = absurd (omega arith)
   rule-application k meets of-apply A B q room d d′ = absurd (omega arith)
 
-  pub rule-pair : kindAt f e ≡ 20 → MeetsTwo pairType w w′ cells first second r
+  pub rule-pair : kindAt f e ≡ pair-kind → MeetsTwo pairType w w′ cells first second r
       → SaysTwoRule f w w′ e cells first second r
   rule-pair k meets of-pair A B q room d d′ = meets room A B d d′
   rule-pair k meets of-application A B q room d d′ = absurd (omega arith)
   rule-pair k meets of-let A B q room d d′ = absurd (omega arith)
   rule-pair k meets of-apply A B q room d d′ = absurd (omega arith)
 
-  pub rule-apply : kindAt f e ≡ 25 → MeetsTwo applyType w w′ cells first second r
+  pub rule-apply : kindAt f e ≡ apply-kind → MeetsTwo applyType w w′ cells first second r
       → SaysTwoRule f w w′ e cells first second r
   rule-apply k meets of-apply A B q room d d′ = meets room A B d d′
   rule-apply k meets of-application A B q room d d′ = absurd (omega arith)
@@ -125,7 +127,7 @@ module _ (f w w′ : List ℕ) (e cells first second : ℕ) (r : Ruled) where
   rule-apply k meets of-let A B q room d d′ = absurd (omega arith)
 
 pub rule-let : (f w : List ℕ) (e cells first second : ℕ)
-    → (kindAt f e ≡ 19 → ⊥) → (kindAt f e ≡ 20 → ⊥) → (kindAt f e ≡ 25 → ⊥)
+    → (kindAt f e ≡ application-kind → ⊥) → (kindAt f e ≡ pair-kind → ⊥) → (kindAt f e ≡ apply-kind → ⊥)
     → SaysTwoRule f w w e cells first second (Gives second cells)
 rule-let f w e cells first second a b c of-let A B q room d d′ =
     record {
@@ -145,7 +147,7 @@ rule-let f w e cells first second a b c of-apply A B q room d d′ = absurd (c q
 
 -- The 17 of a node of two parts itself.
 pub own-let : (f w : List ℕ) (e binders first second r : ℕ)
-    → kindAt f e ≡ 21
+    → kindAt f e ≡ let-kind
     → SaysUsedWrongly w (most-labels + binders) e first
     → SaysUsedWrongly w (most-labels + (binders + 1)) e second
     → r ≡ sooner first second
@@ -167,7 +169,7 @@ own-let f w e binders first second r k says says′ at of-let n A q slots = go (
         (if-so (usedWrongly (p .0) (bindingUses w (most-labels + binders))) e)
         (if-so (usedWrongly (p .1) (bindingUses w (most-labels + (binders + 1)))) e))
 
-pub own-none-two : (f w : List ℕ) (e binders : ℕ) → (kindAt f e ≡ 21 → ⊥) → SaysMisuseAtLet f w e binders 0
+pub own-none-two : (f w : List ℕ) (e binders : ℕ) → (kindAt f e ≡ let-kind → ⊥) → SaysMisuseAtLet f w e binders 0
 own-none-two f w e binders k of-let n A q slots = absurd (k q)
 own-none-two f w e binders k of-application n A q slots = refl
 own-none-two f w e binders k of-pair n A q slots = refl
@@ -259,7 +261,7 @@ small f w e binders lifts cells p =
     let b = r .binders-are in
     let c = r .binders-fit in
     let l = r .lifts-fit in
-    let at = term-ends (r .term-at) in
+    let at = term-end (r .term-at) in
     let one = some-node M in
     record {
       whole = record { length-is = r .length-is; entries-fit = r .entries-fit };
@@ -277,7 +279,7 @@ two-left (suc (suc p)) h a b = omega arith
 
 -- Before the second part.
 pub between-other : (f w : List ℕ) (e binders lifts cell : ℕ)
-    → (kindAt f e ≡ 21 → ⊥) → SaysBetween f w w e binders lifts cell true
+    → (kindAt f e ≡ let-kind → ⊥) → SaysBetween f w w e binders lifts cell true
 between-other f w e binders lifts cell k of-let n A q d = absurd (k q)
 between-other f w e binders lifts cell k of-application n A q d = record { answer = refl; words-are = refl }
 between-other f w e binders lifts cell k of-pair n A q d = record { answer = refl; words-are = refl }
@@ -287,7 +289,7 @@ between-other f w e binders lifts cell k of-apply n A q d = record { answer = re
 abbrev pub FindsParts : List ℕ → ℕ → Parts → Type 0
 FindsParts w cell parts = (n : ℕ) (A : Ty) → Denotes w n cell A → PartsGiven w n (asPair A) parts
 
-module _ (f w : List ℕ) (e binders lifts cell : ℕ) (parts : Parts) (k : kindAt f e ≡ 21) (finds : FindsParts w cell parts) where
+module _ (f w : List ℕ) (e binders lifts cell : ℕ) (parts : Parts) (k : kindAt f e ≡ let-kind) (finds : FindsParts w cell parts) where
   pub between-no-pair : parts ≡ Neither → SaysBetween f w w e binders lifts cell false
   between-no-pair is of-application n A q d = absurd (omega arith)
   between-no-pair is of-pair n A q d = absurd (omega arith)

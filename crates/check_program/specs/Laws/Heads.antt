@@ -9,10 +9,13 @@ use mathlib.Core.List.{List, _∷_}
 use mathlib.Core.Option.{Option, none, some, Option·some-ne-none}
 use lib.Dec.{T as IsTrue, eqb}
 use lib.ListN.{length}
+use Rattle.rules.specs.Kinds.{variable-kind, label-kind, abstraction-kind, application-kind, let-kind, lift-kind}
+use Rattle.rules.specs.Kinds.{force-kind, box-kind, apply-kind, gate-kind}
 use Rattle.rules.specs.Types.{Wire, Ty}
 use Rattle.rules.specs.Terms.{Term, variable, label, gate, abstraction, application, pair, let-in, lift, force, box, apply}
 use Rattle.rules.specs.Sizes.{nodes}
 use Rattle.rules.specs.Inference.{uses, asPair}
+use Rattle.rules.specs.Laws.Booleans.{and-left, and-right}
 use Rattle.program.specs.Format.{kindAt, argumentAt, termShape, within}
 use Rattle.program.specs.declared.format.Argument.the-variants.{Zero, LabelNumber, GateNumber, TypePosition, BinderCount}
 use Rattle.program.specs.declared.format.Shape.the-variants.{Node, Unknown}
@@ -21,7 +24,6 @@ use Rattle.program.specs.Trees.{let-at, lift-at, force-at, box-at, apply-at, ga
 use Rattle.check_program.specs.Checking.{Binder, _under_, Checked, typed, fault, earlier, if-so, usedWrongly, followed}
 use Rattle.check_program.specs.Checking.{ruled, checkTerm}
 use Rattle.check_program.specs.Layout.{counted}
-use Rattle.check_program.specs.Laws.Counting.{and-left, and-right}
 use Rattle.check_program.specs.Heads.{OnePart, of-abstraction, of-lift, of-force, of-box, oneKind, oneRule}
 use Rattle.check_program.specs.Heads.{misuseAtAbstraction, TwoParts, of-application, of-pair, of-let, of-apply}
 use Rattle.check_program.specs.Heads.{twoKind, twoRule, ownHalves, misuseAtLet, partsOf, partCount}
@@ -194,7 +196,7 @@ shaped (gate-at {x = x} k a) = shaped-leaf (of-gate x) k a
 pub partCount-most : (k : ℕ) → partCount k ≤ 2
 unfolding partCount termShape
 partCount-most k =
-    rest (eqb k 16) (eqb k 17) (eqb k 18) (within 19 21 k) (within 22 23 k) (eqb k 24) (eqb k 25) (eqb k 26)
+    rest (eqb k variable-kind) (eqb k label-kind) (eqb k abstraction-kind) (within application-kind let-kind k) (within lift-kind force-kind k) (eqb k box-kind) (eqb k apply-kind) (eqb k gate-kind)
   where
     rest : (a b c d e f g h : Bool)
         → partsOf
@@ -235,20 +237,6 @@ two-parts k of-application h = rw h
 two-parts k of-pair h = rw h
 two-parts k of-let h = rw h
 two-parts k of-apply h = rw h
-
--- A term ends as many entries behind its first as it has nodes.
-pub term-ends : {f : List ℕ} {e n : ℕ} {M : Term} → TermAt f e M n → n ≡ e + nodes M
-term-ends (variable-at k a) = omega arith
-term-ends (label-at k a) = omega arith
-term-ends (abstraction-at k t d) = omega (arith, term-ends d)
-term-ends (application-at k a d e) = omega (arith, term-ends d, term-ends e)
-term-ends (pair-at k a d e) = omega (arith, term-ends d, term-ends e)
-term-ends (let-at k a d e) = omega (arith, term-ends d, term-ends e)
-term-ends (lift-at k a d) = omega (arith, term-ends d)
-term-ends (force-at k a d) = omega (arith, term-ends d)
-term-ends (box-at k t d) = omega (arith, term-ends d)
-term-ends (apply-at k a d e) = omega (arith, term-ends d, term-ends e)
-term-ends (gate-at k a) = omega arith
 
 -- What a part has of what its node has: nodes, binders, labels, gates, uses.
 module _ (h : OnePart) (M : Term) where

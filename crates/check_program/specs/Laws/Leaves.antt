@@ -1,15 +1,16 @@
 -- The arm of the inference for variables, labels and gates.
-use Prim.Native.Nat.{ℕ, zero, suc, _+_, _*_, _≤_, _<_}
+use Prim.Native.Nat.{ℕ, suc, _+_, _*_, _≤_, _<_}
 use native.Mathlib.Numerals.{add-one}
 use native.Mathlib.Omega.{arith}
 use mathlib.Core.Path.{_≡_, refl, sym, _∙_, ap, subst}
 use mathlib.Core.Bool.{Bool, true, false}
-use mathlib.Core.List.{List, [], _∷_}
+use mathlib.Core.List.{List}
 use mathlib.Core.Option.{Option, none, some, Option·map}
 use lib.Dec.{T as IsTrue, eqb, ltb→lt}
 use lib.ListN.{length, length-set}
 use lib.Seq.{getD-set-same, getD-set-other}
 use borrow.Author.Tests.{eqb-true, eqb-false}
+use Rattle.rules.specs.Kinds.{variable-kind, label-kind, gate-kind}
 use Rattle.rules.specs.Types.{Wire, wire}
 use Rattle.rules.specs.Gates.{GateType, _to_, nth, gateType, isGate, isSome}
 use Rattle.rules.specs.Terms.{Term, variable, label, gate}
@@ -23,18 +24,13 @@ use Rattle.check_program.specs.declared.Inferred.the-variants.{Typed}
 use Rattle.check_program.specs.Checking.{Binder, _under_, checkTerm, crosses, if-so, ruled, variableFound, labelFound}
 use Rattle.check_program.specs.Layout.{bindingCell, bindingUses, held, counted, coded, variableBinding, most-cells}
 use Rattle.rules.specs.Sizes.{most-labels}
+use Rattle.rules.specs.Laws.Wires.{nth-within}
 use Rattle.check_program.specs.Scope.{Binding, typeOf, liftsOf, Kept}
 use Rattle.check_program.specs.Laws.Scope.{kept-less, kept-refl, held-variable, held-label, held-below}
 use Rattle.check_program.specs.Laws.Heads.{of-variable, of-label, of-gate, Shaped, shaped-leaf, shaped-one, shaped-two}
 use Rattle.check_program.specs.Laws.Heads.{shaped, no-parts, one-part, two-parts}
 use Rattle.check_program.specs.Heads.{partCount}
 use Rattle.check_program.specs.Inferring.{Ready, Gets, Answered, Possible, Meets, bindingAt, usedOnce, SaysUsed}
-
--- Of a list that is long enough there is something at a place.
-there : {A : Type 0} (l : List A) (n : ℕ) → n < length l → (a : A) × (nth l n ≡ some a)
-there [] n h = absurd (omega arith)
-there (a ∷ l) zero h = (a, refl)
-there (a ∷ l) (suc n) h = there l n (omega arith)
 
 gate-there : (o : Option GateType) → IsTrue (isSome o) → (g : GateType) × (o ≡ some g)
 gate-there none t = absurd t
@@ -101,11 +97,11 @@ binding-answers {f} {w} {w′} {e} {binders} {lifts} {cells} {L} {Γ} {r = r} M 
 
 -- The binding of a leaf that is no gate.
 binding-of-variable : (f : List ℕ) (e binders x : ℕ)
-    → kindAt f e ≡ 16 → argumentAt f e ≡ x → bindingAt f e binders ≡ variableBinding binders x
+    → kindAt f e ≡ variable-kind → argumentAt f e ≡ x → bindingAt f e binders ≡ variableBinding binders x
 unfolding bindingAt
 binding-of-variable f e binders x k a = rw (k, a)
 
-binding-of-label : (f : List ℕ) (e binders x : ℕ) → kindAt f e ≡ 17 → argumentAt f e ≡ x → bindingAt f e binders ≡ x
+binding-of-label : (f : List ℕ) (e binders x : ℕ) → kindAt f e ≡ label-kind → argumentAt f e ≡ x → bindingAt f e binders ≡ x
 unfolding bindingAt
 binding-of-label f e binders x k a = rw (k, a)
 
@@ -116,7 +112,7 @@ module _ {f w w′ : List ℕ} {e binders lifts cells : ℕ} {L : List Wire} {Γ
   variable-answers ready says = go (found .0) (found .1)
     where
       found : (b : Binder) × (nth Γ x ≡ some b)
-      found = there Γ x (ltb→lt x (length Γ) (ready .closed))
+      found = nth-within Γ x (ltb→lt x (length Γ) (ready .closed))
 
       go : (b : Binder) → nth Γ x ≡ some b
           → Answered w w′ cells Γ (variable x) (suc e) (variableFound e lifts (nth Γ x)) r
@@ -135,7 +131,7 @@ module _ {f w w′ : List ℕ} {e binders lifts cells : ℕ} {L : List Wire} {Γ
       (λ i. refl) ready says)
     where
       found : (α : Wire) × (nth L x ≡ some α)
-      found = there L x (ltb→lt x (length L) (ready .labels-below))
+      found = nth-within L x (ltb→lt x (length L) (ready .labels-below))
 
 -- A gate has its type.
 gate-answers : {f w : List ℕ} {e binders lifts cells : ℕ} {L : List Wire} {Γ : List Binder} {n : ℕ} (x : ℕ)
@@ -164,7 +160,7 @@ gate-answers {f} {w} {e} {binders} {lifts} {cells} {L} {Γ} x ready = go (found 
 
 -- A leaf answers what the check finds: a gate, a variable or label.
 pub gate-meets : (f w : List ℕ) (e binders lifts cells : ℕ)
-    → kindAt f e ≡ 26
+    → kindAt f e ≡ gate-kind
     → Meets f w w e binders lifts cells (Typed (gateCell (argumentAt f e)) (e + 1) cells 0 0)
 gate-meets f w e binders lifts cells kind L Γ M n ready = go (shaped (ready .term-at)) ready
   where
@@ -183,7 +179,7 @@ gate-meets f w e binders lifts cells kind L Γ M n ready = go (shaped (ready .te
     go (shaped-two h k d d′) ready =
         absurd (omega (arith, no-parts (kindAt f e) (of-gate 0) kind, two-parts (kindAt f e) h k))
 
-module _ (f w : List ℕ) (e binders lifts cells : ℕ) (parts : partCount (kindAt f e) ≡ 0) (other : kindAt f e ≡ 26 → ⊥) where
+module _ (f w : List ℕ) (e binders lifts cells : ℕ) (parts : partCount (kindAt f e) ≡ 0) (other : kindAt f e ≡ gate-kind → ⊥) where
   pub binding-meets : (w′ : List ℕ) (r : Inferred)
       → SaysUsed w w′ (bindingAt f e binders) e lifts cells r
       → Meets f w w′ e binders lifts cells r

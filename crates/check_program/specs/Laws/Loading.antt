@@ -16,6 +16,7 @@ use Rattle.rules.specs.Terms.{Term}
 use Rattle.program.specs.Format.{labelCount, typeCount, firstTerm, entryCount, kindAt}
 use Rattle.program.specs.Trees.{TypeAt, bit-at, qubit-at, tensor-at, function-at, reusable-at, circ-at, TypeAtPosition}
 use Rattle.program.specs.Trees.{at-position, AcceptedFile, labelsBelow}
+use Rattle.program.specs.Laws.TreeTraversal.{term-end, type-end}
 use Rattle.check_types.specs.Cells.{Denotes, Agree, made-pair, made-function, made-circuit}
 use Rattle.check_types.specs.Laws.Cells.{agree-refl, agree-less, agree-trans, denotes-kept}
 use Rattle.check_types.specs.NewCell.{withCell}
@@ -28,11 +29,10 @@ use Rattle.check_types.specs.Laws.GateCells.{gate-cells, gates-loaded}
 use Rattle.check_program.specs.Checking.{Binder, _under_}
 use Rattle.check_program.specs.Layout.{bindingCell, bindingLifts, bindingUses, typeCell, least-words, most-cells}
 use Rattle.rules.specs.Sizes.{most-labels}
+use Rattle.rules.specs.Laws.TypeCodes.{entries-positive}
+use Rattle.rules.specs.Laws.Wires.{nth-some-within}
 use Rattle.check_program.specs.Scope.{Binding, Loaded, Environment}
-use Rattle.check_program.specs.Laws.Scope.{nth-below}
-use Rattle.check_program.specs.Laws.Heads.{term-ends}
 use Rattle.check_program.specs.Inferring.{Ready}
-use Rattle.check_program.specs.Laws.ReadBack.{type-ends, some-entry}
 use Rattle.check_program.specs.Loading.{bindingsLoaded}
 
 pub no-binding : (f w : List ℕ) → w ≡ bindingsLoaded f w 0
@@ -122,26 +122,26 @@ module _ (f : List ℕ) (L P : ℕ) where
   occurs q at (qubit-at k) h =
       codes-wire (code-is q (omega arith) ∙ ap (kindAt f) (sym at) ∙ k)
   occurs q at (reusable-at {A = A} k d) h =
-      let end = type-ends d in
+      let end = type-end d in
       codes-one (code-is q (omega arith) ∙ ap (kindAt f) (sym at) ∙ k) (occurs (suc q) (omega arith) d h)
   occurs q at (tensor-at {m = m} {A = A} {B = B} k d d′) h =
-      let end = type-ends d in
-      let end′ = type-ends d′ in
-      let b = some-entry B in
+      let end = type-end d in
+      let end′ = type-end d′ in
+      let b = entries-positive B in
       codes-two made-pair (code-is q (omega arith) ∙ ap (kindAt f) (sym at) ∙ k)
       (occurs (suc q) (omega arith) d (omega arith))
       (occurs (suc q + entries A) (omega arith) d′ h)
   occurs q at (function-at {m = m} {A = A} {B = B} k d d′) h =
-      let end = type-ends d in
-      let end′ = type-ends d′ in
-      let b = some-entry B in
+      let end = type-end d in
+      let end′ = type-end d′ in
+      let b = entries-positive B in
       codes-two made-function (code-is q (omega arith) ∙ ap (kindAt f) (sym at) ∙ k)
       (occurs (suc q) (omega arith) d (omega arith))
       (occurs (suc q + entries A) (omega arith) d′ h)
   occurs q at (circ-at {m = m} {A = A} {B = B} k d d′) h =
-      let end = type-ends d in
-      let end′ = type-ends d′ in
-      let b = some-entry B in
+      let end = type-end d in
+      let end′ = type-end d′ in
+      let b = entries-positive B in
       codes-two made-circuit (code-is q (omega arith) ∙ ap (kindAt f) (sym at) ∙ k)
       (occurs (suc q) (omega arith) d (omega arith))
       (occurs (suc q + entries A) (omega arith) d′ h)
@@ -177,8 +177,8 @@ module _ {f : List ℕ} {labels : List Wire} {M : Term} (file : AcceptedFile f l
   types-second : (p : ℕ) (A : Ty) → TypeAtPosition f p A → Denotes w₂ cells (typeCell f p) A
   types-second p A (at-position {n = n} d h) =
       let fits = file .types-fit in
-      let end = type-ends d in
-      let some-one = some-entry A in
+      let end = type-end d in
+      let some-one = entries-positive A in
       let codes = codesOf (section f (labelCount f) (typeCount f)) in
       let small = gate-cells in
       let there : gateCells + (0 + typeCount f - 1 - p) ≡ typeCell f p = omega arith in
@@ -249,14 +249,14 @@ module _ {f : List ℕ} {labels : List Wire} {M : Term} (file : AcceptedFile f l
       slot-of i b none n q = absurd (Option·some-ne-none b (sym q))
       slot-of i b (some α) n q =
           let this : (wire α under 0) ≡ b = cc in
-          let below : i < length labels = nth-below labels i α n in
+          let below : i < length labels = nth-some-within labels i n in
           subst (λ x. Binding w₃ cells i x) this
           (label-binding i α (omega (arith, file .labels-fit, file .label-count)) n)
 
   -- The program's term is ready to be checked.
   pub program-ready : Ready f w₃ (firstTerm f) 0 0 cells labels [] M (entryCount f)
   program-ready =
-      let end = term-ends (file .term-at) in
+      let end = term-end (file .term-at) in
       let few = gate-cells in
       let l = file .labels-fit in
       let t = file .types-fit in

@@ -13,13 +13,14 @@ use Rattle.rules.specs.Sizes.{nodes}
 use Rattle.rules.specs.Inference.{uses}
 use Rattle.program.specs.Format.{kindAt}
 use Rattle.program.specs.Trees.{TermAt}
+use Rattle.program.specs.Laws.TreeTraversal.{term-end}
 use Rattle.check_types.specs.Cells.{Denotes}
 use Rattle.check_program.specs.declared.Inferred.{Inferred}
 use Rattle.check_program.specs.declared.Inferred.the-variants.{Typed, Fault}
 use Rattle.check_program.specs.Checking.{Binder, Checked, typed, fault, checkTerm, followed, earlier, ruled}
 use Rattle.check_program.specs.Laws.Heads.{bindersIn, two, bindersBehind, bound, Shaped, shaped-leaf, shaped-one}
 use Rattle.check_program.specs.Laws.Heads.{shaped-two, shaped, no-parts, one-part, two-parts, check-two, checkSecond}
-use Rattle.check_program.specs.Laws.Heads.{behind, behind-binders, term-ends}
+use Rattle.check_program.specs.Laws.Heads.{behind, behind-binders}
 use Rattle.check_program.specs.Heads.{TwoParts, of-application, of-pair, of-let, of-apply, twoKind, twoRule}
 use Rattle.check_program.specs.Heads.{misuseAtLet, partCount}
 use Rattle.check_program.specs.Inferring.{Ready, Gets, Answered, Possible, Meets, entered, bindersInside, liftsInside}
@@ -248,7 +249,7 @@ module _ (f w : List ℕ) (e binders lifts cells : ℕ) (w₁ w₂ : List ℕ) (
         go : (M : Term) (m : ℕ) → TermAt f (suc e) M m → (c : Checked) → Answered w w₂ cells (p .1) M m c first → e < next
         go M m d (typed A u v) g =
             let at : next ≡ m = cc (types, g .answer) in
-            omega (arith, term-ends d)
+            omega (arith, term-end d)
         go M m d (fault q) t = let z : _≡_ {A = ℕ} 0 1 = cc (types, t) in absurd (omega arith)
 
     -- The second part is looked at.
@@ -338,7 +339,7 @@ module _ (f w : List ℕ) (e binders lifts cells : ℕ) (w₁ w₂ : List ℕ) (
               let at : next ≡ m = cc (types, g .answer) in
               let same : cells₁ ≡ g .cells′ = cc (types, g .answer) in
               subst (λ x. Answered w₃ w₄ x Δ N n (checkTerm L Δ lifts (suc e + nodes M) N) second) same
-              (answered-moved w₄ cells₁ L Δ N n second refl (at ∙ term-ends d) refl
+              (answered-moved w₄ cells₁ L Δ N n second refl (at ∙ term-end d) refl
               (meets₂ L Δ N n (second-at L Γ Δ h M N m n A u v k d d′ ready g q)))
 
           second-of : (Δ : List Binder) (h : TwoParts) (M N : Term) (m n : ℕ) (A : Ty) (u v : Option ℕ)

@@ -5,35 +5,21 @@ use mathlib.Core.Path.{_≡_, refl, sym, _∙_, ap, ap₂, subst}
 use mathlib.Core.List.{List, [], _∷_}
 use mathlib.Core.Option.{some}
 use lib.ListN.{length}
-use Rattle.rules.specs.Types.{Wire, Bit, Qubit, Ty, wire, _⊗_, _⊸_, !_, Circ, entries, wireCode}
+use Rattle.rules.specs.Types.{Wire, Bit, Qubit, Ty, _⊗_, _⊸_, !_, Circ, entries, wireCode}
 use Rattle.rules.specs.Gates.{nth}
 use Rattle.rules.specs.Terms.{Term, variable, label, gate, abstraction, application, pair, let-in, lift, force, box, apply}
 use Rattle.rules.specs.Sizes.{nodes, most-types}
+use Rattle.rules.specs.Laws.TypeCodes.{entries-positive}
 use Rattle.program.specs.Format.{typeCount, termCount, kindAt, argumentAt}
 use Rattle.program.specs.Trees.{TypeAt, bit-at, qubit-at, tensor-at, function-at, reusable-at, circ-at, TypeAtPosition}
 use Rattle.program.specs.Trees.{at-position, TermAt, variable-at, label-at, abstraction-at, application-at, pair-at, let-at}
 use Rattle.program.specs.Trees.{lift-at, force-at, box-at, apply-at, gate-at, AcceptedFile}
+use Rattle.program.specs.Laws.TreeTraversal.{term-end, type-end}
 use Rattle.check_program.specs.Answers.{wireOf, labelsFrom, labelsOf, one-part, two-parts, built, typeNode, typeFrom}
 use Rattle.check_program.specs.Answers.{namedType, termNode, termFrom, termOf}
 use Rattle.check_program.specs.Laws.Counting.{some-node}
-use Rattle.check_program.specs.Laws.Heads.{term-ends}
 
 -- A type has at least one entry, and ends as many entries behind its first.
-pub some-entry : (A : Ty) → 1 ≤ entries A
-some-entry (wire α) = omega arith
-some-entry (A ⊗ B) = omega arith
-some-entry (A ⊸ B) = omega arith
-some-entry (! A) = omega arith
-some-entry (Circ A B) = omega arith
-
-pub type-ends : {f : List ℕ} {e n : ℕ} {A : Ty} → TypeAt f e A n → n ≡ e + entries A
-type-ends (bit-at k) = omega arith
-type-ends (qubit-at k) = omega arith
-type-ends (tensor-at k d e) = omega (arith, type-ends d, type-ends e)
-type-ends (function-at k d e) = omega (arith, type-ends d, type-ends e)
-type-ends (reusable-at k d) = omega (arith, type-ends d)
-type-ends (circ-at k d e) = omega (arith, type-ends d, type-ends e)
-
 -- A tree is built from its parts, where these are read.
 module _ {X : Type 0} (size : X → ℕ) (part : ℕ → X) (e : ℕ) where
   pub built-one : (c : X → X) (x : X) → part (suc e) ≡ x → built size part e (one-part c) ≡ c x
@@ -52,35 +38,35 @@ unfolding typeFrom
 at-kind f most e k q = ap (λ k. built entries (λ i. typeFrom most f i) e (typeNode k)) q
 
 pub type-read : {f : List ℕ} {e n : ℕ} {A : Ty} (most : ℕ) → TypeAt f e A n → entries A ≤ most → typeFrom most f e ≡ A
-type-read {A = A} zero d h = absurd (omega (arith, some-entry A))
+type-read {A = A} zero d h = absurd (omega (arith, entries-positive A))
 type-read {f} (suc most) (bit-at {e = e} k) h = at-kind f most e 0 k
 type-read {f} (suc most) (qubit-at {e = e} k) h = at-kind f most e 1 k
 type-read {f} (suc most) (tensor-at {e = e} {m = m} {A = A} {B = B} k d d′) h =
-    let a = some-entry A in
-    let b = some-entry B in
+    let a = entries-positive A in
+    let b = entries-positive B in
     at-kind f most e 2 k
-    ∙ built-two entries (λ i. typeFrom most f i) e _⊗_ A B m (type-ends d)
+    ∙ built-two entries (λ i. typeFrom most f i) e _⊗_ A B m (type-end d)
     (type-read most d (omega arith)) (type-read most d′ (omega arith))
 type-read {f} (suc most) (function-at {e = e} {m = m} {A = A} {B = B} k d d′) h =
-    let a = some-entry A in
-    let b = some-entry B in
+    let a = entries-positive A in
+    let b = entries-positive B in
     at-kind f most e 3 k
-    ∙ built-two entries (λ i. typeFrom most f i) e _⊸_ A B m (type-ends d)
+    ∙ built-two entries (λ i. typeFrom most f i) e _⊸_ A B m (type-end d)
     (type-read most d (omega arith)) (type-read most d′ (omega arith))
 type-read {f} (suc most) (reusable-at {e = e} {A = A} k d) h =
     at-kind f most e 4 k
     ∙ built-one entries (λ i. typeFrom most f i) e !_ A (type-read most d (omega arith))
 type-read {f} (suc most) (circ-at {e = e} {m = m} {A = A} {B = B} k d d′) h =
-    let a = some-entry A in
-    let b = some-entry B in
+    let a = entries-positive A in
+    let b = entries-positive B in
     at-kind f most e 5 k
-    ∙ built-two entries (λ i. typeFrom most f i) e Circ A B m (type-ends d)
+    ∙ built-two entries (λ i. typeFrom most f i) e Circ A B m (type-end d)
     (type-read most d (omega arith)) (type-read most d′ (omega arith))
 
 -- The type that an entry names.
 pub named-read : {f : List ℕ} {A : Ty} (e : ℕ)
     → typeCount f ≤ most-types → TypeAtPosition f (argumentAt f e) A → namedType f e ≡ A
-named-read {f} e h (at-position {n = n} d q) = type-read most-types d (omega (arith, type-ends d))
+named-read {f} e h (at-position {n = n} d q) = type-read most-types d (omega (arith, type-end d))
 
 -- A term that stands at an entry is the one that is read from there.
 at-term : (f : List ℕ) (most e k : ℕ)
@@ -110,19 +96,19 @@ term-read {f} (suc most) t (force-at {e = e} {M = M} k a d) h =
     ∙ built-one nodes (λ i. termFrom most f i) e force M (term-read most t d (omega arith))
 term-read {f} (suc most) t (application-at {e = e} {m = m} {M = M} {N = N} k a d d′) h =
     at-term f most e 19 k
-    ∙ built-two nodes (λ i. termFrom most f i) e application M N m (term-ends d)
+    ∙ built-two nodes (λ i. termFrom most f i) e application M N m (term-end d)
     (term-read most t d (omega arith)) (term-read most t d′ (omega arith))
 term-read {f} (suc most) t (pair-at {e = e} {m = m} {M = M} {N = N} k a d d′) h =
     at-term f most e 20 k
-    ∙ built-two nodes (λ i. termFrom most f i) e pair M N m (term-ends d)
+    ∙ built-two nodes (λ i. termFrom most f i) e pair M N m (term-end d)
     (term-read most t d (omega arith)) (term-read most t d′ (omega arith))
 term-read {f} (suc most) t (let-at {e = e} {m = m} {M = M} {N = N} k a d d′) h =
     at-term f most e 21 k
-    ∙ built-two nodes (λ i. termFrom most f i) e let-in M N m (term-ends d)
+    ∙ built-two nodes (λ i. termFrom most f i) e let-in M N m (term-end d)
     (term-read most t d (omega arith)) (term-read most t d′ (omega arith))
 term-read {f} (suc most) t (apply-at {e = e} {m = m} {M = M} {N = N} k a d d′) h =
     at-term f most e 25 k
-    ∙ built-two nodes (λ i. termFrom most f i) e apply M N m (term-ends d)
+    ∙ built-two nodes (λ i. termFrom most f i) e apply M N m (term-end d)
     (term-read most t d (omega arith)) (term-read most t d′ (omega arith))
 
 -- The labels and the term of an accepted file are those that are read.
@@ -151,7 +137,7 @@ labels-read {f} {labels} file =
 
 pub program-read : {f : List ℕ} {labels : List Wire} {M : Term} → AcceptedFile f labels M → termOf f ≡ M
 program-read {f} {labels} {M} file =
-    term-read (termCount f) (file .types-fit) (file .term-at) (omega (arith, term-ends (file .term-at)))
+    term-read (termCount f) (file .types-fit) (file .term-at) (omega (arith, term-end (file .term-at)))
 
 -- So these are its labels and its term.
 pub file-read : {f : List ℕ} {labels : List Wire} {M : Term}

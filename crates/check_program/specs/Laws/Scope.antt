@@ -17,23 +17,14 @@ use Rattle.check_program.specs.Checking.{Binder, _under_}
 use Rattle.check_program.specs.Layout.{bindingCell, bindingLifts, bindingUses, held, variableBinding, least-words}
 use Rattle.check_program.specs.Layout.{most-binders, most-cells}
 use Rattle.rules.specs.Sizes.{most-labels}
+use Rattle.rules.specs.Laws.Wires.{nth-some-within}
 use Rattle.check_program.specs.Scope.{typeOf, Binding, Loaded, Environment, Kept, pushed}
 
 -- What is held stands in one of the first bindings.
-pub nth-below : (L : List Wire) (i : ℕ) (α : Wire) → nth L i ≡ some α → i < length L
-nth-below [] i α e = absurd (Option·some-ne-none α (sym e))
-nth-below (x ∷ L) zero α e = omega arith
-nth-below (x ∷ L) (suc i) α e = omega (arith, nth-below L i α e)
-
-binder-below : (Γ : List Binder) (i : ℕ) (b : Binder) → nth Γ i ≡ some b → i < length Γ
-binder-below [] i b e = absurd (Option·some-ne-none b (sym e))
-binder-below (x ∷ Γ) zero b e = omega arith
-binder-below (x ∷ Γ) (suc i) b e = omega (arith, binder-below Γ i b e)
-
 label-below : (L : List Wire) (i : ℕ) (b : Binder) (o : Option Wire)
     → nth L i ≡ o → Option·map (λ α. wire α under 0) o ≡ some b → i < length L
 label-below L i b none n e = absurd (Option·some-ne-none b (sym e))
-label-below L i b (some α) n e = nth-below L i α n
+label-below L i b (some α) n e = nth-some-within L i n
 
 pub held-below : (L : List Wire) (Γ : List Binder) (i : ℕ) (b : Binder)
     → length L ≤ most-labels → held L Γ i ≡ some b → i < most-labels + length Γ
@@ -52,7 +43,7 @@ pub held-variable : (L : List Wire) (Γ : List Binder) (x : ℕ) (b : Binder)
 held-variable L [] x b e = absurd (Option·some-ne-none b (sym e))
 held-variable L (y ∷ Γ) zero b e = rw (eq-eqb (most-labels + (suc (length Γ) - 1)) (most-labels + length Γ) (omega arith)) e
 held-variable L (y ∷ Γ) (suc x) b e =
-    let below : x < length Γ = binder-below Γ x b e in
+    let below : x < length Γ = nth-some-within Γ x e in
     let same : most-labels + (suc (length Γ) - suc (suc x)) ≡ most-labels + (length Γ - suc x) = omega arith in
     rw (same, ne-eqb (most-labels + (length Γ - suc x)) (most-labels + length Γ) (λ h. omega arith)) (held-variable L Γ x b e)
 
@@ -60,7 +51,7 @@ pub held-label : (L : List Wire) (Γ : List Binder) (ℓ : ℕ) (α : Wire)
     → length L ≤ most-labels → nth L ℓ ≡ some α → held L Γ ℓ ≡ some (wire α under 0)
 held-label L [] ℓ α h e = rw e
 held-label L (b ∷ Γ) ℓ α h e =
-    let below : ℓ < length L = nth-below L ℓ α e in
+    let below : ℓ < length L = nth-some-within L ℓ e in
     rw (ne-eqb ℓ (most-labels + length Γ) (λ q. omega arith)) (held-label L Γ ℓ α h e)
 
 -- What denotes a type in memory goes on denoting it where the cells agree and there are more of them.

@@ -6,6 +6,7 @@ use mathlib.Core.Path.{_≡_, refl, sym, _∙_, ap}
 use mathlib.Core.Bool.{true, false, and-false}
 use mathlib.Core.List.{List}
 use borrow.Author.Tests.{lt-ltb, le-ltb, eq-eqb, ne-eqb}
+use Rattle.rules.specs.Kinds.{label-kind, abstraction-kind, let-kind, lift-kind}
 use Rattle.rules.specs.Types.{Ty, copyable}
 use Rattle.program.specs.Format.{kindAt, argumentAt, termShape}
 use Rattle.program.specs.declared.format.Argument.{Argument}
@@ -33,17 +34,17 @@ parts-none k s q t = ap partsOf (sym t ∙ q)
 
 -- The binding of a label, and of a variable.
 module _ (f : List ℕ) (e binders n : ℕ) (is : n ≡ argumentAt f e) where
-  pub binding-of-a-label : kindAt f e ≡ 17 → n ≡ bindingAt f e binders
+  pub binding-of-a-label : kindAt f e ≡ label-kind → n ≡ bindingAt f e binders
   unfolding bindingAt
   binding-of-a-label k = rw (k, is)
 
-  pub binding-of-none : (kindAt f e ≡ 17 → ⊥) → binders ≤ n → most-labels ≡ bindingAt f e binders
+  pub binding-of-none : (kindAt f e ≡ label-kind → ⊥) → binders ≤ n → most-labels ≡ bindingAt f e binders
   unfolding bindingAt
-  binding-of-none k h = rw (ne-eqb (kindAt f e) 17 k) (omega arith)
+  binding-of-none k h = rw (ne-eqb (kindAt f e) label-kind k) (omega arith)
 
-  pub binding-of-a-variable : (kindAt f e ≡ 17 → ⊥) → n < binders → most-labels + (binders - 1 - n) ≡ bindingAt f e binders
+  pub binding-of-a-variable : (kindAt f e ≡ label-kind → ⊥) → n < binders → most-labels + (binders - 1 - n) ≡ bindingAt f e binders
   unfolding bindingAt
-  binding-of-a-variable k h = rw (ne-eqb (kindAt f e) 17 k) (omega arith)
+  binding-of-a-variable k h = rw (ne-eqb (kindAt f e) label-kind k) (omega arith)
 
 -- 18: a use that crosses no lift, one of a type that may be copied, and any other.
 module _ (A : Ty) (bound lifts e : ℕ) where
@@ -69,34 +70,34 @@ module _ (A : Ty) (n e : ℕ) where
 
 -- The memory before the first part.
 pub enters-abstraction : (f w : List ℕ) (e binders lifts cell : ℕ)
-    → kindAt f e ≡ 18 → cell ≡ typeCell f (argumentAt f e)
+    → kindAt f e ≡ abstraction-kind → cell ≡ typeCell f (argumentAt f e)
     → pushed w binders cell lifts ≡ entered f w e binders lifts
 unfolding entered
 enters-abstraction f w e binders lifts cell k c = rw (k, c)
 
-pub enters-other : (f w : List ℕ) (e binders lifts : ℕ) → (kindAt f e ≡ 18 → ⊥) → w ≡ entered f w e binders lifts
+pub enters-other : (f w : List ℕ) (e binders lifts : ℕ) → (kindAt f e ≡ abstraction-kind → ⊥) → w ≡ entered f w e binders lifts
 unfolding entered
-enters-other f w e binders lifts k = rw (ne-eqb (kindAt f e) 18 k)
+enters-other f w e binders lifts k = rw (ne-eqb (kindAt f e) abstraction-kind k)
 
 -- The binders and the lifts around a part.
 module _ (kind n : ℕ) where
-  pub binder-inside : kind ≡ 18 → n + 1 ≡ bindersInside kind n
+  pub binder-inside : kind ≡ abstraction-kind → n + 1 ≡ bindersInside kind n
   binder-inside k = rw k
 
-  pub no-binder-inside : (kind ≡ 18 → ⊥) → n ≡ bindersInside kind n
-  no-binder-inside k = rw (ne-eqb kind 18 k)
+  pub no-binder-inside : (kind ≡ abstraction-kind → ⊥) → n ≡ bindersInside kind n
+  no-binder-inside k = rw (ne-eqb kind abstraction-kind k)
 
-  pub lift-inside : kind ≡ 22 → n + 1 ≡ liftsInside kind n
+  pub lift-inside : kind ≡ lift-kind → n + 1 ≡ liftsInside kind n
   lift-inside k = rw k
 
-  pub no-lift-inside : (kind ≡ 22 → ⊥) → n ≡ liftsInside kind n
-  no-lift-inside k = rw (ne-eqb kind 22 k)
+  pub no-lift-inside : (kind ≡ lift-kind → ⊥) → n ≡ liftsInside kind n
+  no-lift-inside k = rw (ne-eqb kind lift-kind k)
 
-  pub binders-behind : kind ≡ 21 → n + 2 ≡ bindersAfter kind n
+  pub binders-behind : kind ≡ let-kind → n + 2 ≡ bindersAfter kind n
   binders-behind k = rw k
 
-  pub no-binders-behind : (kind ≡ 21 → ⊥) → n ≡ bindersAfter kind n
-  no-binders-behind k = rw (ne-eqb kind 21 k)
+  pub no-binders-behind : (kind ≡ let-kind → ⊥) → n ≡ bindersAfter kind n
+  no-binders-behind k = rw (ne-eqb kind let-kind k)
 
 -- The sooner of two places.
 pub sooner-second : (a b : ℕ) → a ≡ 0 → b ≡ sooner a b

@@ -26,6 +26,7 @@ use Rattle.rules.specs.Laws.Counting.{NoneCrosses, Counted}
 use Rattle.rules.specs.Counting.{source}
 use Rattle.rules.specs.Theorems.Counting.{plain-unique, has→counted, counted→has}
 use Rattle.rules.specs.Theorems.Inferring.{infer→plain, plain→infer}
+use Rattle.rules.specs.Laws.Wires.{nth-some-within, nth-within, one-if-unequal}
 use Rattle.check_program.specs.Checking.{Binder, _under_, Checked, typed, fault, earlier, if-so, linear, usedWrongly}
 use Rattle.check_program.specs.Checking.{crosses, followed, ruled, variableFound, labelFound, checkTerm, wrongLabel}
 use Rattle.check_program.specs.Checking.{has-type, secondly, decided, verdict}
@@ -84,6 +85,10 @@ letFound e N o second u v =
           (earlier v v′)
     ]
 
+pub given-same : (x : Option Ty) → given x (λ C. some C) ≡ x
+given-same none = refl
+given-same (some C) = refl
+
 let-type : (e : ℕ) (c : Checked) (second : Ty → Ty → Checked) (N : Term) (o : Option Ty) (f : Ty → Ty → Option Ty)
     → typeOf c ≡ o → ((A B : Ty) → typeOf (second A B) ≡ f A B)
     → typeOf (followed c λ P u v. letFound e N (asPair P) second u v) ≡ given o λ P. given (asPair P) λ p. f (p .0) (p .1)
@@ -91,10 +96,6 @@ let-type e c second N o f h k =
     followed-type c _ (λ P. given (asPair P) λ p. f (p .0) (p .1)) (λ P u v. go (asPair P) u v)
     ∙ ap (λ x. given x λ P. given (asPair P) λ p. f (p .0) (p .1)) h
   where
-    given-same : (x : Option Ty) → given x (λ C. some C) ≡ x
-    given-same none = refl
-    given-same (some C) = refl
-
     go : (p : Option (Ty × Ty)) (u v : Option ℕ) → typeOf (letFound e N p second u v) ≡ given p λ q. f (q .0) (q .1)
     go none u v = refl
     go (some p) u v =
@@ -339,13 +340,6 @@ one-use n h = go (eqb n n) (eqb-refl n) h
     go true t h = omega arith
     go false t h = t
 
-no-use : (m n : ℕ) → m ≢ n → one-if (eqb m n) ≡ 0
-no-use m n h = go (eqb m n) refl
-  where
-    go : (b : Bool) → eqb m n ≡ b → one-if b ≡ 0
-    go true e = absurd (h (eqb→eq m n (subst IsTrue (sym e) tt)))
-    go false e = refl
-
 -- A variable alone: the place of 18 is none exactly if it does not stand under more lifts than its binder.
 variable-agrees : (Γ : List Binder) (lifts e n : ℕ) (B : Ty) (u v : Option ℕ)
     → variableFound e lifts (nth Γ n) ≡ typed B u v
@@ -365,7 +359,7 @@ variable-agrees Γ lifts e n B u v h = go (nth Γ n) refl h
                 (λ t. one-use n (i .0 n A bound k (crosses→ A bound lifts t .0) (crosses→ A bound lifts t .1))),
             λ y. (
               λ m C other f l b.
-                  no-use m n λ q.
+                  one-if-unequal m n λ q.
                   let same : some (C under other) ≡ some (A under bound) = sym f ∙ ap (nth Γ) q ∙ k in
                   let type : C ≡ A = cc in
                   let place : other ≡ bound = cc in
@@ -578,22 +572,11 @@ once→none-wrong M ℓ (suc k) h =
     let this = h ℓ (omega arith) (omega arith) in
     subst (λ n. cond (eqb n 1) (wrongLabel M (suc ℓ) k) (some ℓ) ≡ none) (sym this) later
 
--- The labels of the file are those below their number.
-pub label-below : (L : List Wire) (ℓ : ℕ) (α : Wire) → nth L ℓ ≡ some α → ℓ < length L
-label-below [] ℓ α h = absurd (Option·some-ne-none α (sym h))
-label-below (β ∷ L) zero α h = omega arith
-label-below (β ∷ L) (suc ℓ) α h = let x = label-below L ℓ α h in omega arith
-
-pub below-label : (L : List Wire) (ℓ : ℕ) → ℓ < length L → (α : Wire) × (nth L ℓ ≡ some α)
-below-label [] ℓ h = absurd (omega arith)
-below-label (β ∷ L) zero h = (β, refl)
-below-label (β ∷ L) (suc ℓ) h = below-label L ℓ (omega arith)
-
 -- No label of the file is found exactly if each of them is used once.
 none-wrong→labels-once : (L : List Wire) (M : Term) → wrongLabel M 0 (length L) ≡ none
     → (ℓ : ℕ) (α : Wire) → nth L ℓ ≡ some α → labelUses ℓ M ≡ 1
 none-wrong→labels-once L M h ℓ α f =
-    let b = label-below L ℓ α f in
+    let b = nth-some-within L ℓ f in
     none-wrong→once M 0 (length L) h ℓ (omega arith) (omega arith)
 
 labels-once→none-wrong : (L : List Wire) (M : Term)
@@ -601,7 +584,7 @@ labels-once→none-wrong : (L : List Wire) (M : Term)
 labels-once→none-wrong L M h = once→none-wrong M 0 (length L) once
   where
     once : (p : ℕ) → 0 ≤ p → p < 0 + length L → labelUses p M ≡ 1
-    once p l b = let q = below-label L p (omega arith) in h p (q .0) (q .1)
+    once p l b = let q = nth-within L p (omega arith) in h p (q .0) (q .1)
 
 accepted : (B : Ty) (u v : Option ℕ) (A : Ty) → secondly B u v ≡ has-type A → (u ≡ none) × (v ≡ none) × (B ≡ A)
 accepted B none none A h = (refl, refl, cc)

@@ -13,7 +13,7 @@ use Rattle.rules.specs.Terms.{Term}
 use Rattle.rules.specs.Typing.{_∣_⊢_∶_}
 use Rattle.rules.specs.Counting.{source}
 use Rattle.rules.specs.Theorems.Safety.{demand3}
-use Rattle.program.specs.Format.{labelCount, typeCount, termCount, firstTerm}
+use Rattle.program.specs.Format.{labelCount, firstTerm}
 use Rattle.program.specs.Reading.{readOf}
 use Rattle.program.specs.Theorems.Accepting.{read-sound}
 use Rattle.program.specs.declared.ReadAnswer.{ReadAnswer}
@@ -22,7 +22,7 @@ use Rattle.refusals.specs.declared.Refusal.{Refusal}
 use Rattle.refusals.specs.declared.Refusal.the-variants.{Typing}
 use Rattle.check_program.specs.Checking.{Checked, typed, fault, earlier, checkTerm, wrongLabel, Verdict, has-type}
 use Rattle.check_program.specs.Checking.{refusal, secondly, decided, verdict}
-use Rattle.check_program.specs.Answers.{labelsFrom, labelsOf, termOf, Judged, accepts, refuses, judged, judgedAs}
+use Rattle.check_program.specs.Answers.{labelsFrom, labelsOf, termOf, accepts, refuses, judged, judgedAs}
 use Rattle.check_program.specs.Answers.{checkOf}
 use Rattle.check_program.specs.Laws.ReadBack.{program-read}
 use Rattle.check_program.specs.Places.{WrongLabelAt, WrongBinderAt, Nowhere, First}

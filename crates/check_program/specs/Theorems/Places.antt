@@ -23,11 +23,11 @@ use Rattle.check_program.specs.Checking.{refusal, secondly, decided, ver
 use Rattle.check_program.specs.Places.{typesOf, Occurs, itself, in-abstraction, in-application-first}
 use Rattle.check_program.specs.Places.{in-application-second, in-pair-first, in-pair-second, in-let-first}
 use Rattle.check_program.specs.Places.{in-let-second, in-lift, in-force, in-box, in-apply-first, in-apply-second}
-use Rattle.check_program.specs.Places.{HasType, PartsHaveTypes, Faulty, rule-fails, no-pair, BindsWrongly}
+use Rattle.check_program.specs.Places.{HasType, Faulty, rule-fails, no-pair, BindsWrongly}
 use Rattle.check_program.specs.Places.{by-abstraction, by-let-first, by-let-second, UsesInside, of-variable, of-label}
 use Rattle.check_program.specs.Places.{Property, At, FaultAt, WrongLabelAt, WrongBinderAt, UseInsideAt, Nowhere, First}
 use Rattle.check_program.specs.Theorems.Agreement.{typeOf, letFound, check-type, binder-type, used-wrongly→}
-use Rattle.check_program.specs.Theorems.Agreement.{→used-wrongly, crosses→, →crosses}
+use Rattle.check_program.specs.Theorems.Agreement.{→used-wrongly, crosses→, →crosses, given-same}
 
 nodes-positive : (M : Term) → 0 < nodes M
 nodes-positive (variable n) = omega arith
@@ -399,11 +399,7 @@ let-type : (L : List Wire) (Γ : List Ty) (M N : Term) (A B : Ty)
     → infer Γ (nth L) (let-in M N) ≡ given (infer (B ∷ A ∷ Γ) (nth L) N) (λ C. some C)
 let-type L Γ M N A B h =
     ap (λ o. given o λ P. given (asPair P) λ p. infer (p .1 ∷ p .0 ∷ Γ) (nth L) N) h
-    ∙ sym (same (infer (B ∷ A ∷ Γ) (nth L) N))
-  where
-    same : (o : Option Ty) → given o (λ C. some C) ≡ o
-    same none = refl
-    same (some C) = refl
+    ∙ sym (given-same (infer (B ∷ A ∷ Γ) (nth L) N))
 
 -- A let is faulty only if its first part has a type that is no pair.
 let-faulty : {L : List Wire} {Γ : List Binder} {lifts : ℕ} {M N : Term}

@@ -8,6 +8,7 @@ use Rattle.check_types.specs.Rules.{SaysSameType, SaysIsWireType, SaysBo
 use Rattle.check_types.specs.Laws.Rules.{box-no-reusable, box-no-function, box-other-input, box-no-wires}
 use Rattle.check_types.specs.Laws.Rules.{box-no-result-wires, box-gives}
 use borrow.Author.Needs.{needs}
+use Rattle.rules.specs.Kinds.{function-kind}
 use Rattle.check_types.proofs.box_parts.Statement.{statement}
 use Rattle.check_types.proofs.box_parts.Tie as tie
 
@@ -51,7 +52,7 @@ returns-3 c =
     let k = c .before .before .before .before .before .before .before .cell-kind .ensures in
     let h = sym k ∙ c .before .before .before .before .before .before .if1 .left in
     let f = c .before .before .before .before .before .cell-first .ensures in
-    let h′ : cellKind w (cellFirst w (s .a)) ≡ 3
+    let h′ : cellKind w (cellFirst w (s .a)) ≡ function-kind
     = ap (cellKind w) (sym f) ∙ sym (c .before .before .before .before .cell-kind2 .ensures) ∙ c .before .before .before .if2 .left in
     let input = c .before .before .cell-first2 .ensures ∙ ap (cellFirst w) f in (
       box-other-input w (s .t) (s .a) h h′
@@ -69,7 +70,7 @@ returns-4 c =
     let k = c .before .before .before .before .before .before .before .before .before .cell-kind .ensures in
     let h = sym k ∙ c .before .before .before .before .before .before .before .before .if1 .left in
     let f = c .before .before .before .before .before .before .before .cell-first .ensures in
-    let h′ : cellKind w (cellFirst w (s .a)) ≡ 3
+    let h′ : cellKind w (cellFirst w (s .a)) ≡ function-kind
     = ap (cellKind w) (sym f) ∙ sym (c .before .before .before .before .before .before .cell-kind2 .ensures) ∙ c .before .before .before .before .before .if2 .left in
     let input = c .before .before .before .before .cell-first2 .ensures ∙ ap (cellFirst w) f in
     let same = subst₂ (λ x t. SaysSameType w (s .t) x t) input (not-false _ (c .before .before .if3 .left)) (c .before .before .before .same-type .ensures) in (
@@ -91,7 +92,7 @@ returns-5 c =
     let k = c .before .before .before .before .before .before .before .before .before .before .before .before .cell-kind .ensures in
     let h = sym k ∙ c .before .before .before .before .before .before .before .before .before .before .before .if1 .left in
     let f = c .before .before .before .before .before .before .before .before .before .before .cell-first .ensures in
-    let h′ : cellKind w (cellFirst w (s .a)) ≡ 3
+    let h′ : cellKind w (cellFirst w (s .a)) ≡ function-kind
     = ap (cellKind w) (sym f) ∙ sym (c .before .before .before .before .before .before .before .before .before .cell-kind2 .ensures) ∙ c .before .before .before .before .before .before .before .before .if2 .left in
     let input = c .before .before .before .before .before .before .before .cell-first2 .ensures ∙ ap (cellFirst w) f in
     let same = subst₂ (λ x t. SaysSameType w (s .t) x t) input (not-false _ (c .before .before .before .before .before .if3 .left)) (c .before .before .before .before .before .before .same-type .ensures) in
@@ -109,7 +110,7 @@ returns-6 c =
     let k = c .before .before .before .before .before .before .before .before .before .before .before .before .cell-kind .ensures in
     let h = sym k ∙ c .before .before .before .before .before .before .before .before .before .before .before .if1 .left in
     let f = c .before .before .before .before .before .before .before .before .before .before .cell-first .ensures in
-    let h′ : cellKind w (cellFirst w (s .a)) ≡ 3
+    let h′ : cellKind w (cellFirst w (s .a)) ≡ function-kind
     = ap (cellKind w) (sym f) ∙ sym (c .before .before .before .before .before .before .before .before .before .cell-kind2 .ensures) ∙ c .before .before .before .before .before .before .before .before .if2 .left in
     let input = c .before .before .before .before .before .before .before .cell-first2 .ensures ∙ ap (cellFirst w) f in
     let same = subst₂ (λ x t. SaysSameType w (s .t) x t) input (not-false _ (c .before .before .before .before .before .if3 .left)) (c .before .before .before .before .before .before .same-type .ensures) in

@@ -1,9 +1,10 @@
 -- Laws of the meaning of cells.
-use Prim.Native.Nat.{ℕ, _+_, _*_, _≤_, _<_}
+use Prim.Native.Nat.{ℕ, _+_, _*_, _≤_}
 use native.Mathlib.Omega.{arith}
 use mathlib.Core.Path.{_≡_, refl, sym, _∙_, subst}
 use mathlib.Core.List.{List}
-use Rattle.rules.specs.Types.{Wire, Bit, Qubit, Ty, wire, _⊗_, _⊸_, !_, Circ, entries, wireCode}
+use Rattle.rules.specs.Kinds.{reusable-kind}
+use Rattle.rules.specs.Types.{Wire, Ty, wire, !_, entries, wireCode}
 use Rattle.check_types.specs.Cells.{cellKind, cellFirst, cellSecond, Cell, Agree, Denotes, wire-cell, pair-cell}
 use Rattle.check_types.specs.Cells.{function-cell, reusable-cell, circuit-cell, Made, made-pair, made-function}
 use Rattle.check_types.specs.Cells.{made-circuit}
@@ -73,18 +74,10 @@ made-kind made-pair = omega arith
 made-kind made-function = omega arith
 made-kind made-circuit = omega arith
 
-pub made-not-reusable : {k : ℕ} {A B C : Ty} → Made k A B C → k ≡ 4 → ⊥
+pub made-not-reusable : {k : ℕ} {A B C : Ty} → Made k A B C → k ≡ reusable-kind → ⊥
 made-not-reusable made-pair e = omega arith
 made-not-reusable made-function e = omega arith
 made-not-reusable made-circuit e = omega arith
-
--- A type has at least one entry.
-pub entries-positive : (A : Ty) → 0 < entries A
-entries-positive (wire α) = omega arith
-entries-positive (A ⊗ B) = omega arith
-entries-positive (A ⊸ B) = omega arith
-entries-positive (! A) = omega arith
-entries-positive (Circ T U) = omega arith
 
 -- A cell by the number of its parts.
 pub data View (w : List ℕ) (n i : ℕ) : Ty → Type 0 where
@@ -92,7 +85,7 @@ pub data View (w : List ℕ) (n i : ℕ) : Ty → Type 0 where
   two-parts : {k : ℕ} {A B C : Ty}
       → Made k A B C → cellKind w i ≡ k → Denotes w n (cellFirst w i) A → Denotes w n (cellSecond w i) B
       → View w n i C
-  one-part : {A : Ty} → cellKind w i ≡ 4 → Denotes w n (cellFirst w i) A → View w n i (! A)
+  one-part : {A : Ty} → cellKind w i ≡ reusable-kind → Denotes w n (cellFirst w i) A → View w n i (! A)
 
 pub view : {w : List ℕ} {n i : ℕ} {A : Ty} → Denotes w n i A → View w n i A
 view (wire-cell {α = α} r) = no-part α (r .kind)
@@ -100,16 +93,6 @@ view (pair-cell r d e) = two-parts made-pair (r .kind) d e
 view (function-cell r d e) = two-parts made-function (r .kind) d e
 view (reusable-cell r d) = one-part (r .kind) d
 view (circuit-cell r d e) = two-parts made-circuit (r .kind) d e
-
-pub wire-kind : (α : Wire) → wireCode α < 2
-wire-kind Bit = omega arith
-wire-kind Qubit = omega arith
-
-pub same-wire : (α β : Wire) → wireCode α ≡ wireCode β → α ≡ β
-same-wire Bit Bit e = refl
-same-wire Bit Qubit e = absurd (omega arith)
-same-wire Qubit Bit e = absurd (omega arith)
-same-wire Qubit Qubit e = refl
 
 -- Types of one kind are equal where their parts are, and only there.
 pub made-whole : {k : ℕ} {A B C A′ B′ C′ : Ty} → Made k A B C → Made k A′ B′ C′ → A ≡ A′ → B ≡ B′ → C ≡ C′

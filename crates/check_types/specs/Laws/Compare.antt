@@ -4,14 +4,15 @@ use native.Mathlib.Omega.{arith}
 use mathlib.Core.Path.{_≡_, refl, sym, _∙_, ap, subst}
 use mathlib.Core.Bool.{Bool, true, false, _&&_}
 use mathlib.Core.List.{List}
+use Rattle.rules.specs.Kinds.{pair-type-kind, reusable-kind, circuit-kind}
 use Rattle.rules.specs.Types.{Wire, Ty, wire, !_, entries, isWireType, copyable, Wire-discrete, Ty-discrete, wireCode}
 use Rattle.rules.specs.Inference.{same, isYes}
+use Rattle.rules.specs.Laws.TypeCodes.{entries-positive, wire-kind, same-wire}
 use Rattle.check_types.specs.Cells.{cellKind, cellFirst, cellSecond, kindOf, Denotes, wire-cell, pair-cell}
 use Rattle.check_types.specs.Cells.{function-cell, reusable-cell, circuit-cell, Made, made-pair, made-function}
 use Rattle.check_types.specs.Cells.{made-circuit}
 use Rattle.check_types.specs.Laws.Cells.{cell-of, made-entries, made-kind, made-not-reusable, made-whole, made-first}
-use Rattle.check_types.specs.Laws.Cells.{made-second, entries-positive, View, no-part, two-parts, one-part, view}
-use Rattle.check_types.specs.Laws.Cells.{wire-kind, same-wire}
+use Rattle.check_types.specs.Laws.Cells.{made-second, View, no-part, two-parts, one-part, view}
 use Rattle.check_types.specs.Compare.{shareOf, SaysSame, SaysWireType}
 
 -- `same` says whether two types are equal.
@@ -52,7 +53,7 @@ data Alike (w : List ℕ) (n i j : ℕ) : Ty → Ty → Type 0 where
       → Denotes w n (cellFirst w j) A′ → Denotes w n (cellSecond w j) B′
       → Alike w n i j C C′
   alike-one : {A A′ : Ty}
-      → cellKind w i ≡ 4 → Denotes w n (cellFirst w i) A → Denotes w n (cellFirst w j) A′
+      → cellKind w i ≡ reusable-kind → Denotes w n (cellFirst w i) A → Denotes w n (cellFirst w j) A′
       → Alike w n i j (! A) (! A′)
 
 alike : {w : List ℕ} {n i j : ℕ} {A B : Ty}
@@ -87,7 +88,7 @@ two-one m k (two-parts {A = A′} {B = B′} {C = C′} m′ k′ x y) f g =
 two-one m k (one-part k′ x) f g = absurd (made-not-reusable m (sym k ∙ k′))
 
 one-one : {w : List ℕ} {n i : ℕ} {A D : Ty}
-    → cellKind w i ≡ 4 → View w n i D
+    → cellKind w i ≡ reusable-kind → View w n i D
     → ((A′ : Ty) → Denotes w n (cellFirst w i) A′ → A ≡ A′)
     → ! A ≡ D
 one-one k (no-part β k′) f = absurd (omega (arith, wire-kind β))
@@ -145,7 +146,7 @@ module _ (w : List ℕ) (most i j : ℕ) where
           let f = first n A A′ x x′ (omega (arith, cell-of x .size)) in
           different-same (! A) (! A′) λ q. same-different A A′ f (cc)
 
-  pub first-alone : cellKind w i ≡ cellKind w j → cellKind w i ≡ 4
+  pub first-alone : cellKind w i ≡ cellKind w j → cellKind w i ≡ reusable-kind
       → SaysSame w (shareOf w (cellFirst w i) (most - 1)) (cellFirst w i) (cellFirst w j) true
       → SaysSame w most i j true
   first-alone e h first n A B d d′ b = go (alike e (view d) (view d′)) b
@@ -157,7 +158,7 @@ module _ (w : List ℕ) (most i j : ℕ) where
           let f = first n A A′ x x′ (omega (arith, cell-of x .size)) in
           equal-same (! A) (! A′) (ap !_ (same-equal A A′ f))
 
-  pub then-second : (r : Bool) → cellKind w i ≡ cellKind w j → 2 ≤ cellKind w i → (cellKind w i ≡ 4 → ⊥)
+  pub then-second : (r : Bool) → cellKind w i ≡ cellKind w j → 2 ≤ cellKind w i → (cellKind w i ≡ reusable-kind → ⊥)
       → SaysSame w (shareOf w (cellFirst w i) (most - 1)) (cellFirst w i) (cellFirst w j) true
       → SaysSame w (most - 1 - shareOf w (cellFirst w i) (most - 1)) (cellSecond w i) (cellSecond w j) r
       → SaysSame w most i j r
@@ -181,10 +182,10 @@ module _ (w : List ℕ) (most i : ℕ) where
       go (two-parts m k x y) = absurd (omega (arith, made-kind m))
       go (one-part k x) = absurd (omega arith)
 
-  pub no-wire : 2 ≤ cellKind w i → (cellKind w i ≡ 2 → ⊥) → SaysWireType w most i false
+  pub no-wire : 2 ≤ cellKind w i → (cellKind w i ≡ pair-type-kind → ⊥) → SaysWireType w most i false
   no-wire h h′ n A d b = go (view d)
     where
-      made : {k : ℕ} {A B C : Ty} → Made k A B C → (k ≡ 2 → ⊥) → false ≡ isWireType C
+      made : {k : ℕ} {A B C : Ty} → Made k A B C → (k ≡ pair-type-kind → ⊥) → false ≡ isWireType C
       made made-pair f = absurd (f refl)
       made made-function f = refl
       made made-circuit f = refl
@@ -197,12 +198,12 @@ module _ (w : List ℕ) (most i : ℕ) where
   pub no-wire-entries : (r : Bool) → most ≡ 0 → SaysWireType w most i r
   no-wire-entries r e n A d b = absurd (omega (arith, entries-positive A))
 
-  pub first-no-wire : cellKind w i ≡ 2
+  pub first-no-wire : cellKind w i ≡ pair-type-kind
       → SaysWireType w (shareOf w (cellFirst w i) (most - 1)) (cellFirst w i) false
       → SaysWireType w most i false
   first-no-wire e first n A d b = go (view d) b
     where
-      made : {k : ℕ} {A B C : Ty} → Made k A B C → k ≡ 2 → false ≡ isWireType A → false ≡ isWireType C
+      made : {k : ℕ} {A B C : Ty} → Made k A B C → k ≡ pair-type-kind → false ≡ isWireType A → false ≡ isWireType C
       made (made-pair {A = A} {B = B}) f g = ap (λ t. t && isWireType B) g
       made made-function f g = refl
       made made-circuit f g = refl
@@ -213,13 +214,13 @@ module _ (w : List ℕ) (most i : ℕ) where
       go (one-part k x) b = refl
 
   pub then-second-wire : (r : Bool)
-      → cellKind w i ≡ 2
+      → cellKind w i ≡ pair-type-kind
       → SaysWireType w (shareOf w (cellFirst w i) (most - 1)) (cellFirst w i) true
       → SaysWireType w (most - 1 - shareOf w (cellFirst w i) (most - 1)) (cellSecond w i) r
       → SaysWireType w most i r
   then-second-wire r e first second n A d b = go (view d) b
     where
-      made : {k : ℕ} {A B C : Ty} → Made k A B C → k ≡ 2 → true ≡ isWireType A → r ≡ isWireType B → r ≡ isWireType C
+      made : {k : ℕ} {A B C : Ty} → Made k A B C → k ≡ pair-type-kind → true ≡ isWireType A → r ≡ isWireType B → r ≡ isWireType C
       made (made-pair {A = A} {B = B}) f g s = s ∙ ap (λ t. t && isWireType B) g
       made made-function f g s = absurd (omega arith)
       made made-circuit f g s = absurd (omega arith)
@@ -234,9 +235,9 @@ module _ (w : List ℕ) (most i : ℕ) where
 
 -- The test for a type that may be copied, by the kind.
 pub reusable-or-circuit : (w : List ℕ) (i : ℕ) (r : Bool)
-    → ((cellKind w i ≡ 4) → r ≡ true)
-    → ((cellKind w i ≡ 5) → r ≡ true)
-    → ((cellKind w i ≡ 4 → ⊥) → (cellKind w i ≡ 5 → ⊥) → r ≡ false)
+    → ((cellKind w i ≡ reusable-kind) → r ≡ true)
+    → ((cellKind w i ≡ circuit-kind) → r ≡ true)
+    → ((cellKind w i ≡ reusable-kind → ⊥) → (cellKind w i ≡ circuit-kind → ⊥) → r ≡ false)
     → (n : ℕ) (A : Ty)
     → Denotes w n i A
     → r ≡ copyable A

@@ -12,10 +12,10 @@ use Rattle.rules.specs.Types.{Bit, Qubit, Ty, wire, Circ, entries, typeCodes}
 use Rattle.rules.specs.Gates.{GateType, _to_, nth, gateTable, gateType, isGate, isSome}
 use Rattle.rules.specs.GateCodes.{codeAt, circCodes, typeEntries, typeCode}
 use Rattle.rules.specs.Laws.GateCodes.{most-type}
-use Rattle.rules.specs.Laws.TypeCodes.{typeCodes-entries}
+use Rattle.rules.specs.Laws.TypeCodes.{typeCodes-entries, entries-positive}
 use Rattle.rules.proofs.GateTable.{at-each}
 use Rattle.check_types.specs.Cells.{Denotes}
-use Rattle.check_types.specs.Laws.Cells.{denotes-kept, entries-positive}
+use Rattle.check_types.specs.Laws.Cells.{denotes-kept}
 use Rattle.check_types.specs.Laws.Load.{CodesAt, length-loadEntry, agree-loadEntry, entry-wire, length-loadCodes}
 use Rattle.check_types.specs.Laws.Load.{agree-loadCodes, codes-denote, codes-stand}
 use Rattle.check_types.specs.Load.{pick, loadEntry, loadCodes}

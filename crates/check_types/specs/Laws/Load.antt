@@ -8,12 +8,12 @@ use lib.ListN.{length, getD, List·getD-append}
 use lib.Seq.{getD-append-add}
 use lib.Dec.{ltb, eqb}
 use borrow.Author.Tests.{lt-ltb, le-ltb, ne-eqb}
+use Rattle.rules.specs.Kinds.{reusable-kind}
 use Rattle.rules.specs.Types.{Wire, Bit, Qubit, Ty, wire, _⊗_, _⊸_, !_, Circ, entries, most-entries, wireCode, typeCodes}
 use Rattle.rules.specs.GateCodes.{codeAt}
-use Rattle.rules.specs.Laws.TypeCodes.{typeCodes-entries}
+use Rattle.rules.specs.Laws.TypeCodes.{typeCodes-entries, entries-positive}
 use Rattle.check_types.specs.Cells.{cellSize, Denotes, Agree, Room, Made, made-pair, made-function, made-circuit}
 use Rattle.check_types.specs.Laws.Cells.{cell-of, agree-refl, agree-less, agree-trans, denotes-kept, made-entries}
-use Rattle.check_types.specs.Laws.Cells.{entries-positive}
 use Rattle.check_types.specs.NewCell.{withCell}
 use Rattle.check_types.specs.Laws.NewCell.{length-withCell, word-above-cell, agree-withCell, two-parts-written}
 use Rattle.check_types.specs.Laws.NewCell.{one-part-written, wire-written}
@@ -23,7 +23,7 @@ use Rattle.check_types.specs.Load.{TypesLoaded}
 -- The codes f have the type A in preorder at position p.
 pub data CodesAt (f : ℕ → ℕ) : ℕ → Ty → Type 0 where
   codes-wire : {p : ℕ} {α : Wire} → f p ≡ wireCode α → CodesAt f p (wire α)
-  codes-one : {p : ℕ} {A : Ty} → f p ≡ 4 → CodesAt f (suc p) A → CodesAt f p (! A)
+  codes-one : {p : ℕ} {A : Ty} → f p ≡ reusable-kind → CodesAt f (suc p) A → CodesAt f p (! A)
   codes-two : {p k : ℕ} {A B C : Ty}
       → Made k A B C → f p ≡ k → CodesAt f (suc p) A → CodesAt f (suc p + entries A) B
       → CodesAt f p C
@@ -34,23 +34,23 @@ unfolding entrySize
 size-of-wire w n kind h =
     let s = cellSize w (firstBehind n) in
     let t = cellSize w (secondBehind w n) in
-    ap (λ b. pick b 1 (pick (eqb kind 4) (1 + s) (1 + s + t))) (sym (lt-ltb kind 2 h))
+    ap (λ b. pick b 1 (pick (eqb kind reusable-kind) (1 + s) (1 + s + t))) (sym (lt-ltb kind 2 h))
 
-pub size-of-one : (w : List ℕ) (n kind : ℕ) → kind ≡ 4 → 1 + cellSize w (firstBehind n) ≡ entrySize w n kind
+pub size-of-one : (w : List ℕ) (n kind : ℕ) → kind ≡ reusable-kind → 1 + cellSize w (firstBehind n) ≡ entrySize w n kind
 unfolding entrySize
 size-of-one w n kind e =
     let s = cellSize w (firstBehind n) in
     let t = cellSize w (secondBehind w n) in
-    sym (ap (λ k. pick (ltb k 2) 1 (pick (eqb k 4) (1 + s) (1 + s + t))) e)
+    sym (ap (λ k. pick (ltb k 2) 1 (pick (eqb k reusable-kind) (1 + s) (1 + s + t))) e)
 
-pub size-of-two : (w : List ℕ) (n kind : ℕ) → 2 ≤ kind → (kind ≡ 4 → ⊥)
+pub size-of-two : (w : List ℕ) (n kind : ℕ) → 2 ≤ kind → (kind ≡ reusable-kind → ⊥)
     → 1 + cellSize w (firstBehind n) + cellSize w (secondBehind w n) ≡ entrySize w n kind
 unfolding entrySize
 size-of-two w n kind h f =
     let s = cellSize w (firstBehind n) in
     let t = cellSize w (secondBehind w n) in
-    ap (λ b. pick b (1 + s) (1 + s + t)) (sym (ne-eqb kind 4 f))
-    ∙ ap (λ b. pick b 1 (pick (eqb kind 4) (1 + s) (1 + s + t))) (sym (le-ltb kind 2 h))
+    ap (λ b. pick b (1 + s) (1 + s + t)) (sym (ne-eqb kind reusable-kind f))
+    ∙ ap (λ b. pick b 1 (pick (eqb kind reusable-kind) (1 + s) (1 + s + t))) (sym (le-ltb kind 2 h))
 
 -- A cell with these parts and this size, however they were computed, is the entry loaded.
 pub entry-loaded : (w w′ : List ℕ) (n kind first second size t : ℕ)

@@ -7,8 +7,10 @@ use mathlib.Core.List.{List}
 use mathlib.Core.Option.{Option, none, some}
 use lib.Dec.{leb}
 use borrow.Author.Tests.{le-leb, lt-leb}
+use Rattle.rules.specs.Kinds.{pair-type-kind, function-kind, reusable-kind}
 use Rattle.rules.specs.Types.{Ty, !_, Circ, entries, isWireType, most-entries}
 use Rattle.rules.specs.Inference.{same, given, if-true, asPair, asFunction, asReusable, boxType, liftType}
+use Rattle.rules.specs.Laws.TypeCodes.{wire-kind}
 use Rattle.check_types.specs.declared.Ruled.{Ruled}
 use Rattle.check_types.specs.declared.Ruled.the-variants.{Gives, Fails}
 use Rattle.check_types.specs.declared.Parts.{Parts}
@@ -16,7 +18,7 @@ use Rattle.check_types.specs.declared.Parts.the-variants.{Both, Neither}
 use Rattle.check_types.specs.Cells.{cellKind, cellFirst, cellSecond, cellSize, Denotes, Given, Gave, Failed, MeetsOne}
 use Rattle.check_types.specs.Cells.{MeetsTwo, PartsGiven, Made, made-pair, made-function, made-circuit}
 use Rattle.check_types.specs.Laws.Cells.{cell-of, agree-refl, made-entries, View, no-part, two-parts, one-part, view}
-use Rattle.check_types.specs.Laws.Cells.{wire-kind, made-not-reusable}
+use Rattle.check_types.specs.Laws.Cells.{made-not-reusable}
 use Rattle.check_types.specs.NewCell.{withCell}
 use Rattle.check_types.specs.Laws.NewCell.{length-withCell, word-above-cell, agree-withCell, two-parts-written}
 use Rattle.check_types.specs.Laws.NewCell.{one-part-written}
@@ -83,7 +85,7 @@ pub record PartOf (w : List ℕ) (n i : ℕ) (F : Ty) : Type 0 where
   pub denotes : Denotes w n (cellFirst w i) first
   pub size : entries F ≡ 1 + entries first
 
-pub reusable : {w : List ℕ} {n i : ℕ} {F : Ty} → Denotes w n i F → cellKind w i ≡ 4 → PartOf w n i F
+pub reusable : {w : List ℕ} {n i : ℕ} {F : Ty} → Denotes w n i F → cellKind w i ≡ reusable-kind → PartOf w n i F
 reusable {w} {n} {i} d e = go (view d)
   where
     go : {F : Ty} → View w n i F → PartOf w n i F
@@ -91,7 +93,7 @@ reusable {w} {n} {i} d e = go (view d)
     go (one-part k x) = record { first = _; part = refl; denotes = x; size = refl }
     go (two-parts m k x y) = absurd (made-not-reusable m (sym k ∙ e))
 
-pub not-reusable : {w : List ℕ} {n i : ℕ} {F : Ty} → Denotes w n i F → (cellKind w i ≡ 4 → ⊥) → asReusable F ≡ none
+pub not-reusable : {w : List ℕ} {n i : ℕ} {F : Ty} → Denotes w n i F → (cellKind w i ≡ reusable-kind → ⊥) → asReusable F ≡ none
 not-reusable {w} {n} {i} d f = go (view d)
   where
     go : {F : Ty} → View w n i F → asReusable F ≡ none
@@ -137,7 +139,7 @@ fails : (w : List ℕ) → Failed w w Fails
 fails w = record { answer = refl; unchanged = refl }
 
 -- The parts of a pair.
-pub pair-parts-found : (w : List ℕ) (i : ℕ) → cellKind w i ≡ 2
+pub pair-parts-found : (w : List ℕ) (i : ℕ) → cellKind w i ≡ pair-type-kind
     → (n : ℕ) (A : Ty)
     → Denotes w n i A
     → PartsGiven w n (asPair A) (Both (cellFirst w i) (cellSecond w i))
@@ -148,7 +150,7 @@ pair-parts-found w i e n A d =
     (sym (p .parts))
     (record { first = cellFirst w i; second = cellSecond w i; answer = refl; first-denotes = p .first-denotes; second-denotes = p .second-denotes })
 
-pub no-pair-parts : (w : List ℕ) (i : ℕ) → (cellKind w i ≡ 2 → ⊥)
+pub no-pair-parts : (w : List ℕ) (i : ℕ) → (cellKind w i ≡ pair-type-kind → ⊥)
     → (n : ℕ) (A : Ty)
     → Denotes w n i A
     → PartsGiven w n (asPair A) Neither
@@ -186,7 +188,7 @@ module _ (w : List ℕ) (n f a k : ℕ) (g : Ty → Option (Ty × Ty)) (r : Read
       (there w n (cellSecond w f) (q .second) (q .second-denotes)))
 
 -- Force.
-pub gives-part : (w : List ℕ) (n a : ℕ) → cellKind w a ≡ 4 → MeetsOne asReusable w w n a (Gives (cellFirst w a) n)
+pub gives-part : (w : List ℕ) (n a : ℕ) → cellKind w a ≡ reusable-kind → MeetsOne asReusable w w n a (Gives (cellFirst w a) n)
 gives-part w n a h room A d =
     let q = reusable d h in
     subst
@@ -194,7 +196,7 @@ gives-part w n a h room A d =
     (sym (q .part))
     (there w n (cellFirst w a) (q .first) (q .denotes))
 
-pub no-part-given : (w : List ℕ) (n a : ℕ) → (cellKind w a ≡ 4 → ⊥) → MeetsOne asReusable w w n a Fails
+pub no-part-given : (w : List ℕ) (n a : ℕ) → (cellKind w a ≡ reusable-kind → ⊥) → MeetsOne asReusable w w n a Fails
 no-part-given w n a h room A d = subst (λ o. Given w w n o Fails) (sym (not-reusable d h)) (fails w)
 
 -- A rule that makes a cell: its type is bounded by 512 entries, which is tested before anything is written. x and y are the
@@ -249,11 +251,11 @@ module _ (w : List ℕ) (t a : ℕ) where
   abbrev function : ℕ
   function = cellFirst w a
 
-  pub box-no-reusable : (cellKind w a ≡ 4 → ⊥) → SaysBox w t a Neither
+  pub box-no-reusable : (cellKind w a ≡ reusable-kind → ⊥) → SaysBox w t a Neither
   box-no-reusable h n T A d e =
       subst (λ o. BoxGiven w n t T (given o λ F. given (asFunction F) (boxResult T)) Neither) (sym (not-reusable e h)) refl
 
-  pub box-no-function : cellKind w a ≡ 4 → (cellKind w function ≡ 3 → ⊥) → SaysBox w t a Neither
+  pub box-no-function : cellKind w a ≡ reusable-kind → (cellKind w function ≡ function-kind → ⊥) → SaysBox w t a Neither
   box-no-function h h′ n T A d e =
       let q = reusable e h in
       subst
@@ -274,7 +276,7 @@ module _ (w : List ℕ) (t a : ℕ) where
       → 1 + (entries A + entries B) ≤ most-entries
       → BoxGiven w n t T (boxResult T (A, B)) r
 
-  of-parts : (r : Parts) → cellKind w a ≡ 4 → cellKind w function ≡ 3 → OfParts r → SaysBox w t a r
+  of-parts : (r : Parts) → cellKind w a ≡ reusable-kind → cellKind w function ≡ function-kind → OfParts r → SaysBox w t a r
   of-parts r h h′ result n T A d e =
       let q = reusable e h in
       let p = of-kind reads-function (q .denotes) h′ in
@@ -288,7 +290,7 @@ module _ (w : List ℕ) (t a : ℕ) where
       (sym (p .parts))
       (result n T (p .first) (p .second) d (p .first-denotes) (p .second-denotes) b))
 
-  module _ (h : cellKind w a ≡ 4) (h′ : cellKind w function ≡ 3) where
+  module _ (h : cellKind w a ≡ reusable-kind) (h′ : cellKind w function ≡ function-kind) where
     pub box-other-input : SaysSameType w t (cellFirst w function) false → SaysBox w t a Neither
     box-other-input s =
         of-parts Neither h h′ λ n T A B d x y b.

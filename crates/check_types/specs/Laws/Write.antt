@@ -5,12 +5,13 @@ use mathlib.Core.Path.{_≡_, refl, sym, _∙_, ap, ap₂}
 use mathlib.Core.List.{List, [], _∷_, _++_}
 use lib.ListN.{length, set, drop, length-set}
 use lib.Seq.{sets, sets-eq}
+use Rattle.rules.specs.Kinds.{reusable-kind}
 use Rattle.rules.specs.Types.{Ty, entries, wireCode, typeCodes}
-use Rattle.rules.specs.Laws.TypeCodes.{typeCodes-entries}
+use Rattle.rules.specs.Laws.TypeCodes.{typeCodes-entries, entries-positive, wire-kind}
 use Rattle.check_types.specs.Cells.{cellKind, cellFirst, cellSecond, Denotes, Made, made-pair, made-function}
 use Rattle.check_types.specs.Cells.{made-circuit}
-use Rattle.check_types.specs.Laws.Cells.{View, no-part, one-part, two-parts, view, wire-kind, made-entries, made-kind}
-use Rattle.check_types.specs.Laws.Cells.{cell-of, made-not-reusable, entries-positive}
+use Rattle.check_types.specs.Laws.Cells.{View, no-part, one-part, two-parts, view, made-entries, made-kind}
+use Rattle.check_types.specs.Laws.Cells.{cell-of, made-not-reusable}
 use Rattle.check_types.specs.Compare.{shareOf}
 use Rattle.check_types.specs.Write.{WroteAt, SaysWrote, SaysWroteAt}
 
@@ -52,7 +53,7 @@ module _ (w : List ℕ) (most i at : ℕ) (out : List ℕ) where
   abbrev headed : List ℕ
   headed = set out at (cellKind w i % 256)
 
-  pub wrote-one : (out′ : List ℕ) (r : ℕ) → cellKind w i ≡ 4
+  pub wrote-one : (out′ : List ℕ) (r : ℕ) → cellKind w i ≡ reusable-kind
       → SaysWroteAt w (shareOf w (cellFirst w i) (most - 1)) (cellFirst w i) (at + 1) headed out′ r
       → SaysWroteAt w most i at out out′ r
   wrote-one out′ r h first n A d f b = go (view d) f b
@@ -69,7 +70,7 @@ module _ (w : List ℕ) (most i at : ℕ) (out : List ℕ) where
             next = z .next ∙ omega arith;
           }
 
-  pub wrote-two : (out₁ out₂ : List ℕ) (next r : ℕ) → 2 ≤ cellKind w i → (cellKind w i ≡ 4 → ⊥)
+  pub wrote-two : (out₁ out₂ : List ℕ) (next r : ℕ) → 2 ≤ cellKind w i → (cellKind w i ≡ reusable-kind → ⊥)
       → SaysWroteAt w (shareOf w (cellFirst w i) (most - 1)) (cellFirst w i) (at + 1) headed out₁ next
       → length out₁ ≡ length out
       → SaysWroteAt w (most - 1 - shareOf w (cellFirst w i) (most - 1)) (cellSecond w i) next out₁ out₂ r

@@ -1,19 +1,19 @@
 -- Laws of specs/Lengths.antt.
-use Prim.Native.Nat.{ℕ, zero, suc, _+_, _*_, _≤_, _<_}
+use Prim.Native.Nat.{ℕ, zero, suc, _+_, _*_, _≤_}
 use native.Mathlib.Omega.{arith}
 use native.Mathlib.Nat.{suc-mul, zero-mul}
 use mathlib.Core.Path.{_≡_, refl, sym, _∙_, ap}
 use mathlib.Core.List.{List, [], _∷_, _++_, map, flatMap}
-use mathlib.Core.Option.{some}
 use lib.ListN.{length, length-append, length-map, length-reverse}
 use Rattle.rules.specs.Types.{Wire}
-use Rattle.rules.specs.Gates.{gateTable, nth}
+use Rattle.rules.specs.Gates.{gateTable}
 use Rattle.rules.specs.Terms.{Tuple, labels, Gate, _on_}
 use Rattle.rules.specs.Circuits.{circuit, TakesEarlier, no-gate, next-gate}
 use Rattle.listing.specs.Listing.{bytesOf, inputKind, gateKind, entry-slots, slots, inputSlots, gateSlots, oldestFirst}
 use Rattle.listing.specs.Listing.{sizes, kinds, allSlots, listing, listingLength, most-bytes, most-outputs}
 use Rattle.listing.specs.Lengths.{KindsFit}
 use Rattle.rules.specs.Sizes.{most-labels, most-gates}
+use Rattle.rules.specs.Laws.Wires.{nth-some-within}
 
 pub length-flat : {A B : Type 0} (f : A → List B) (n : ℕ) (xs : List A)
     → ((x : A) → length (f x) ≡ n)
@@ -34,7 +34,7 @@ length-slots (suc k) (w ∷ ws) = ap suc (length-slots k ws)
 pub length-gate-slots : (g : Gate) → length (gateSlots g) ≡ entry-slots
 length-gate-slots (n on ws) = length-slots entry-slots ws
 
-length-oldest : (gs : List Gate) → length (oldestFirst gs) ≡ length gs
+pub length-oldest : (gs : List Gate) → length (oldestFirst gs) ≡ length gs
 length-oldest gs = omega (arith, length-reverse gs)
 
 pub length-kinds : (I : List Wire) (gs : List Gate) → length (kinds I gs) ≡ length I + length gs
@@ -86,12 +86,7 @@ pub listing-fits : (I : List Wire) (gs : List Gate) (r : Tuple)
 listing-fits I gs r few-inputs few-gates few-outputs = omega (arith, length-listing I gs r)
 
 -- A number at which a list has an element is below its length.
-nth-below : {A : Type 0} (l : List A) (n : ℕ) (x : A) → nth l n ≡ some x → n < length l
-nth-below [] n x e = let z : _≡_ {A = ℕ} 0 1 = cc in absurd (omega arith)
-nth-below (a ∷ l) zero x e = omega arith
-nth-below (a ∷ l) (suc n) x e = omega (arith, nth-below l n x e)
-
 -- The gates of a sound circuit are those of the table, whose numbers are bytes.
 pub kinds-fit : {I : List Wire} {gs : List Gate} → TakesEarlier I gs → KindsFit gs
 kinds-fit no-gate = tt
-kinds-fit (next-gate {n = n} e ws t) = (omega (arith, nth-below gateTable n _ e), kinds-fit t)
+kinds-fit (next-gate {n = n} e ws t) = (omega (arith, nth-some-within gateTable n e), kinds-fit t)

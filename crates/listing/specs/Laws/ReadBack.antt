@@ -7,7 +7,7 @@ use mathlib.Core.Bool.{Bool}
 use mathlib.Core.List.{List, [], _∷_, _++_, map, flatMap, append-assoc, reverse-cons}
 use mathlib.Core.Option.{some}
 use lib.Dec.{T as IsTrue, leb, leb→le}
-use lib.ListN.{length, getD, length-append, length-map, length-reverse, List·getD-append}
+use lib.ListN.{length, getD, length-append, length-map, List·getD-append}
 use lib.Seq.{getD-append-add, getD-at}
 use Rattle.rules.specs.Types.{Wire, Bit, Qubit, Ty, wires}
 use Rattle.rules.specs.Gates.{GateType, _to_, gateTable, gateType}
@@ -18,7 +18,7 @@ use Rattle.rules.specs.Laws.Wires.{every-nth}
 use Rattle.listing.specs.Listing.{bytesOf, inputKind, gateKind, entry-slots, inputSlots, gateSlots, oldestFirst, sizes}
 use Rattle.listing.specs.Listing.{kinds, allSlots, listing}
 use Rattle.listing.specs.Laws.Lengths.{length-flat, length-bytes, length-slots, length-gate-slots, length-kinds}
-use Rattle.listing.specs.Laws.Lengths.{length-all-slots}
+use Rattle.listing.specs.Laws.Lengths.{length-all-slots, length-oldest}
 use Rattle.words.specs.Numbers.{wordAt}
 use Rattle.listing.specs.Reading.{wordsAt, inputCount, gateCount, outputCount, entryCount, kindAt, slotsFrom}
 use Rattle.listing.specs.Reading.{outputsFrom, inputType}
@@ -31,9 +31,6 @@ no-gate-at = 0 on []
 -- Gate j of a circuit, counted from the oldest.
 abbrev pub gateAt : List Gate → ℕ → Gate
 gateAt gs j = getD (oldestFirst gs) j no-gate-at
-
-length-oldest : (gs : List Gate) → length (oldestFirst gs) ≡ length gs
-length-oldest gs = omega (arith, length-reverse gs)
 
 -- The newest gate is the last one; the others stand where they stood without it.
 pub newest-at : (g : Gate) (gs : List Gate) → gateAt (g ∷ gs) (length gs) ≡ g

@@ -7,6 +7,7 @@ use mathlib.Core.List.{List, [], _∷_, _++_, map, flatMap, append-assoc}
 use mathlib.Core.Option.{some}
 use lib.ListN.{length, take, drop, length-append}
 use lib.Seq.{take-add}
+use Rattle.rules.specs.Kinds.{label-kind}
 use Rattle.rules.specs.Types.{Wire, wireCode}
 use Rattle.rules.specs.Terms.{Tuple, labels, Gate}
 use Rattle.rules.specs.Circuits.{circuit}
@@ -33,7 +34,7 @@ use Rattle.listing_writer.specs.Laws.Reading.{length-slots-piece, output
 -- One more node is passed, a label or another.
 pub label-read : (ns : List Node) (i : ℕ)
     → i < length ns
-    → kind (nodeAt ns i) ≡ 17
+    → kind (nodeAt ns i) ≡ label-kind
     → outputsRead ns (i + 1) ≡ outputsRead ns i ++ (argument (nodeAt ns i) ∷ [])
 label-read ns i h e =
     let z : 0 + i ≡ i = zero-add i in
@@ -42,7 +43,7 @@ label-read ns i h e =
 
 pub other-read : (ns : List Node) (i : ℕ)
     → i < length ns
-    → (kind (nodeAt ns i) ≡ 17 → ⊥)
+    → (kind (nodeAt ns i) ≡ label-kind → ⊥)
     → outputsRead ns (i + 1) ≡ outputsRead ns i
 other-read ns i h e =
     let z : 0 + i ≡ i = zero-add i in
@@ -50,7 +51,7 @@ other-read ns i h e =
 
 pub one-label-more : (ns : List Node) (i found : ℕ)
     → i < length ns
-    → kind (nodeAt ns i) ≡ 17
+    → kind (nodeAt ns i) ≡ label-kind
     → found ≡ length (outputsRead ns i)
     → found + 1 ≡ length (outputsRead ns (i + 1))
 one-label-more ns i found h e many =
@@ -77,7 +78,7 @@ fewer-labels ns i j h =
 pub label-room : (ns : List Node) (i size found : ℕ)
     → i < length ns
     → i < size
-    → kind (nodeAt ns i) ≡ 17
+    → kind (nodeAt ns i) ≡ label-kind
     → found ≡ length (outputsRead ns i)
     → found + 1 ≤ length (outputsRead ns size)
 label-room ns i size found h below e many =
@@ -86,7 +87,7 @@ label-room ns i size found h below e many =
 -- One more output is written.
 pub output-written : (ns : List Node) (l l₁ l₂ : List ℕ) (at i found a : ℕ)
     → i < length ns
-    → kind (nodeAt ns i) ≡ 17
+    → kind (nodeAt ns i) ≡ label-kind
     → a ≡ argument (nodeAt ns i)
     → found ≡ length (outputsRead ns i)
     → at + found * 2 + 2 ≤ length l

@@ -1,11 +1,11 @@
 -- Laws of one step with the walk before it, and of steps one after another.
-use Prim.Native.Nat.{ℕ, zero, suc, _+_, _-_, _≤_, _<_}
+use Prim.Native.Nat.{ℕ, suc, _+_, _-_, _≤_, _<_}
 use native.Mathlib.Omega.{arith}
 use mathlib.Core.Path.{_≡_, refl, sym, _∙_, ap, subst}
 use mathlib.Core.Logic.{_⊎_, inl, inr}
 use mathlib.Core.Bool.{Bool, true, false, _&&_}
 use mathlib.Core.List.{List, _∷_}
-use mathlib.Core.Option.{Option, none, some, Option·map}
+use mathlib.Core.Option.{none, some, Option·map}
 use lib.Dec.{leb}
 use lib.ListN.{length}
 use borrow.Author.Tests.{le-leb, leb-true, leb-false}
@@ -14,7 +14,7 @@ use Rattle.rules.specs.Steps.{Configuration}
 use Rattle.rules.specs.Sizes.{totalNodes, totalGates, boxesClosed, most-nodes, most-gates, most-boxes}
 use Rattle.rules.specs.Demand3.{ProgramHas}
 use Rattle.rules.specs.Next.{next}
-use Rattle.rules.specs.Runs.{fits, at-finish, still-running, does-not-fit, ended, atLimit, stepTo, oneStep, advanced}
+use Rattle.rules.specs.Runs.{fits, still-running, does-not-fit, ended, atLimit, stepTo, oneStep, advanced}
 use Rattle.rules.specs.Theorems.Safety.{preservation}
 use Rattle.machine_terms.specs.Walks.{walk, movesLeft, Stop, Stopped, at-application, at-let, at-force, at-box, at-apply}
 use Rattle.machine_terms.specs.Walks.{at-exit, at-end, at-variable, stopped-end}
@@ -28,11 +28,13 @@ use Rattle.machine_terms.specs.Theorems.Stepping.{contract-is-next}
 use Rattle.machine_terms.specs.Theorems.Running.{walk-decode, walk-fits}
 use Rattle.machine_terms.specs.Theorems.Finishing.{typed-goes-on}
 use Rattle.rules.specs.Theorems.Deterministic.{next→step}
+use Rattle.rules.specs.Theorems.Runs.{none-ends}
 use Rattle.machine_terms.specs.Trees.{Node}
 use Rattle.machine_walk.specs.Places.{Walks, stopOf}
 use Rattle.machine_walk.specs.Laws.Redexes.{walked-stopped}
 use Rattle.machine_walk.specs.declared.Stopped.{Stopped as StoppedPlace}
 use Rattle.words.specs.Quadwords.{Quadword}
+use Rattle.words.specs.Laws.Numbers.{one-left}
 use Rattle.machine_state.specs.declared.StateNumbers.{StateNumbers}
 use Rattle.machine_state.specs.declared.Stepped.the-variants.{Taken, TooLarge as StepTooLarge}
 use Rattle.machine_state.specs.Memory.{Memory, memory}
@@ -180,17 +182,9 @@ nothing-done types positions A allowance k m r s ready =
     let all : k - 0 ≡ k = omega arith in
     record { state-now = s; ready = ready; rest = ap (λ j. advanced allowance j 0 (decode types s)) all }
 
--- The end of the outermost frame, after any number of steps.
-finished-at : (allowance k n : ℕ) (c : Configuration) → next c ≡ none → advanced allowance k n c ≡ ended at-finish n c
-finished-at allowance zero n c e = ap (atLimit n c) e
-finished-at allowance (suc k) n c e = ap (oneStep allowance (advanced allowance k (suc n)) n c) e
-
 -- The steps asked for are done, and there is a next one.
 running-at : (allowance n : ℕ) (c d : Configuration) → next c ≡ some d → advanced allowance 0 n c ≡ ended still-running n c
 running-at allowance n c d e = ap (atLimit n c) e
-
-one-less : (k n : ℕ) → n < k → k - n ≡ suc (k - (n + 1))
-one-less k n h = omega arith
 
 -- The next one fits, or it does not.
 fitting-at : (allowance k n : ℕ) (c d : Configuration)
@@ -200,7 +194,7 @@ fitting-at : (allowance k n : ℕ) (c d : Configuration)
     → advanced allowance (k - n) n c ≡ advanced allowance (k - (n + 1)) (n + 1) d
 fitting-at allowance k n c d h e f =
     let next-one : suc n ≡ n + 1 = omega arith in
-    ap (λ j. advanced allowance j n c) (one-less k n h)
+    ap (λ j. advanced allowance j n c) (one-left k n h)
     ∙ ap (oneStep allowance (advanced allowance (k - (n + 1)) (suc n)) n c) e
     ∙ ap (λ b. stepTo b n c (advanced allowance (k - (n + 1)) (suc n) d)) f
     ∙ ap (λ j. advanced allowance (k - (n + 1)) j d) next-one
@@ -211,7 +205,7 @@ exceeding-at : (allowance k n : ℕ) (c d : Configuration)
     → fits allowance d ≡ false
     → advanced allowance (k - n) n c ≡ ended does-not-fit n c
 exceeding-at allowance k n c d h e f =
-    ap (λ j. advanced allowance j n c) (one-less k n h)
+    ap (λ j. advanced allowance j n c) (one-left k n h)
     ∙ ap (oneStep allowance (advanced allowance (k - (n + 1)) (suc n)) n c) e
     ∙ ap (λ b. stepTo b n c (advanced allowance (k - (n + 1)) (suc n) d)) f
 
@@ -231,7 +225,7 @@ module _ (types : ℕ → Ty) (positions : ℕ) (A : Ty) (allowance k n : ℕ) (
         ready = ready;
         as-the-rules =
             sym
-            (finished-at allowance (k - n) n (decode types s) (end-none types positions s (ready .fits) end))
+            (none-ends allowance (k - n) n (decode types s) (end-none types positions s (ready .fits) end))
             ∙ rest;
         at-the-end = end;
       }

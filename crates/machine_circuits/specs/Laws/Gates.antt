@@ -13,10 +13,11 @@ use Rattle.rules.specs.Gates.{GateType, _to_, gateTable, gateType, outputWires,
 use Rattle.rules.specs.GateCodes.{wiresIn, wiresOut, inputWires, wiresOf}
 use Rattle.rules.specs.Terms.{Gate, _on_}
 use Rattle.rules.specs.Circuits.{outputs, rename, renameGate}
-use Rattle.rules.specs.Laws.Wires.{every-nth, and-left, and-right}
+use Rattle.rules.specs.Laws.Wires.{every-nth}
 use Rattle.words.specs.Quadwords.{Quadword, quadword, quadwordAt, wordIn}
 use Rattle.machine_circuits.specs.Layout.{gateOf, slotOf, gateWords, gatesIn}
 use Rattle.rules.specs.Slots.{no-wire, gate-slots}
+use Rattle.rules.specs.Laws.Booleans.{and-left, and-right}
 
 -- No gate takes or makes more wires than a quadword has slots.
 abbrev few : GateType → Bool

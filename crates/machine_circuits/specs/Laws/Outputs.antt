@@ -8,11 +8,13 @@ use mathlib.Core.Option.{some}
 use lib.Dec.{T as IsTrue}
 use lib.ListN.{length, getD, drop, length-append}
 use lib.Seq.{drop-at}
+use Rattle.rules.specs.Kinds.{circuit-kind}
 use Rattle.rules.specs.Types.{Ty, isWireType, entries, typeCodes}
 use Rattle.rules.specs.Gates.{GateType, _to_, gateTable, gateType}
 use Rattle.rules.specs.GateCodes.{circCodes, typeCode, typeEntries}
 use Rattle.rules.specs.Laws.TypeCodes.{typeCodes-entries}
-use Rattle.rules.specs.Laws.Wires.{every-nth, and-left, and-right}
+use Rattle.rules.specs.Laws.Wires.{every-nth}
+use Rattle.rules.specs.Laws.Booleans.{and-left, and-right}
 use Rattle.words.specs.Regions.{Stands}
 use Rattle.words.specs.Laws.Regions.{stands-first}
 use Rattle.machine_circuits.specs.Tuples.{codeSpan}
@@ -47,7 +49,7 @@ pub output-wires : (n : ℕ) (T U : Ty) → gateType n ≡ some (T to U) → IsT
 output-wires n T U e = and-right (isWireType T) (isWireType U) (every-nth both-wires gateTable n e tt)
 
 module _ (n : ℕ) (T U : Ty) (e : gateType n ≡ some (T to U)) where
-  codes-are : gateCodes n ≡ 5 ∷ (typeCodes T ++ typeCodes U)
+  codes-are : gateCodes n ≡ circuit-kind ∷ (typeCodes T ++ typeCodes U)
   codes-are = ap circCodes e
 
   -- The input takes the first codes behind Circ, and the output the rest.

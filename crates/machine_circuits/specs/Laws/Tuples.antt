@@ -7,14 +7,15 @@ use mathlib.Core.List.{List, [], _∷_, _++_, map, append-assoc, append-nil}
 use lib.Dec.{T as IsTrue, eqb}
 use lib.ListN.{length, take, drop, length-append}
 use borrow.Author.Tests.{eq-eqb, ne-eqb}
+use Rattle.rules.specs.Kinds.{pair-type-kind, label-kind, pair-kind}
 use Rattle.rules.specs.Types.{Wire, Bit, Qubit, Ty, wire, _⊗_, _⊸_, !_, Circ, isWireType, wires, entries, wireCode}
 use Rattle.rules.specs.Types.{typeCodes}
 use Rattle.rules.specs.Terms.{Tuple, single, both, labels, tupleFrom}
 use Rattle.rules.specs.Circuits.{rename, renameTuple}
-use Rattle.rules.specs.Laws.Wires.{and-left, and-right}
 use Rattle.machine_terms.specs.Trees.{Node, node, kind, argument, Tree, preorder, tupleTree}
 use Rattle.machine_terms.specs.Laws.Tuples.{IsTuple, is-label, is-pair}
 use Rattle.rules.specs.Slots.{no-wire}
+use Rattle.rules.specs.Laws.Booleans.{and-left, and-right}
 use Rattle.machine_circuits.specs.Layout.{tupleWords}
 use Rattle.machine_nodes.specs.Nodes.{nodeAt, no-node}
 use Rattle.machine_circuits.specs.Laws.Prefixes.{prefix-next}
@@ -64,9 +65,9 @@ labels-append (n ∷ ns) ms =
     ∙ sym (append-assoc (labelOf n) (labelNumbers ns) (labelNumbers ms))
 
 pub labels-tree : {v : Tree} {k : Tuple} → IsTuple v k → labelNumbers (preorder v) ≡ labels k
-labels-tree (is-label {n = n} e) = ap (λ b. cond b (argument n ∷ []) [] ++ []) (eq-eqb (kind n) 17 e)
+labels-tree (is-label {n = n} e) = ap (λ b. cond b (argument n ∷ []) [] ++ []) (eq-eqb (kind n) label-kind e)
 labels-tree (is-pair {n = n} {t = t} {u = u} {k = k} {l = l} e i j) =
-    ap (λ b. cond b (argument n ∷ []) [] ++ labelNumbers (preorder t ++ preorder u)) (ne-eqb (kind n) 17 (λ h. omega arith))
+    ap (λ b. cond b (argument n ∷ []) [] ++ labelNumbers (preorder t ++ preorder u)) (ne-eqb (kind n) label-kind (λ h. omega arith))
     ∙ labels-append (preorder t) (preorder u)
     ∙ ap₂ _++_ (labels-tree i) (labels-tree j)
 
@@ -80,23 +81,23 @@ labels-next ns at i h =
 
 pub label-passed : (ns : List Node) (at i : ℕ)
     → at + i < length ns
-    → kind (nodeAt ns (at + i)) ≡ 17
+    → kind (nodeAt ns (at + i)) ≡ label-kind
     → labelsPassed ns at (i + 1) ≡ labelsPassed ns at i ++ (argument (nodeAt ns (at + i)) ∷ [])
 label-passed ns at i h e =
     labels-next ns at i h
     ∙ ap
     (λ b. labelsPassed ns at i ++ cond b (argument (nodeAt ns (at + i)) ∷ []) [])
-    (eq-eqb (kind (nodeAt ns (at + i))) 17 e)
+    (eq-eqb (kind (nodeAt ns (at + i))) label-kind e)
 
 pub other-passed : (ns : List Node) (at i : ℕ)
     → at + i < length ns
-    → (kind (nodeAt ns (at + i)) ≡ 17 → ⊥)
+    → (kind (nodeAt ns (at + i)) ≡ label-kind → ⊥)
     → labelsPassed ns at (i + 1) ≡ labelsPassed ns at i
 other-passed ns at i h e =
     labels-next ns at i h
     ∙ ap
     (λ b. labelsPassed ns at i ++ cond b (argument (nodeAt ns (at + i)) ∷ []) [])
-    (ne-eqb (kind (nodeAt ns (at + i))) 17 e)
+    (ne-eqb (kind (nodeAt ns (at + i))) label-kind e)
     ∙ append-nil (labelsPassed ns at i)
 
 map-append : {A B : Type 0} (f : A → B) (xs ys : List A) → map f (xs ++ ys) ≡ map f xs ++ map f ys
@@ -105,11 +106,11 @@ map-append f (x ∷ xs) ys = ap (λ l. f x ∷ l) (map-append f xs ys)
 
 pub words-tree : {v : Tree} {k : Tuple} → IsTuple v k → map wordOf (preorder v) ≡ tupleWords k
 words-tree (is-label {n = n} e) =
-    ap (λ b. cond b no-wire (argument n) ∷ []) (ne-eqb (kind n) 20 (λ h. omega arith))
+    ap (λ b. cond b no-wire (argument n) ∷ []) (ne-eqb (kind n) pair-kind (λ h. omega arith))
 words-tree (is-pair {n = n} {t = t} {u = u} e i j) =
     ap₂
     (λ b l. cond b no-wire (argument n) ∷ l)
-    (eq-eqb (kind n) 20 e)
+    (eq-eqb (kind n) pair-kind e)
     (map-append wordOf (preorder t) (preorder u) ∙ ap₂ _++_ (words-tree i) (words-tree j))
 
 all-below-left : (m : ℕ) (xs ys : List ℕ) → AllBelow m (xs ++ ys) → AllBelow m xs
@@ -124,14 +125,14 @@ loaded-label : (ks : List ℕ) (next m ℓ : ℕ)
     → AllBelow 65536 ks
     → next + m ≤ no-wire
     → ℓ < m
-    → loadedNode ks next ℓ ≡ node 17 (rename ks next ℓ)
+    → loadedNode ks next ℓ ≡ node label-kind (rename ks next ℓ)
 loaded-label ks next m ℓ low room below =
     let small : rename ks next ℓ < 65536 = renamed-below ks next m ℓ low room below in
     let e : rename ks next ℓ % 65536 ≡ rename ks next ℓ = omega arith in
     ap
-    (λ b. cond b (node 20 0) (node 17 (rename ks next ℓ % 65536)))
+    (λ b. cond b (node pair-kind 0) (node label-kind (rename ks next ℓ % 65536)))
     (ne-eqb ℓ no-wire (λ p. omega arith))
-    ∙ ap (node 17) e
+    ∙ ap (node label-kind) e
 
 pub loaded-tuple : (ks : List ℕ) (next m : ℕ) (k : Tuple)
     → AllBelow 65536 ks
@@ -141,7 +142,7 @@ pub loaded-tuple : (ks : List ℕ) (next m : ℕ) (k : Tuple)
 loaded-tuple ks next m (single ℓ) low room below = ap (λ n. n ∷ []) (loaded-label ks next m ℓ low room (below .0))
 loaded-tuple ks next m (both k l) low room below =
     ap
-    (λ t. node 20 0 ∷ t)
+    (λ t. node pair-kind 0 ∷ t)
     (map-append (loadedNode ks next) (tupleWords k) (tupleWords l)
     ∙ ap₂
     _++_
@@ -170,7 +171,7 @@ length-nodesOfCodes ℓ [] = refl
 length-nodesOfCodes ℓ (c ∷ cs) = ap suc (length-nodesOfCodes (labelAfter ℓ c) cs)
 
 -- A wire type has no code 2 at a wire.
-wire-code : (ℓ : ℕ) (α : Wire) → nodeOfCode ℓ (wireCode α) ≡ node 17 (ℓ % 65536)
+wire-code : (ℓ : ℕ) (α : Wire) → nodeOfCode ℓ (wireCode α) ≡ node label-kind (ℓ % 65536)
 wire-code ℓ Bit = refl
 wire-code ℓ Qubit = refl
 
@@ -197,11 +198,11 @@ pub nodes-type : (ℓ : ℕ) (T : Ty)
     → nodesOfCodes ℓ (typeCodes T) ≡ preorder (tupleTree (tupleFrom ℓ T))
 nodes-type ℓ (wire α) t room =
     let e : ℓ % 65536 ≡ ℓ = omega arith in
-    ap (λ n. n ∷ []) (wire-code ℓ α ∙ ap (node 17) e)
+    ap (λ n. n ∷ []) (wire-code ℓ α ∙ ap (node label-kind) e)
 nodes-type ℓ (A ⊗ B) t room =
     let long : length (wires A ++ wires B) ≡ length (wires A) + length (wires B) = length-append (wires A) (wires B) in
     ap
-    (λ l. node 20 0 ∷ l)
+    (λ l. node pair-kind 0 ∷ l)
     (nodes-append ℓ (typeCodes A) (typeCodes B)
     ∙ ap₂
     _++_
@@ -221,7 +222,7 @@ pub span-at-most : (cs : List ℕ) (waiting : ℕ) → codeSpan cs waiting ≤ l
 unfolding codeSpan
 span-at-most [] waiting = omega arith
 span-at-most (c ∷ cs) zero = omega arith
-span-at-most (c ∷ cs) (suc waiting) = omega (arith, span-at-most cs (cond (eqb c 2) (suc (suc waiting)) waiting))
+span-at-most (c ∷ cs) (suc waiting) = omega (arith, span-at-most cs (cond (eqb c pair-type-kind) (suc (suc waiting)) waiting))
 
 wire-waits : (w : ℕ) (α : Wire) → cond (eqb (wireCode α) 2) (suc (suc w)) w ≡ w
 wire-waits w Bit = refl

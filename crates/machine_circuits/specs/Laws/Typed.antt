@@ -3,7 +3,7 @@ use Prim.Native.Nat.{ℕ, zero, suc, _+_, _*_, _≤_, _<_}
 use native.Mathlib.Omega.{arith}
 use mathlib.Core.Path.{_≡_, sym, _∙_, ap}
 use mathlib.Core.List.{List, [], _∷_, _++_, append-assoc}
-use mathlib.Core.Option.{Option, some}
+use mathlib.Core.Option.{some}
 use lib.ListN.{length, length-append}
 use Rattle.rules.specs.Types.{Wire, Ty, Circ, wires, entries, most-entries}
 use Rattle.rules.specs.Gates.{nth, gateOutputs}
@@ -11,12 +11,13 @@ use Rattle.rules.specs.GateCodes.{wiresOut}
 use Rattle.rules.specs.Terms.{Tuple, single, both, labels, Gate, _on_, boxed, constant, tuple}
 use Rattle.rules.specs.Circuits.{outputs, count, taken, OfTypes, wires-end, next-wire, TakesEarlier, no-gate, next-gate}
 use Rattle.rules.specs.Circuits.{if-none, loose}
-use Rattle.rules.specs.Typing.{Shares, nowhere, left, right, copied, Never, LabelContext, split-end, _∣_⊢_∶_, by-label}
+use Rattle.rules.specs.Typing.{LabelContext, split-end, _∣_⊢_∶_, by-label}
 use Rattle.rules.specs.Typing.{by-circ, by-tuple}
 use Rattle.rules.specs.Laws.Wires.{nth-some-within}
 use Rattle.machine_terms.specs.Trees.{preorder, tupleTree}
 use Rattle.machine_terms.specs.Laws.Typed.{nodes-typed}
 use Rattle.rules.specs.Slots.{gate-slots}
+use Rattle.rules.specs.Laws.Appending.{shares-some-left, shares-some-right}
 use Rattle.machine_circuits.specs.Laws.Gates.{few-out}
 use Rattle.machine_circuits.specs.Copies.{AllBelow, WiresBelow}
 
@@ -65,18 +66,6 @@ loose-below I gs ℓ α p = by-count (count ℓ (taken gs)) p
     by-count zero p = nth-some-within (I ++ outputs gs) ℓ p
     by-count (suc c) p = let z : _≡_ {A = ℕ} 0 1 = cc in absurd (omega arith)
 
-shares-left : {a a₁ a₂ : Option Wire} {α : Wire} → Shares Never a a₁ a₂ → a₁ ≡ some α → a ≡ some α
-shares-left nowhere p = p
-shares-left left p = p
-shares-left right p = cc
-shares-left (copied n) p = absurd n
-
-shares-right : {a a₁ a₂ : Option Wire} {α : Wire} → Shares Never a a₁ a₂ → a₂ ≡ some α → a ≡ some α
-shares-right nowhere p = p
-shares-right left p = cc
-shares-right right p = p
-shares-right (copied n) p = absurd n
-
 all-below-append : (m : ℕ) (xs ys : List ℕ) → AllBelow m xs → AllBelow m ys → AllBelow m (xs ++ ys)
 all-below-append m [] ys h k = k
 all-below-append m (x ∷ xs) ys h k = (h .0, all-below-append m xs ys (h .1) k)
@@ -89,8 +78,8 @@ pub labels-below : (k : Tuple) {Q : LabelContext} {T : Ty} (m : ℕ)
 labels-below (single ℓ) m known (by-label {α = α} p o) = (known ℓ α (o .0), tt)
 labels-below (both k l) m known (by-tuple b split-end s d e) =
     all-below-append m (labels k) (labels l)
-    (labels-below k m (λ ℓ α p. known ℓ α (shares-left (s ℓ) p)) d)
-    (labels-below l m (λ ℓ α p. known ℓ α (shares-right (s ℓ) p)) e)
+    (labels-below k m (λ ℓ α p. known ℓ α (shares-some-left (s ℓ) p)) d)
+    (labels-below l m (λ ℓ α p. known ℓ α (shares-some-right (s ℓ) p)) e)
 
 -- A circuit constant's gates take wires that it has made, and the labels of its result are such wires.
 pub record ConstantBelow (T U : Ty) (gs : List Gate) (r : Tuple) : Type 0 where

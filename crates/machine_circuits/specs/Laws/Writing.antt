@@ -9,10 +9,11 @@ use lib.ListN.{length, getD, set, take, drop, length-drop, length-map}
 use lib.Seq.{take-suc-set, drop-cons}
 use borrow.Author.Tests.{eq-eqb, ne-eqb}
 use mathlib.Core.Option.{some}
+use Rattle.rules.specs.Kinds.{pair-type-kind}
 use Rattle.rules.specs.Types.{Ty, isWireType, wires, entries, typeCodes}
 use Rattle.rules.specs.Laws.TypeCodes.{typeCodes-entries}
 use Rattle.rules.specs.Terms.{Tuple, single, both, labels}
-use Rattle.machine_terms.specs.Trees.{Node, node, Tree, leaf, one, two, preorder, tupleOfTree}
+use Rattle.machine_terms.specs.Trees.{Node, Tree, leaf, one, two, preorder, tupleOfTree}
 use Rattle.machine_terms.specs.Laws.Tuples.{is-tuple}
 use Rattle.rules.specs.Slots.{no-wire}
 use Rattle.machine_circuits.specs.Layout.{tupleWords}
@@ -126,7 +127,7 @@ span-past cs i waiting h = omega (arith, span-at-most (drop i cs) waiting, lengt
 -- A pair waits for one more type; anything else ends one.
 pub span-pair : (cs : List ℕ) (i waiting : ℕ)
     → i < length cs
-    → getD cs i 0 ≡ 2
+    → getD cs i 0 ≡ pair-type-kind
     → i + codeSpan (drop i cs) (waiting + 1) ≡ (i + 1) + codeSpan (drop (i + 1) cs) (waiting + 1 + 1)
 unfolding codeSpan
 span-pair cs i w h e =
@@ -137,7 +138,7 @@ span-pair cs i w h e =
 
 pub span-wire : (cs : List ℕ) (i waiting : ℕ)
     → i < length cs
-    → (getD cs i 0 ≡ 2 → ⊥)
+    → (getD cs i 0 ≡ pair-type-kind → ⊥)
     → i + codeSpan (drop i cs) (waiting + 1) ≡ (i + 1) + codeSpan (drop (i + 1) cs) waiting
 unfolding codeSpan
 span-wire cs i w h e =
@@ -160,7 +161,7 @@ span-whole T cs at t stands =
 
 -- The next label, and the nodes with one more.
 pub after-bounds : (ℓ c : ℕ) → (ℓ ≤ labelAfter ℓ c) × (labelAfter ℓ c ≤ ℓ + 1)
-after-bounds ℓ c = by-test (eqb c 2)
+after-bounds ℓ c = by-test (eqb c pair-type-kind)
   where
     by-test : (b : Bool) → (ℓ ≤ cond b ℓ (ℓ + 1)) × (cond b ℓ (ℓ + 1) ≤ ℓ + 1)
     by-test true = (omega arith, omega arith)

@@ -12,6 +12,7 @@ use Rattle.rules.specs.Terms.{single, boxed, Term, variable, label, gate, abstr
 use Rattle.rules.specs.Terms.{force, box, apply}
 use Rattle.rules.specs.Sizes.{nodes, most-types}
 use Rattle.rules.specs.Steps.{start}
+use Rattle.rules.specs.Laws.TypeCodes.{entries-positive}
 use Rattle.program.specs.Format.{labelCount, typeCount, termCount, firstTerm, kindAt, argumentAt}
 use Rattle.program.specs.Reading.{readOf}
 use Rattle.program.specs.Trees.{TypeAt, bit-at, qubit-at, tensor-at, function-at, reusable-at, circ-at, TypeAtPosition}
@@ -20,6 +21,7 @@ use Rattle.program.specs.Trees.{lift-at, force-at, box-at, apply-at, gate-at, A
 use Rattle.program.specs.Theorems.Accepting.{read-sound}
 use Rattle.program.specs.Theorems.Programs.{accepted-nodes}
 use Rattle.program.specs.declared.ReadAnswer.the-variants.{Accepted}
+use Rattle.program.specs.Laws.TreeTraversal.{term-end, type-end}
 use Rattle.machine_terms.specs.Trees.{Tree, two, preorder, LeafKind, a-variable, a-label, a-gate, leafKind, OneKind}
 use Rattle.machine_terms.specs.Trees.{an-abstraction, a-lift, a-force, a-box, oneKind, TwoKind, an-application, a-pair}
 use Rattle.machine_terms.specs.Trees.{a-let, an-apply, twoKind, parts, ConstantFits, PositionFits, WellKinded}
@@ -31,8 +33,7 @@ use Rattle.words.specs.Regions.{Stands}
 use Rattle.words.specs.Laws.Regions.{stands-first}
 use Rattle.check_program.specs.Answers.{labelsOf, built, termOf}
 use Rattle.check_program.specs.Laws.Counting.{some-node}
-use Rattle.check_program.specs.Laws.Heads.{term-ends}
-use Rattle.check_program.specs.Laws.ReadBack.{some-entry, type-ends, built-two, type-read, named-read, file-read}
+use Rattle.check_program.specs.Laws.ReadBack.{built-two, type-read, named-read, file-read}
 use Rattle.machine_load.specs.Trees.{valuesFrom, nodeFrom, withParts, treeFrom, treeOf, typesOf}
 use Rattle.machine_load.specs.Laws.Trees.{labelKinds, typeKinds, termNodes}
 use Rattle.machine_load.specs.Laws.Values.{no-values, next-value, length-values, values-append}
@@ -130,7 +131,7 @@ module _ (f : List ℕ) (e most : ℕ) where
 
 -- A position at which a type stands is one of the type section.
 position-inside : (f : List ℕ) (p : ℕ) (A : Ty) → TypeAtPosition f p A → p < typeCount f
-position-inside f p A (at-position d h) = omega (arith, type-ends d, some-entry A)
+position-inside f p A (at-position d h) = omega (arith, type-end d, entries-positive A)
 
 -- The tree of a term that stands at an entry.
 tree-at : {f : List ℕ} {e n : ℕ} {M : Term} (most : ℕ)
@@ -150,16 +151,16 @@ tree-at {f} (suc most) t (lift-at {e = e} {M = M} k a d) h =
 tree-at {f} (suc most) t (force-at {e = e} {M = M} k a d) h =
     one-at f e most a-force M (force M) k tt (tree-at most t d (omega arith)) refl (omega arith)
 tree-at {f} (suc most) t (application-at {e = e} {m = m} {M = M} {N = N} k a d d′) h =
-    two-at f e most an-application M N (application M N) m k (term-ends d)
+    two-at f e most an-application M N (application M N) m k (term-end d)
     (tree-at most t d (omega arith)) (tree-at most t d′ (omega arith)) refl (omega arith)
 tree-at {f} (suc most) t (pair-at {e = e} {m = m} {M = M} {N = N} k a d d′) h =
-    two-at f e most a-pair M N (pair M N) m k (term-ends d)
+    two-at f e most a-pair M N (pair M N) m k (term-end d)
     (tree-at most t d (omega arith)) (tree-at most t d′ (omega arith)) refl (omega arith)
 tree-at {f} (suc most) t (let-at {e = e} {m = m} {M = M} {N = N} k a d d′) h =
-    two-at f e most a-let M N (let-in M N) m k (term-ends d)
+    two-at f e most a-let M N (let-in M N) m k (term-end d)
     (tree-at most t d (omega arith)) (tree-at most t d′ (omega arith)) refl (omega arith)
 tree-at {f} (suc most) t (apply-at {e = e} {m = m} {M = M} {N = N} k a d d′) h =
-    two-at f e most an-apply M N (apply M N) m k (term-ends d)
+    two-at f e most an-apply M N (apply M N) m k (term-end d)
     (tree-at most t d (omega arith)) (tree-at most t d′ (omega arith)) refl (omega arith)
 
 -- One kind before others.
@@ -187,13 +188,13 @@ type-kinds {f} (bit-at {e = e} k) = first-kind f e 0 0 [] k (sym (no-values (kin
 type-kinds {f} (qubit-at {e = e} k) = first-kind f e 1 0 [] k (sym (no-values (kindAt f) (suc e)))
 type-kinds {f} (tensor-at {e = e} {m = m} {A = A} {B = B} k d d′) =
     first-kind f e 2 (entries A + entries B) (typeCodes A ++ typeCodes B) k
-    (both-kinds f (suc e) m A B (type-ends d) (type-kinds d) (type-kinds d′))
+    (both-kinds f (suc e) m A B (type-end d) (type-kinds d) (type-kinds d′))
 type-kinds {f} (function-at {e = e} {m = m} {A = A} {B = B} k d d′) =
     first-kind f e 3 (entries A + entries B) (typeCodes A ++ typeCodes B) k
-    (both-kinds f (suc e) m A B (type-ends d) (type-kinds d) (type-kinds d′))
+    (both-kinds f (suc e) m A B (type-end d) (type-kinds d) (type-kinds d′))
 type-kinds {f} (circ-at {e = e} {m = m} {A = A} {B = B} k d d′) =
     first-kind f e 5 (entries A + entries B) (typeCodes A ++ typeCodes B) k
-    (both-kinds f (suc e) m A B (type-ends d) (type-kinds d) (type-kinds d′))
+    (both-kinds f (suc e) m A B (type-end d) (type-kinds d) (type-kinds d′))
 type-kinds {f} (reusable-at {e = e} {A = A} k d) = first-kind f e 4 (entries A) (typeCodes A) k (type-kinds d)
 
 -- The wires of labels are the kinds of their entries.
@@ -260,7 +261,7 @@ module _ (f : List ℕ) (L P N : ℕ) (read : readOf f ≡ Accepted L P N) where
   position-read : (p : ℕ) (A : Ty) → TypeAtPosition f p A → (typesOf f p ≡ A) × (p + entries A ≤ typeCount f)
       × (typeCodes A ≡ valuesFrom (kindAt f) (labelCount f + p) (entries A))
   position-read p A (at-position d h) =
-      let end = type-ends d in
+      let end = type-end d in
       let few = accepted .types-fit in
       (type-read most-types d (omega arith), omega arith, type-kinds d)
 

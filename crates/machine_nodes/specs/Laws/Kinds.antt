@@ -4,6 +4,8 @@ use mathlib.Core.Path.{_≡_, refl, sym, subst}
 use mathlib.Core.Bool.{Bool, true, false}
 use lib.Dec.{eqb}
 use borrow.Author.Tests.{eqb-true, eqb-false, ne-eqb}
+use Rattle.rules.specs.Kinds.{variable-kind, label-kind, abstraction-kind, application-kind, pair-kind, let-kind}
+use Rattle.rules.specs.Kinds.{lift-kind, force-kind, box-kind, apply-kind, gate-kind, constant-kind}
 use Rattle.machine_terms.specs.Trees.{parts}
 
 -- The kinds, each with its number of parts.
@@ -24,25 +26,25 @@ pub data KindIs : ℕ → ℕ → Type 0 where
 
 -- No parts follow a number that is no kind: 3 stands for that.
 pub parts-none : (k : ℕ)
-    → (k ≡ 16 → ⊥) → (k ≡ 17 → ⊥) → (k ≡ 26 → ⊥) → (k ≡ 32 → ⊥) → (k ≡ 18 → ⊥) → (k ≡ 22 → ⊥) → (k ≡ 23 → ⊥)
-    → (k ≡ 24 → ⊥) → (k ≡ 19 → ⊥) → (k ≡ 20 → ⊥) → (k ≡ 21 → ⊥) → (k ≡ 25 → ⊥)
+    → (k ≡ variable-kind → ⊥) → (k ≡ label-kind → ⊥) → (k ≡ gate-kind → ⊥) → (k ≡ constant-kind → ⊥) → (k ≡ abstraction-kind → ⊥) → (k ≡ lift-kind → ⊥) → (k ≡ force-kind → ⊥)
+    → (k ≡ box-kind → ⊥) → (k ≡ application-kind → ⊥) → (k ≡ pair-kind → ⊥) → (k ≡ let-kind → ⊥) → (k ≡ apply-kind → ⊥)
     → parts k ≡ 3
 unfolding parts
 parts-none k h16 h17 h26 h32 h18 h22 h23 h24 h19 h20 h21 h25 =
     simp (
       parts,
-      ne-eqb k 16 h16,
-      ne-eqb k 17 h17,
-      ne-eqb k 26 h26,
-      ne-eqb k 32 h32,
-      ne-eqb k 18 h18,
-      ne-eqb k 22 h22,
-      ne-eqb k 23 h23,
-      ne-eqb k 24 h24,
-      ne-eqb k 19 h19,
-      ne-eqb k 20 h20,
-      ne-eqb k 21 h21,
-      ne-eqb k 25 h25,
+      ne-eqb k variable-kind h16,
+      ne-eqb k label-kind h17,
+      ne-eqb k gate-kind h26,
+      ne-eqb k constant-kind h32,
+      ne-eqb k abstraction-kind h18,
+      ne-eqb k lift-kind h22,
+      ne-eqb k force-kind h23,
+      ne-eqb k box-kind h24,
+      ne-eqb k application-kind h19,
+      ne-eqb k pair-kind h20,
+      ne-eqb k let-kind h21,
+      ne-eqb k apply-kind h25,
     )
 
 -- What holds of a number holds of k, if k is that number; otherwise it is shown of k.

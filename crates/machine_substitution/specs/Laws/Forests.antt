@@ -2,6 +2,7 @@
 use Prim.Native.Nat.{ℕ, zero, suc}
 use mathlib.Core.Path.{_≡_, refl, sym, _∙_, ap, subst}
 use mathlib.Core.List.{List, [], _∷_, _++_, append-assoc, append-nil}
+use Rattle.rules.specs.Kinds.{variable-kind}
 use Rattle.machine_terms.specs.Trees.{Node, node, kind, Tree, leaf, one, two, preorder, parts, leafKind, oneKind, twoKind}
 use Rattle.machine_terms.specs.Trees.{bindersOne, bindersTwo, treeAt, variableTree, underTree, substituteTree, WellKinded}
 use Rattle.machine_nodes.specs.Laws.Kinds.{KindIs, kind-variable, kind-label, kind-gate, kind-constant, kind-abstraction}
@@ -30,7 +31,7 @@ variable-nodes (suc b) trees (suc a) t = variable-nodes b trees a t
 leaf-piece : (trees : List Tree) (b : ℕ) {k : ℕ} (a : ℕ) → KindIs k 0
     → pieceFor (preorders trees) b (node k a) ≡ preorder (underTree b trees (leaf (node k a)))
 unfolding pieceFor leafKind
-leaf-piece trees b a kind-variable = variable-nodes b trees a (leaf (node 16 a))
+leaf-piece trees b a kind-variable = variable-nodes b trees a (leaf (node variable-kind a))
 leaf-piece trees b a kind-label = refl
 leaf-piece trees b a kind-gate = refl
 leaf-piece trees b a kind-constant = refl

@@ -9,6 +9,7 @@ use lib.Dec.{eqb, ltb}
 use lib.ListN.{length, take, drop, length-take, length-drop}
 use lib.Seq.{drop-cons}
 use borrow.Author.Tests.{ltb-true, ltb-false, eq-eqb, ne-eqb, lt-ltb, le-ltb}
+use Rattle.rules.specs.Kinds.{variable-kind}
 use Rattle.machine_terms.specs.Trees.{Node, node, kind, argument}
 use Rattle.machine_nodes.specs.Nodes.{nodeAt, no-node}
 use Rattle.words.specs.Regions.{over}
@@ -79,7 +80,7 @@ module _ (ns : List Node) (place : ℕ) (inside : place < length ns) where
       → nodesOfRegion ns (pieceRegion values b (nodeAt ns place) place)
       ≡ pieceFor (nodesOfValues ns values) b (nodeAt ns place)
   unfolding pieceFor pieceRegion
-  piece-nodes values b = piece-by values b (eqb (kind (nodeAt ns place)) 16)
+  piece-nodes values b = piece-by values b (eqb (kind (nodeAt ns place)) variable-kind)
 
 -- What holds of the values, and of the node alone, holds of what the node becomes.
 module _ (P : Region → Type 0) (values : Values) (place : ℕ) where
@@ -95,7 +96,7 @@ module _ (P : Region → Type 0) (values : Values) (place : ℕ) where
   pub piece-has : P (values .first) → P (values .second) → P (nodeRegion place) → (b : ℕ) (n : Node)
       → P (pieceRegion values b n place)
   unfolding pieceRegion variableRegion
-  piece-has h h′ p b n = by-kind (eqb (kind n) 16) (ltb (argument n) b)
+  piece-has h h′ p b n = by-kind (eqb (kind n) variable-kind) (ltb (argument n) b)
     where
       by-kind : (x y : Bool)
           → P (cond x (cond y (nodeRegion place) (valueRegion values (argument n - b) place)) (nodeRegion place))
@@ -147,22 +148,22 @@ length-region ns r h = omega (arith, length-take (r .length) (drop (r .start) ns
 
 -- What each test of the code leads to: a node that is no variable stays.
 module _ (values : Values) (k a b place : ℕ) where
-  pub piece-other : (k ≡ 16 → ⊥) → nodeRegion place ≡ pieceRegion values b (node k a) place
+  pub piece-other : (k ≡ variable-kind → ⊥) → nodeRegion place ≡ pieceRegion values b (node k a) place
   unfolding pieceRegion
-  piece-other h = ap (λ x. cond x (variableRegion values b a place) (nodeRegion place)) (sym (ne-eqb k 16 h))
+  piece-other h = ap (λ x. cond x (variableRegion values b a place) (nodeRegion place)) (sym (ne-eqb k variable-kind h))
 
-  piece-variable : k ≡ 16 → variableRegion values b a place ≡ pieceRegion values b (node k a) place
+  piece-variable : k ≡ variable-kind → variableRegion values b a place ≡ pieceRegion values b (node k a) place
   unfolding pieceRegion
-  piece-variable h = ap (λ x. cond x (variableRegion values b a place) (nodeRegion place)) (sym (eq-eqb k 16 h))
+  piece-variable h = ap (λ x. cond x (variableRegion values b a place) (nodeRegion place)) (sym (eq-eqb k variable-kind h))
 
   -- A bound variable stays.
-  pub piece-bound : k ≡ 16 → a < b → nodeRegion place ≡ pieceRegion values b (node k a) place
+  pub piece-bound : k ≡ variable-kind → a < b → nodeRegion place ≡ pieceRegion values b (node k a) place
   unfolding variableRegion
   piece-bound h h′ =
       ap (λ x. cond x (nodeRegion place) (valueRegion values (a - b) place)) (sym (lt-ltb a b h′)) ∙ piece-variable h
 
   -- A free variable, by its distance to the binders.
-  pub piece-free : k ≡ 16 → b ≤ a → (index : ℕ) → index ≡ a - b
+  pub piece-free : k ≡ variable-kind → b ≤ a → (index : ℕ) → index ≡ a - b
       → valueRegion values index place ≡ pieceRegion values b (node k a) place
   unfolding variableRegion
   piece-free h h′ index e =

@@ -7,6 +7,7 @@ use mathlib.Core.List.{List, [], _∷_}
 use lib.Dec.{eqb}
 use lib.ListN.{length, getD, set, length-set}
 use lib.Seq.{getD-set-same, getD-set-other}
+use Rattle.rules.specs.Kinds.{abstraction-kind, let-kind}
 use Rattle.machine_terms.specs.Trees.{parts, oneKind, twoKind, bindersOne, bindersTwo}
 use Rattle.machine_nodes.specs.Laws.Kinds.{KindIs, kind-abstraction, kind-lift, kind-force, kind-box, kind-application}
 use Rattle.machine_nodes.specs.Laws.Kinds.{kind-pair, kind-let, kind-apply, kind-variable, kind-label, kind-gate}
@@ -40,7 +41,7 @@ stack-top ws (suc d) h =
 -- At most two.
 pub binders-few : (k : ℕ) → bindersOf k ≤ 2
 unfolding bindersOf
-binders-few k = few (eqb k 18) (eqb k 21)
+binders-few k = few (eqb k abstraction-kind) (eqb k let-kind)
   where
     few : (x y : Bool) → cond x 1 (cond y 2 0) ≤ 2
     few true y = omega arith

@@ -4,30 +4,32 @@ use native.Mathlib.Omega.{arith}
 use mathlib.Core.Path.{_≡_, refl, sym, subst}
 use mathlib.Core.Bool.{Bool, true, false, _||_, cond}
 use lib.Dec.{T as IsTrue, eqb, eqb→eq}
+use Rattle.rules.specs.Kinds.{variable-kind, label-kind, abstraction-kind, application-kind, pair-kind, let-kind}
+use Rattle.rules.specs.Kinds.{lift-kind, force-kind, box-kind, apply-kind, gate-kind, constant-kind}
 use Rattle.machine_terms.specs.Trees.{LeafKind, a-variable, a-label, a-gate, a-constant, leafKind, OneKind}
 use Rattle.machine_terms.specs.Trees.{an-abstraction, a-lift, a-force, a-box, oneKind, TwoKind, an-application, a-pair}
 use Rattle.machine_terms.specs.Trees.{a-let, an-apply, twoKind, parts}
 
 -- The numbers of the kinds without parts (01, "Program file"; 32 is the machine's own).
 abbrev pub leafNumber : LeafKind → ℕ
-leafNumber a-variable = 16
-leafNumber a-label = 17
-leafNumber a-gate = 26
-leafNumber a-constant = 32
+leafNumber a-variable = variable-kind
+leafNumber a-label = label-kind
+leafNumber a-gate = gate-kind
+leafNumber a-constant = constant-kind
 
 -- The numbers of the kinds with one part.
 abbrev pub oneNumber : OneKind → ℕ
-oneNumber an-abstraction = 18
-oneNumber a-lift = 22
-oneNumber a-force = 23
-oneNumber a-box = 24
+oneNumber an-abstraction = abstraction-kind
+oneNumber a-lift = lift-kind
+oneNumber a-force = force-kind
+oneNumber a-box = box-kind
 
 -- The numbers of the kinds with two parts.
 abbrev pub twoNumber : TwoKind → ℕ
-twoNumber an-application = 19
-twoNumber a-pair = 20
-twoNumber a-let = 21
-twoNumber an-apply = 25
+twoNumber an-application = application-kind
+twoNumber a-pair = pair-kind
+twoNumber a-let = let-kind
+twoNumber an-apply = apply-kind
 
 -- The number of a kind without parts is read as that kind.
 pub leaf-number-read : (c : LeafKind) → (leafKind (leafNumber c) ≡ c) × (parts (leafNumber c) ≡ 0)
@@ -85,8 +87,8 @@ module _ {A : Type 0} (number : A → ℕ) (k : ℕ) (a b c d : A) where
 pub leaf-number : (k : ℕ) → parts k ≡ 0 → k ≡ leafNumber (leafKind k)
 unfolding parts leafKind
 leaf-number k e =
-    four leafNumber k a-variable a-label a-gate a-constant (eqb k 16) (eqb k 17) (eqb k 26) (eqb k 32) refl refl refl
+    four leafNumber k a-variable a-label a-gate a-constant (eqb k variable-kind) (eqb k label-kind) (eqb k gate-kind) (eqb k constant-kind) refl refl refl
     refl
-    (picks-zero (eqb k 16 || eqb k 17 || eqb k 26 || eqb k 32) (eqb k 18 || eqb k 22 || eqb k 23 || eqb k 24)
-    (eqb k 19 || eqb k 20 || eqb k 21 || eqb k 25)
+    (picks-zero (eqb k variable-kind || eqb k label-kind || eqb k gate-kind || eqb k constant-kind) (eqb k abstraction-kind || eqb k lift-kind || eqb k force-kind || eqb k box-kind)
+    (eqb k application-kind || eqb k pair-kind || eqb k let-kind || eqb k apply-kind)
     e)

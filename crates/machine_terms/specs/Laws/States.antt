@@ -3,6 +3,7 @@ use Prim.Native.Nat.{ℕ, zero, suc}
 use mathlib.Core.List.{List, [], _∷_}
 use mathlib.Core.Option.{Option, none, some}
 use lib.ListN.{length}
+use Rattle.rules.specs.Kinds.{application-kind, constant-kind}
 use Rattle.rules.specs.Types.{Ty, wires}
 use Rattle.rules.specs.Gates.{GateType, _to_, gateType}
 use Rattle.rules.specs.Terms.{Tuple, tupleFrom, Boxed, boxed}
@@ -70,7 +71,7 @@ module _ (types : ℕ → Ty) (C : Circuit) (Cs : List Circuit) (closed : List B
   enter n v t hs =
       some
       (state
-      (evaluating (two (node 19 0) t (tupleTree (tupleFrom 0 (types (argument n))))) (opened n v ∷ hs))
+      (evaluating (two (node application-kind 0) t (tupleTree (tupleFrom 0 (types (argument n))))) (opened n v ∷ hs))
       (circuit (wires (types (argument n))) [])
       (C ∷ Cs)
       closed)
@@ -140,7 +141,7 @@ leave types C Cs closed none n hs = none
 leave types C [] closed (some k) n hs = none
 leave types (circuit I gs) (C ∷ Cs) closed (some k) n hs =
     some
-    (state (evaluating (leaf (node 32 (length closed))) hs) C Cs (boxed (types (argument n)) gs k ∷ closed))
+    (state (evaluating (leaf (node constant-kind (length closed))) hs) C Cs (boxed (types (argument n)) gs k ∷ closed))
 
 -- The step at a stop of the walk: none at the end, and none where the rules have no step.
 abbrev pub contract : (ℕ → Ty) → State → Option State

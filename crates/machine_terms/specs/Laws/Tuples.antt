@@ -1,13 +1,13 @@
 -- The trees that are label tuples: labels joined by pairs.
-use Prim.Native.Nat.{ℕ, suc, _+_}
+use Prim.Native.Nat.{ℕ}
 use native.Mathlib.Omega.{arith}
-use mathlib.Core.Path.{_≡_, refl, sym, _∙_, ap, ap₂, subst}
+use mathlib.Core.Path.{_≡_, refl, subst}
 use mathlib.Core.Bool.{Bool, true, false, cond}
-use mathlib.Core.List.{_++_}
 use mathlib.Core.Option.{Option, none, some, Option·some-injective, Option·none-ne-some}
 use lib.Dec.{eqb}
 use lib.ListN.{length, length-append}
 use borrow.Author.Tests.{eqb-true}
+use Rattle.rules.specs.Kinds.{variable-kind, label-kind, application-kind, pair-kind, let-kind, gate-kind}
 use Rattle.rules.specs.Terms.{Tuple, single, both}
 use Rattle.rules.specs.Next.{joined}
 use Rattle.machine_terms.specs.Trees.{Node, kind, argument, Tree, leaf, one, two, preorder, LeafKind, a-variable}
@@ -16,34 +16,34 @@ use Rattle.machine_terms.specs.Trees.{an-apply, twoKind, leafTuple, twoT
 
 -- A tree that is the label tuple k.
 pub data IsTuple : Tree → Tuple → Type 0 where
-  is-label : {n : Node} → kind n ≡ 17 → IsTuple (leaf n) (single (argument n))
+  is-label : {n : Node} → kind n ≡ label-kind → IsTuple (leaf n) (single (argument n))
   is-pair : {n : Node} {t u : Tree} {k l : Tuple}
-      → kind n ≡ 20
+      → kind n ≡ pair-kind
       → IsTuple t k
       → IsTuple u l
       → IsTuple (two n t u) (both k l)
 
-label-kind : (k : ℕ) → leafKind k ≡ a-label → k ≡ 17
+kind-of-label : (k : ℕ) → leafKind k ≡ a-label → k ≡ label-kind
 unfolding leafKind
-label-kind k e = of (eqb k 16) (eqb k 17) (eqb k 26) refl e
+kind-of-label k e = of (eqb k variable-kind) (eqb k label-kind) (eqb k gate-kind) refl e
   where
     of : (a b c : Bool)
-        → eqb k 17 ≡ b
+        → eqb k label-kind ≡ b
         → cond a a-variable (cond b a-label (cond c a-gate a-constant)) ≡ a-label
-        → k ≡ 17
+        → k ≡ label-kind
     of true b c p e = cc
     of false true c p e = eqb-true k 17 p
     of false false true p e = cc
     of false false false p e = cc
 
-pair-kind : (k : ℕ) → twoKind k ≡ a-pair → k ≡ 20
+kind-of-pair : (k : ℕ) → twoKind k ≡ a-pair → k ≡ pair-kind
 unfolding twoKind
-pair-kind k e = of (eqb k 19) (eqb k 20) (eqb k 21) refl e
+kind-of-pair k e = of (eqb k application-kind) (eqb k pair-kind) (eqb k let-kind) refl e
   where
     of : (a b c : Bool)
-        → eqb k 20 ≡ b
+        → eqb k pair-kind ≡ b
         → cond a an-application (cond b a-pair (cond c a-let an-apply)) ≡ a-pair
-        → k ≡ 20
+        → k ≡ pair-kind
     of true b c p e = cc
     of false true c p e = eqb-true k 20 p
     of false false true p e = cc
@@ -55,7 +55,7 @@ leaf-is n k e = of (leafKind (kind n)) refl e
     of : (c : LeafKind) → leafKind (kind n) ≡ c → leafTuple c (argument n) ≡ some k → IsTuple (leaf n) k
     of a-variable p e = absurd (Option·none-ne-some k e)
     of a-label p e =
-        subst (IsTuple (leaf n)) (Option·some-injective (single (argument n)) k e) (is-label (label-kind (kind n) p))
+        subst (IsTuple (leaf n)) (Option·some-injective (single (argument n)) k e) (is-label (kind-of-label (kind n) p))
     of a-gate p e = absurd (Option·none-ne-some k e)
     of a-constant p e = absurd (Option·none-ne-some k e)
 
@@ -69,7 +69,7 @@ both-is n t u k ht hu e = of (twoKind (kind n)) refl e
     halves : (a b : Option Tuple)
         → tupleOfTree t ≡ a
         → tupleOfTree u ≡ b
-        → kind n ≡ 20
+        → kind n ≡ pair-kind
         → joined a b ≡ some k
         → IsTuple (two n t u) k
     halves none b p q h e = absurd (Option·none-ne-some k e)
@@ -82,7 +82,7 @@ both-is n t u k ht hu e = of (twoKind (kind n)) refl e
         → twoTuple c (joined (tupleOfTree t) (tupleOfTree u)) ≡ some k
         → IsTuple (two n t u) k
     of an-application p e = absurd (Option·none-ne-some k e)
-    of a-pair p e = halves (tupleOfTree t) (tupleOfTree u) refl refl (pair-kind (kind n) p) e
+    of a-pair p e = halves (tupleOfTree t) (tupleOfTree u) refl refl (kind-of-pair (kind n) p) e
     of a-let p e = absurd (Option·none-ne-some k e)
     of an-apply p e = absurd (Option·none-ne-some k e)
 

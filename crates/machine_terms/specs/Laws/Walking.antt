@@ -3,10 +3,11 @@
 use Prim.Native.Nat.{ℕ, zero, suc, _≤_, _<_}
 use native.Mathlib.Omega.{arith}
 use mathlib.Core.Path.{_≡_, refl, sym, _∙_, ap, subst}
-use mathlib.Core.Bool.{Bool, true, false, _&&_}
+use mathlib.Core.Bool.{_&&_}
 use mathlib.Core.List.{List, [], _∷_, _++_, append-assoc, append-nil}
 use lib.Dec.{T as IsTrue}
 use lib.ListN.{length, length-append}
+use Rattle.rules.specs.Laws.Booleans.{and-both}
 use Rattle.machine_terms.specs.Trees.{Node, kind, Tree, leaf, one, two, preorder, LeafKind, a-variable, a-label}
 use Rattle.machine_terms.specs.Trees.{a-gate, a-constant, leafKind, OneKind, an-abstraction, a-lift, a-force, a-box}
 use Rattle.machine_terms.specs.Trees.{oneKind, TwoKind, an-application, a-pair, a-let, an-apply, twoKind, leafValue}
@@ -138,10 +139,6 @@ module _ (positions closed : ℕ) where
   first-fits n v u hs an-apply e h =
       (h .2 .0 .1, ((h .2 .0 .0, subst (λ c. IsTrue (goesRight c)) (sym e) tt, h .0, h .1), h .2 .1))
 
-  and-true : (a b : Bool) → IsTrue a → IsTrue b → IsTrue (a && b)
-  and-true true b v w = w
-  and-true false b v w = absurd v
-
   second-fits : (n : Node) (v w : Tree) (hs : List Hole) (c : TwoKind)
       → twoKind (kind n) ≡ c
       → Fits (returning w (second n v ∷ hs))
@@ -150,7 +147,7 @@ module _ (positions closed : ℕ) where
   second-fits n v w hs a-pair e h = (
     (h .2 .0 .0, h .2 .0 .2, h .0),
     subst (λ c. IsTrue (twoValue c (valueTree v && valueTree w))) (sym e)
-        (and-true (valueTree v) (valueTree w) (h .2 .0 .3) (h .1)),
+        (and-both (valueTree v) (valueTree w) (h .2 .0 .3) (h .1)),
     h .2 .1,
   )
   second-fits n v w hs a-let e h = tt

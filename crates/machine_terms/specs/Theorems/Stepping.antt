@@ -5,6 +5,7 @@ use mathlib.Core.List.{List, [], _∷_}
 use mathlib.Core.Option.{Option, none, some, Option·map}
 use lib.Dec.{T as IsTrue}
 use lib.ListN.{length}
+use Rattle.rules.specs.Kinds.{constant-kind}
 use Rattle.rules.specs.Types.{Wire, Ty, wires}
 use Rattle.rules.specs.Gates.{GateType, _to_, gateType}
 use Rattle.rules.specs.Terms.{Tuple, tupleFrom, Gate, Boxed, boxed, Term, variable, constant, application, let-in, lift}
@@ -16,7 +17,7 @@ use Rattle.rules.specs.Steps.{Frame, frame, Configuration, configuration}
 use Rattle.rules.specs.Next.{free, find, tupleOf, view, goOn, stepApplication, stepLet, stepForce, stepBox, append}
 use Rattle.rules.specs.Next.{appendGate, stepApply, stepRedex, closeFound, exit, stepFound, next}
 use Rattle.rules.specs.Theorems.Deterministic.{Proto, proto-application, proto-let, proto-force, proto-box, proto-apply}
-use Rattle.rules.specs.Theorems.Deterministic.{find-value, find-plug}
+use Rattle.rules.specs.Theorems.Deterministic.{find-value, find-plug, no-exit}
 use Rattle.machine_terms.specs.Trees.{Node, node, kind, argument, Tree, leaf, one, two, LeafKind, a-variable, a-label}
 use Rattle.machine_terms.specs.Trees.{a-gate, a-constant, leafKind, OneKind, an-abstraction, a-lift, a-force, a-box}
 use Rattle.machine_terms.specs.Trees.{oneKind, TwoKind, an-application, a-pair, a-let, an-apply, twoKind, valueTree}
@@ -383,13 +384,13 @@ module _ (types : ℕ → Ty) (positions : ℕ) (closed : List Boxed) (n : Node)
   -- The constant in the place of the box, once its circuit is closed.
   constant-there : (c : Boxed)
       → plug around-box (constant c)
-      ≡ meaning (environment types (c ∷ closed)) (frameTree hs (leaf (node 32 (length closed))))
+      ≡ meaning (environment types (c ∷ closed)) (frameTree hs (leaf (node constant-kind (length closed))))
   unfolding leafKind
   constant-there c =
       sym (around-context there positions (length closed) hs (fit .1) (constant c))
       ∙ sym (around-more types c closed positions hs (constant c) (fit .1))
       ∙ ap (λ d. around (environment types (c ∷ closed)) hs (constant d)) (sym (circuit-at-last c closed))
-      ∙ sym (meaning-frame (environment types (c ∷ closed)) hs (leaf (node 32 (length closed))))
+      ∙ sym (meaning-frame (environment types (c ∷ closed)) hs (leaf (node constant-kind (length closed))))
 
   -- The term of the frame below: the box in its evaluation context.
   box-below : (M : Term)
@@ -430,10 +431,6 @@ module _ (types : ℕ → Ty) (positions : ℕ) (closed : List Boxed) (n : Node)
       ∙ leaves D Cs (tupleOfTree v)
 
 -- The end: the outermost frame's term is a value.
-no-exit : (C : Circuit) (k : Option Tuple) (closed : List Boxed) → exit C k [] closed ≡ none
-no-exit C none closed = refl
-no-exit C (some k) closed = refl
-
 at-end-next : (types : ℕ → Ty) (C : Circuit) (Cs : List Circuit) (closed : List Boxed) (v : Tree)
     → IsTrue (valueTree v)
     → next (decode types (state (returning v []) C Cs closed)) ≡ none

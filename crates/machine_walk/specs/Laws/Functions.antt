@@ -6,6 +6,7 @@ use mathlib.Core.Bool.{true, false}
 use mathlib.Core.List.{List}
 use lib.Dec.{T as IsTrue}
 use lib.ListN.{length, set, take, drop}
+use Rattle.rules.specs.Kinds.{pair-kind, let-kind}
 use Rattle.machine_terms.specs.Trees.{Node, kind, oneKind, twoKind}
 use Rattle.machine_terms.specs.Holes.{waits}
 use Rattle.machine_terms.specs.Walks.{Walk, WalkFits, stopOne, move, walk}
@@ -134,25 +135,25 @@ module _ (rs : List Quadword) (p : Place) (at k : ℕ) where
       only-stops ns rs p positions closed at s w (tagged-there e ns w m) f m
       (subst (λ j. IsTrue (waits (oneKind j)) → stopOf s ≡ stopOne (oneKind j)) q′ q)
 
-  pub let-moves : ReturnsTo rs p 1 at → k ≡ 21 → MovesStack rs rs p at k (Stops AtLet)
+  pub let-moves : ReturnsTo rs p 1 at → k ≡ let-kind → MovesStack rs rs p at k (Stops AtLet)
   let-moves e q ns q′ positions closed w f m = let-stops ns rs p at w (tagged-there e ns w m) m (sym q′ ∙ q)
 
   pub first-moves : (rs′ : List Quadword)
       → ReturnsTo rs p 1 at
-      → (k ≡ 21 → ⊥)
+      → (k ≡ let-kind → ⊥)
       → rs′ ≡ set rs (p .depth - 1) (stackEntry 2 (at % 65536) (p .left % 65536))
       → MovesStack rs rs′ p at k
       (GoesOn (record { left = p .left; right = p .right; depth = p .depth; returning = false }))
   first-moves rs′ e q q″ ns q′ positions closed w f m =
       first-onward ns rs p at rs′ w (tagged-there e ns w m) m (λ z. q (q′ ∙ z)) q″
 
-  pub pair-moves : ReturnsTo rs p 2 at → k ≡ 20 → MovesStack rs rs p at k
+  pub pair-moves : ReturnsTo rs p 2 at → k ≡ pair-kind → MovesStack rs rs p at k
       (GoesOn (record { left = p .left; right = p .right; depth = p .depth - 1; returning = true }))
   pair-moves e q ns q′ positions closed w f m = pair-onward ns rs p at w (tagged-there e ns w m) m (sym q′ ∙ q)
 
   pub second-moves : (s : Stop)
       → ReturnsTo rs p 2 at
-      → (k ≡ 20 → ⊥)
+      → (k ≡ pair-kind → ⊥)
       → stopOf s ≡ stopTwo (twoKind k)
       → MovesStack rs rs p at k (Stops s)
   second-moves s e h q ns q′ positions closed w f m =

@@ -3,6 +3,8 @@ use Prim.Native.Nat.{ℕ}
 use mathlib.Core.Path.{_≡_, refl, subst}
 use mathlib.Core.List.{List, _∷_}
 use borrow.Author.Tests.{ne-eqb}
+use Rattle.rules.specs.Kinds.{label-kind, abstraction-kind, application-kind, pair-kind, let-kind, lift-kind}
+use Rattle.rules.specs.Kinds.{force-kind, box-kind, apply-kind, gate-kind, constant-kind}
 use Rattle.machine_terms.specs.Trees.{Node, node, kind, Tree, leaf, one, two, leafKind, oneKind, WellKinded}
 use Rattle.machine_terms.specs.Holes.{Hole, only}
 use Rattle.machine_terms.specs.Walks.{evaluating, returning, goes-on, stops, at-variable, move}
@@ -15,24 +17,24 @@ use Rattle.machine_walk.specs.Heads.{headOf}
 
 -- There is nothing to do with a number that is none of these.
 pub head-neither : (k : ℕ)
-    → (k ≡ 17 → ⊥) → (k ≡ 18 → ⊥) → (k ≡ 19 → ⊥) → (k ≡ 20 → ⊥) → (k ≡ 21 → ⊥) → (k ≡ 22 → ⊥) → (k ≡ 23 → ⊥)
-    → (k ≡ 24 → ⊥) → (k ≡ 25 → ⊥) → (k ≡ 26 → ⊥) → (k ≡ 32 → ⊥)
+    → (k ≡ label-kind → ⊥) → (k ≡ abstraction-kind → ⊥) → (k ≡ application-kind → ⊥) → (k ≡ pair-kind → ⊥) → (k ≡ let-kind → ⊥) → (k ≡ lift-kind → ⊥) → (k ≡ force-kind → ⊥)
+    → (k ≡ box-kind → ⊥) → (k ≡ apply-kind → ⊥) → (k ≡ gate-kind → ⊥) → (k ≡ constant-kind → ⊥)
     → headOf k ≡ Neither
 unfolding headOf
 head-neither k h17 h18 h19 h20 h21 h22 h23 h24 h25 h26 h32 =
     simp (
       headOf,
-      ne-eqb k 17 h17,
-      ne-eqb k 18 h18,
-      ne-eqb k 19 h19,
-      ne-eqb k 20 h20,
-      ne-eqb k 21 h21,
-      ne-eqb k 22 h22,
-      ne-eqb k 23 h23,
-      ne-eqb k 24 h24,
-      ne-eqb k 25 h25,
-      ne-eqb k 26 h26,
-      ne-eqb k 32 h32,
+      ne-eqb k label-kind h17,
+      ne-eqb k abstraction-kind h18,
+      ne-eqb k application-kind h19,
+      ne-eqb k pair-kind h20,
+      ne-eqb k let-kind h21,
+      ne-eqb k lift-kind h22,
+      ne-eqb k force-kind h23,
+      ne-eqb k box-kind h24,
+      ne-eqb k apply-kind h25,
+      ne-eqb k gate-kind h26,
+      ne-eqb k constant-kind h32,
     )
 
 -- The move at a tree, by what is to be done with it.

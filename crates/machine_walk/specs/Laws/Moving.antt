@@ -8,6 +8,7 @@ use lib.Dec.{eqb, T as IsTrue}
 use lib.ListN.{length, set, take, drop, length-append, length-set}
 use lib.Seq.{getD-take, getD-at}
 use borrow.Author.Tests.{ne-eqb}
+use Rattle.rules.specs.Kinds.{abstraction-kind, application-kind, pair-kind, let-kind, lift-kind, force-kind}
 use Rattle.machine_terms.specs.Trees.{Node, kind, Tree, leaf, one, two, preorder, an-abstraction, a-lift, a-box, oneKind}
 use Rattle.machine_terms.specs.Trees.{an-application, a-pair, a-let, an-apply, twoKind, WellKinded}
 use Rattle.machine_terms.specs.Holes.{Hole, only, first, second, opened, nodesBefore, before, after, waits}
@@ -345,7 +346,7 @@ module _ (ns : List Node) (rs : List Quadword) (p : Place) where
   pub let-stops : (at : ℕ) (w : Walk)
       → Tagged ns at 1 w
       → Holds ns rs p w
-      → kind (nodeAt ns at) ≡ 21
+      → kind (nodeAt ns at) ≡ let-kind
       → MovedTo ns rs p w (Stops AtLet)
   unfolding twoKind
   let-stops at w (tag-first {n = n} {u = u} {v = v} {hs = hs} a q) m e =
@@ -353,10 +354,10 @@ module _ (ns : List Node) (rs : List Quadword) (p : Place) where
 
 -- A node of two parts that is no let goes on to its second part.
 first-move : (k : ℕ) (n : Node) (v u : Tree) (hs : List Hole)
-    → (k ≡ 21 → ⊥)
+    → (k ≡ let-kind → ⊥)
     → moveFirst (twoKind k) n v u hs ≡ goes-on (evaluating u (second n v ∷ hs))
 unfolding twoKind
-first-move k n v u hs f = rw (ne-eqb k 21 f, twoKind) (go (eqb k 19) (eqb k 20))
+first-move k n v u hs f = rw (ne-eqb k let-kind f, twoKind) (go (eqb k application-kind) (eqb k pair-kind))
   where
     go : (b c : Bool)
         → moveFirst (cond b an-application (cond c a-pair an-apply)) n v u hs ≡ goes-on (evaluating u (second n v ∷ hs))
@@ -365,10 +366,10 @@ first-move k n v u hs f = rw (ne-eqb k 21 f, twoKind) (go (eqb k 19) (eqb k 20))
     go false false = refl
 
 second-move : (k : ℕ) (n : Node) (v u : Tree) (hs : List Hole)
-    → (k ≡ 20 → ⊥)
+    → (k ≡ pair-kind → ⊥)
     → moveSecond (twoKind k) n v u hs ≡ stops (stopTwo (twoKind k))
 unfolding twoKind
-second-move k n v u hs f = rw (ne-eqb k 20 f, twoKind) (go (eqb k 19) (eqb k 21))
+second-move k n v u hs f = rw (ne-eqb k pair-kind f, twoKind) (go (eqb k application-kind) (eqb k let-kind))
   where
     go : (b c : Bool)
         → moveSecond (cond b an-application (cond c a-let an-apply)) n v u hs
@@ -418,7 +419,7 @@ module _ (ns : List Node) (rs : List Quadword) (p : Place) where
   pub first-onward : (at : ℕ) (rs′ : List Quadword) (w : Walk)
       → Tagged ns at 1 w
       → Holds ns rs p w
-      → (kind (nodeAt ns at) ≡ 21 → ⊥)
+      → (kind (nodeAt ns at) ≡ let-kind → ⊥)
       → rs′ ≡ set rs (p .depth - 1) (stackEntry 2 (at % 65536) (p .left % 65536))
       → MovedTo ns rs′ p w
       (GoesOn (record { left = p .left; right = p .right; depth = p .depth; returning = false }))
@@ -451,7 +452,7 @@ module _ (ns : List Node) (rs : List Quadword) (p : Place) where
   pub pair-onward : (at : ℕ) (w : Walk)
       → Tagged ns at 2 w
       → Holds ns rs p w
-      → kind (nodeAt ns at) ≡ 20
+      → kind (nodeAt ns at) ≡ pair-kind
       → MovedTo ns rs p w
       (GoesOn (record { left = p .left; right = p .right; depth = p .depth - 1; returning = true }))
   unfolding twoKind
@@ -464,7 +465,7 @@ module _ (ns : List Node) (rs : List Quadword) (p : Place) where
   pub second-stops : (at : ℕ) (s : Stop) (w : Walk)
       → Tagged ns at 2 w
       → Holds ns rs p w
-      → (kind (nodeAt ns at) ≡ 20 → ⊥)
+      → (kind (nodeAt ns at) ≡ pair-kind → ⊥)
       → stopOf s ≡ stopTwo (twoKind (kind (nodeAt ns at)))
       → MovedTo ns rs p w (Stops s)
   second-stops at s w (tag-second {n = n} {u = u} {v = v} {hs = hs} a q) m f e = (
@@ -475,9 +476,9 @@ module _ (ns : List Node) (rs : List Quadword) (p : Place) where
   )
 
 -- The stops by the kind: box where it is no force, apply where it is neither application nor let.
-pub box-stops : (k : ℕ) → (k ≡ 23 → ⊥) → IsTrue (waits (oneKind k)) → stopOne (oneKind k) ≡ at-box
+pub box-stops : (k : ℕ) → (k ≡ force-kind → ⊥) → IsTrue (waits (oneKind k)) → stopOne (oneKind k) ≡ at-box
 unfolding oneKind
-box-stops k f h = rw (ne-eqb k 23 f, oneKind) (go (eqb k 18) (eqb k 22) (rw (ne-eqb k 23 f, oneKind) at h))
+box-stops k f h = rw (ne-eqb k force-kind f, oneKind) (go (eqb k abstraction-kind) (eqb k lift-kind) (rw (ne-eqb k force-kind f, oneKind) at h))
   where
     go : (b c : Bool)
         → IsTrue (waits (cond b an-abstraction (cond c a-lift a-box)))
@@ -486,6 +487,6 @@ box-stops k f h = rw (ne-eqb k 23 f, oneKind) (go (eqb k 18) (eqb k 22) (rw (ne-
     go false true h = absurd h
     go false false h = refl
 
-pub apply-stops : (k : ℕ) → (k ≡ 19 → ⊥) → (k ≡ 20 → ⊥) → (k ≡ 21 → ⊥) → stopTwo (twoKind k) ≡ at-apply
+pub apply-stops : (k : ℕ) → (k ≡ application-kind → ⊥) → (k ≡ pair-kind → ⊥) → (k ≡ let-kind → ⊥) → stopTwo (twoKind k) ≡ at-apply
 unfolding twoKind
-apply-stops k f g h = simp (twoKind, ne-eqb k 19 f, ne-eqb k 20 g, ne-eqb k 21 h)
+apply-stops k f g h = simp (twoKind, ne-eqb k application-kind f, ne-eqb k pair-kind g, ne-eqb k let-kind h)

@@ -11,7 +11,7 @@ use Rattle.machine_nodes.specs.Nodes.{nodeAt, no-node}
 use Rattle.words.specs.Regions.{over}
 use Rattle.words.specs.Laws.Regions.{take-over-end, drop-over, length-over}
 use Rattle.words.specs.Quadwords.{Quadword, quadwordAt}
-use Rattle.machine_walk.specs.Stack.{stackEntry, no-entry}
+use Rattle.machine_walk.specs.Stack.{no-entry}
 use Rattle.machine_walk.specs.Places.{entryFor, entriesFor, GapBuffer, Stacked}
 
 -- The two parts of a gap buffer are as long as their places say.

@@ -36,10 +36,10 @@ walked-stopped positions closed ns rs w r f h =
     move-stopped positions closed (walk w) (stopOf (r .stop)) (moves-fit positions closed (movesLeft w) w f) (h .stop-is)
 
 -- The walk stops at apply only at a node of that kind whose two parts are values.
-pub apply-kind : {n : Node} {f v : Tree} {hs : List Hole}
+pub kind-of-apply : {n : Node} {f v : Tree} {hs : List Hole}
     → StoppedAt (returning v (second n f ∷ hs)) at-apply
     → twoKind (kind n) ≡ an-apply
-apply-kind (stopped-apply e) = e
+kind-of-apply (stopped-apply e) = e
 
 -- The nodes of all frames are those of the two parts of the buffer.
 pub node-count : (ns : List Node) (rs : List Quadword) (p : Place) (w : Walk)

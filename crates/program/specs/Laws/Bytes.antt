@@ -11,20 +11,20 @@ use Rattle.rules.specs.Gates.{GateType, nth, gateTable, isSome, isGate}
 use Rattle.rules.specs.Terms.{Term, variable, label, gate, constant, abstraction, application, pair, let-in, lift, force}
 use Rattle.rules.specs.Terms.{box, apply}
 use Rattle.rules.specs.Sizes.{nodes, most-labels}
+use Rattle.rules.specs.Laws.Booleans.{and-left, and-right, and-both}
 use Rattle.program.specs.Trees.{closedUnder, labelsBelow, gatesKnown}
 use Rattle.program.specs.Laws.Trees.{typesIn, entriesOf, codesOf, termKinds, termArguments, words, programKinds}
 use Rattle.program.specs.Laws.Trees.{programArguments, encode, Writable}
-use Rattle.program.specs.Laws.Kinds.{both-left, both-right, both-of}
 use Rattle.program.specs.Theorems.Encoding.{entries-append}
 
 bytes-first : (x : ℕ) (xs : List ℕ) → x < 256 → IsTrue (areBytes xs) → IsTrue (areBytes (x ∷ xs))
-bytes-first x xs h k = both-of (ltb x 256) (areBytes xs) (lt→ltb x 256 h) k
+bytes-first x xs h k = and-both (ltb x 256) (areBytes xs) (lt→ltb x 256 h) k
 
 bytes-append : (xs ys : List ℕ) → IsTrue (areBytes xs) → IsTrue (areBytes ys) → IsTrue (areBytes (xs ++ ys))
 bytes-append [] ys h k = k
 bytes-append (x ∷ xs) ys h k =
-    both-of (ltb x 256) (areBytes (xs ++ ys)) (both-left (ltb x 256) (areBytes xs) h)
-    (bytes-append xs ys (both-right (ltb x 256) (areBytes xs) h) k)
+    and-both (ltb x 256) (areBytes (xs ++ ys)) (and-left (ltb x 256) (areBytes xs) h)
+    (bytes-append xs ys (and-right (ltb x 256) (areBytes xs) h) k)
 
 -- Each number of a list has two bytes.
 abbrev Small : List ℕ → Type 0
@@ -98,17 +98,17 @@ parts-bound l b c p M N hl hb hc hp x y z =
         labels-small = hl;
         binders-small = omega arith;
         positions-small = omega arith;
-        is-closed = both-left (closedUnder b M) (closedUnder c N) x;
-        are-labels = both-left (labelsBelow l M) (labelsBelow l N) y;
-        are-gates = both-left (gatesKnown M) (gatesKnown N) z;
+        is-closed = and-left (closedUnder b M) (closedUnder c N) x;
+        are-labels = and-left (labelsBelow l M) (labelsBelow l N) y;
+        are-gates = and-left (gatesKnown M) (gatesKnown N) z;
       },
       record {
         labels-small = hl;
         binders-small = omega arith;
         positions-small = omega arith;
-        is-closed = both-right (closedUnder b M) (closedUnder c N) x;
-        are-labels = both-right (labelsBelow l M) (labelsBelow l N) y;
-        are-gates = both-right (gatesKnown M) (gatesKnown N) z;
+        is-closed = and-right (closedUnder b M) (closedUnder c N) x;
+        are-labels = and-right (labelsBelow l M) (labelsBelow l N) y;
+        are-gates = and-right (gatesKnown M) (gatesKnown N) z;
       },
     )
 

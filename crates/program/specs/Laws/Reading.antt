@@ -23,6 +23,7 @@ use Rattle.program.specs.declared.traversal.Subject.the-variants.{TypeEn
 use Rattle.program.specs.declared.traversal.Traversed.{Traversed}
 use Rattle.program.specs.declared.traversal.Traversed.the-variants.{To, Stopped, Out}
 use Rattle.program.specs.Sized.{sizesFit}
+use Rattle.rules.specs.Kinds.{circuit-kind, box-kind}
 use Rattle.rules.specs.Sizes.{most-labels, most-types, most-terms}
 
 -- A part that is no wire type, whatever waits behind it.
@@ -103,34 +104,34 @@ module _ {f : List ℕ} {s : Sizes} (sized : Sized f s) where
   unfolding wiresWrong
   label-wires {e} below = rw (lt-ltb e (labelCount f) (omega arith))
 
-  in-types : (e : ℕ) → s .labels ≤ e → e < s .labels + s .types → (eqb (kindAt f e) 5 && circWrong f e) ≡ wiresWrong f e
+  in-types : (e : ℕ) → s .labels ≤ e → e < s .labels + s .types → (eqb (kindAt f e) circuit-kind && circWrong f e) ≡ wiresWrong f e
   unfolding wiresWrong
   in-types e from below = rw (le-ltb e (labelCount f) (omega arith), lt-ltb e (firstTerm f) (omega arith))
 
-  in-terms : (e : ℕ) → s .labels + s .types ≤ e → (eqb (kindAt f e) 24 && boxWrong f e) ≡ wiresWrong f e
+  in-terms : (e : ℕ) → s .labels + s .types ≤ e → (eqb (kindAt f e) box-kind && boxWrong f e) ≡ wiresWrong f e
   unfolding wiresWrong
   in-terms e from = rw (le-ltb e (labelCount f) (omega arith), le-ltb e (firstTerm f) (omega arith))
 
   pub circ-wires
-      : {e k : ℕ} {r : Bool} → s .labels ≤ e → e < s .labels + s .types → k ≡ kindAt f e → k ≡ 5 → r ≡ circWrong f e
+      : {e k : ℕ} {r : Bool} → s .labels ≤ e → e < s .labels + s .types → k ≡ kindAt f e → k ≡ circuit-kind → r ≡ circWrong f e
       → r ≡ wiresWrong f e
   circ-wires {e} from below is five told =
-      told ∙ ap (λ t. t && circWrong f e) (sym (eq-eqb (kindAt f e) 5 (sym is ∙ five))) ∙ in-types e from below
+      told ∙ ap (λ t. t && circWrong f e) (sym (eq-eqb (kindAt f e) circuit-kind (sym is ∙ five))) ∙ in-types e from below
 
   pub other-type-wires
-      : {e k : ℕ} → s .labels ≤ e → e < s .labels + s .types → k ≡ kindAt f e → (k ≡ 5 → ⊥) → false ≡ wiresWrong f e
+      : {e k : ℕ} → s .labels ≤ e → e < s .labels + s .types → k ≡ kindAt f e → (k ≡ circuit-kind → ⊥) → false ≡ wiresWrong f e
   other-type-wires {e} from below is other =
-      ap (λ t. t && circWrong f e) (sym (ne-eqb (kindAt f e) 5 (λ five. other (is ∙ five)))) ∙ in-types e from below
+      ap (λ t. t && circWrong f e) (sym (ne-eqb (kindAt f e) circuit-kind (λ five. other (is ∙ five)))) ∙ in-types e from below
 
   pub box-wires
-      : {e k : ℕ} {r : Bool} → s .labels + s .types ≤ e → k ≡ kindAt f e → k ≡ 24 → r ≡ boxWrong f e
+      : {e k : ℕ} {r : Bool} → s .labels + s .types ≤ e → k ≡ kindAt f e → k ≡ box-kind → r ≡ boxWrong f e
       → r ≡ wiresWrong f e
   box-wires {e} from is box told =
-      told ∙ ap (λ t. t && boxWrong f e) (sym (eq-eqb (kindAt f e) 24 (sym is ∙ box))) ∙ in-terms e from
+      told ∙ ap (λ t. t && boxWrong f e) (sym (eq-eqb (kindAt f e) box-kind (sym is ∙ box))) ∙ in-terms e from
 
-  pub other-term-wires : {e k : ℕ} → s .labels + s .types ≤ e → k ≡ kindAt f e → (k ≡ 24 → ⊥) → false ≡ wiresWrong f e
+  pub other-term-wires : {e k : ℕ} → s .labels + s .types ≤ e → k ≡ kindAt f e → (k ≡ box-kind → ⊥) → false ≡ wiresWrong f e
   other-term-wires {e} from is other =
-      ap (λ t. t && boxWrong f e) (sym (ne-eqb (kindAt f e) 24 (λ box. other (is ∙ box)))) ∙ in-terms e from
+      ap (λ t. t && boxWrong f e) (sym (ne-eqb (kindAt f e) box-kind (λ box. other (is ∙ box)))) ∙ in-terms e from
 
   -- Test 8: what the traversal over the term section answers. One whole term; a term with entries left over; one that runs out.
   pub whole-test

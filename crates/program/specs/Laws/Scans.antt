@@ -1,16 +1,18 @@
 -- Laws of the definitions, in the form in which the proofs of the code use them.
-use Prim.Native.Nat.{ℕ, zero, suc, _+_, _*_, _-_, _≤_, _<_}
+use Prim.Native.Nat.{ℕ, zero, _+_, _-_, _≤_, _<_}
 use native.Mathlib.Numerals.{add-one}
 use native.Mathlib.Omega.{arith}
-use mathlib.Core.Path.{_≡_, sym}
+use mathlib.Core.Path.{_≡_}
 use mathlib.Core.Bool.{Bool, true, false}
 use mathlib.Core.List.{List}
 use lib.Dec.{eqb}
-use lib.ListN.{length, getD, List·getD-eq-default}
 use borrow.Author.Tests.{lt-ltb, le-ltb, le-leb, lt-leb, ne-eqb}
-use Rattle.program.specs.Format.{labelCount, firstTerm, entryCount, kindAt, argumentAt, labelShape, typeShape}
+use Rattle.rules.specs.Kinds.{qubit-kind, pair-type-kind, function-kind, reusable-kind, circuit-kind, variable-kind}
+use Rattle.rules.specs.Kinds.{label-kind, abstraction-kind, application-kind, let-kind, lift-kind, force-kind, box-kind}
+use Rattle.rules.specs.Kinds.{apply-kind, gate-kind}
+use Rattle.program.specs.Format.{labelCount, firstTerm, kindAt, labelShape, typeShape}
 use Rattle.program.specs.Format.{termShape, shapeAt}
-use Rattle.words.specs.Numbers.{wordAt}
+use Rattle.words.specs.Laws.Numbers.{one-left}
 use Rattle.program.specs.Sized.{Sized}
 use Rattle.program.specs.Traversal.{firstFrom}
 use Rattle.program.specs.declared.format.Sizes.{Sizes}
@@ -20,10 +22,6 @@ use Rattle.program.specs.declared.Found.the-variants.{At, Nothing}
 
 -- A scan is a loop that looks for the first entry at which a test fails, from entry e on, up to an end. Its invariant:
 -- what it looks for from the first entry on is what it looks for from e on.
-
--- As long as an entry is left, there is one to look at.
-one-left : (end e : ℕ) → e < end → end - e ≡ suc (end - (e + 1))
-one-left end e below = omega arith
 
 -- The test fails at e: e is what the scan finds.
 pub scan-hits : (fails : ℕ → Bool) (end e : ℕ) → e < end → fails e ≡ true → firstFrom fails e (end - e) ≡ At e
@@ -64,75 +62,75 @@ below : (k n : ℕ) → k < n → eqb k n ≡ false
 below k n h = ne-eqb k n (λ e. omega arith)
 
 -- The shapes of the kinds of a range, and of those that are in no range.
-pub wire-kinds : (k : ℕ) → k < 2 → typeShape k ≡ Node 0 Zero
+pub wire-kinds : (k : ℕ) → k < pair-type-kind → typeShape k ≡ Node 0 Zero
 unfolding typeShape
-wire-kinds k h = rw (le-leb k 1 (omega arith))
+wire-kinds k h = rw (le-leb k qubit-kind (omega arith))
 
-pub two-part-types : (k : ℕ) → 2 ≤ k → k < 4 → typeShape k ≡ Node 2 Zero
+pub two-part-types : (k : ℕ) → pair-type-kind ≤ k → k < reusable-kind → typeShape k ≡ Node 2 Zero
 unfolding typeShape
-two-part-types k least most = rw (lt-leb k 1 (omega arith), le-leb 2 k least, le-leb k 3 (omega arith))
+two-part-types k least most = rw (lt-leb k qubit-kind (omega arith), le-leb pair-type-kind k least, le-leb k function-kind (omega arith))
 
-pub no-types : (k : ℕ) → 5 < k → typeShape k ≡ Unknown
+pub no-types : (k : ℕ) → circuit-kind < k → typeShape k ≡ Unknown
 unfolding typeShape
 no-types k h =
     rw (
-      lt-leb k 1 (omega arith),
-      le-leb 2 k (omega arith),
-      lt-leb k 3 (omega arith),
-      above k 4 (omega arith),
-      above k 5 h,
+      lt-leb k qubit-kind (omega arith),
+      le-leb pair-type-kind k (omega arith),
+      lt-leb k function-kind (omega arith),
+      above k reusable-kind (omega arith),
+      above k circuit-kind h,
     )
 
-pub two-part-terms : (k : ℕ) → 19 ≤ k → k < 22 → termShape k ≡ Node 2 Zero
+pub two-part-terms : (k : ℕ) → application-kind ≤ k → k < lift-kind → termShape k ≡ Node 2 Zero
 unfolding termShape
 two-part-terms k least most =
     rw (
-      above k 16 (omega arith),
-      above k 17 (omega arith),
-      above k 18 (omega arith),
-      le-leb 19 k least,
-      le-leb k 21 (omega arith),
+      above k variable-kind (omega arith),
+      above k label-kind (omega arith),
+      above k abstraction-kind (omega arith),
+      le-leb application-kind k least,
+      le-leb k let-kind (omega arith),
     )
 
-pub one-part-terms : (k : ℕ) → 22 ≤ k → k < 24 → termShape k ≡ Node 1 Zero
+pub one-part-terms : (k : ℕ) → lift-kind ≤ k → k < box-kind → termShape k ≡ Node 1 Zero
 unfolding termShape
 one-part-terms k least most =
     rw (
-      above k 16 (omega arith),
-      above k 17 (omega arith),
-      above k 18 (omega arith),
-      le-leb 19 k (omega arith),
-      lt-leb k 21 (omega arith),
-      le-leb 22 k least,
-      le-leb k 23 (omega arith),
+      above k variable-kind (omega arith),
+      above k label-kind (omega arith),
+      above k abstraction-kind (omega arith),
+      le-leb application-kind k (omega arith),
+      lt-leb k let-kind (omega arith),
+      le-leb lift-kind k least,
+      le-leb k force-kind (omega arith),
     )
 
-pub no-terms-below : (k : ℕ) → k < 16 → termShape k ≡ Unknown
+pub no-terms-below : (k : ℕ) → k < variable-kind → termShape k ≡ Unknown
 unfolding termShape
 no-terms-below k h =
     rw (
-      below k 16 h,
-      below k 17 (omega arith),
-      below k 18 (omega arith),
-      lt-leb 19 k (omega arith),
-      lt-leb 22 k (omega arith),
-      below k 24 (omega arith),
-      below k 25 (omega arith),
-      below k 26 (omega arith),
+      below k variable-kind h,
+      below k label-kind (omega arith),
+      below k abstraction-kind (omega arith),
+      lt-leb application-kind k (omega arith),
+      lt-leb lift-kind k (omega arith),
+      below k box-kind (omega arith),
+      below k apply-kind (omega arith),
+      below k gate-kind (omega arith),
     )
 
-pub no-terms-above : (k : ℕ) → 26 < k → termShape k ≡ Unknown
+pub no-terms-above : (k : ℕ) → gate-kind < k → termShape k ≡ Unknown
 unfolding termShape
 no-terms-above k h =
     rw (
-      above k 16 (omega arith),
-      above k 17 (omega arith),
-      above k 18 (omega arith),
-      le-leb 19 k (omega arith),
-      lt-leb k 21 (omega arith),
-      le-leb 22 k (omega arith),
-      lt-leb k 23 (omega arith),
-      above k 24 (omega arith),
-      above k 25 (omega arith),
-      above k 26 h,
+      above k variable-kind (omega arith),
+      above k label-kind (omega arith),
+      above k abstraction-kind (omega arith),
+      le-leb application-kind k (omega arith),
+      lt-leb k let-kind (omega arith),
+      le-leb lift-kind k (omega arith),
+      lt-leb k force-kind (omega arith),
+      above k box-kind (omega arith),
+      above k apply-kind (omega arith),
+      above k gate-kind h,
     )

@@ -9,9 +9,11 @@ use native.Mathlib.Decide.{decLt}
 use lib.Dec.{T as IsTrue, eqb, ltb, eqb→eq, ltb→lt}
 use lib.ListN.{length}
 use borrow.Author.Tests.{not-false}
+use Rattle.rules.specs.Kinds.{circuit-kind, box-kind}
 use Rattle.rules.specs.Types.{Wire, Bit, Qubit, Ty, _⊗_, _⊸_, !_, Circ, isWireType, wireCode}
 use Rattle.rules.specs.Gates.{nth, isGate}
 use Rattle.rules.specs.Terms.{Term, abstraction, application, pair, let-in, lift, force, box, apply}
+use Rattle.rules.specs.Laws.Booleans.{and-both}
 use Rattle.program.specs.Format.{labelCount, typeCount, termCount, firstTerm, entryCount, kindAt, argumentAt}
 use Rattle.program.specs.Format.{labelShape, typeShape, termShape, shapeAt, isKnown, shapeAllows}
 use Rattle.program.specs.Traversal.{traverseFrom}
@@ -20,7 +22,7 @@ use Rattle.program.specs.Trees.{TypeAt, bit-at, qubit-at, tensor-at, fun
 use Rattle.program.specs.Trees.{at-position, formed, TermAt, variable-at, label-at, abstraction-at, application-at}
 use Rattle.program.specs.Trees.{pair-at, let-at, lift-at, force-at, box-at, apply-at, gate-at, labelsBelow, gatesKnown}
 use Rattle.program.specs.Trees.{boxesWired}
-use Rattle.program.specs.Laws.Kinds.{of-true, both-of, TypeKind, is-bit, is-qubit, is-tensor, is-function, is-reusable}
+use Rattle.program.specs.Laws.Kinds.{of-true, TypeKind, is-bit, is-qubit, is-tensor, is-function, is-reusable}
 use Rattle.program.specs.Laws.Kinds.{is-circ, type-kind, label-range, shape-of-label, shape-of-type, shape-of-term}
 use Rattle.program.specs.Laws.Kinds.{TermKind, is-variable, is-label, is-abstraction, is-application, is-pair, is-let}
 use Rattle.program.specs.Laws.Kinds.{is-lift, is-force, is-box, is-apply, is-gate, term-kind, label-shape-zero}
@@ -147,17 +149,17 @@ type-formed p (qubit-at k) h l = tt
 type-formed p (tensor-at {A = A} {B = B} k s t) h l =
     let u = type-end s in
     let v = type-end t in
-    both-of (formed A) (formed B) (type-formed p s (omega arith) (omega arith)) (type-formed p t (omega arith) l)
+    and-both (formed A) (formed B) (type-formed p s (omega arith) (omega arith)) (type-formed p t (omega arith) l)
 type-formed p (function-at {A = A} {B = B} k s t) h l =
     let u = type-end s in
     let v = type-end t in
-    both-of (formed A) (formed B) (type-formed p s (omega arith) (omega arith)) (type-formed p t (omega arith) l)
+    and-both (formed A) (formed B) (type-formed p s (omega arith) (omega arith)) (type-formed p t (omega arith) l)
 type-formed p (reusable-at k s) h l = type-formed p s (omega arith) l
 type-formed {f} p (circ-at {e = e} {A = A} {B = B} k s t) h l =
     let u = type-end s in
     let v = type-end t in
     holds-of (isWireType A && isWireType B) (wiresWrong f e) (p .wires-right e (omega arith))
-    (wires-of-type f e h (omega arith) ∙ ap (λ i. eqb i 5 && circWrong f e) k ∙ circ-test s t l)
+    (wires-of-type f e h (omega arith) ∙ ap (λ i. eqb i circuit-kind && circWrong f e) k ∙ circ-test s t l)
 
 -- The wire of a label's kind.
 abbrev wireOf : ℕ → Wire
@@ -368,9 +370,9 @@ allowed-two : (f : List ℕ) (M N : Term)
     × IsTrue (gatesKnown M && gatesKnown N)
     × IsTrue (boxesWired M && boxesWired N)
 allowed-two f M N h k = (
-  both-of (labelsBelow (labelCount f) M) (labelsBelow (labelCount f) N) (h .0) (k .0),
-  both-of (gatesKnown M) (gatesKnown N) (h .1) (k .1),
-  both-of (boxesWired M) (boxesWired N) (h .2) (k .2),
+  and-both (labelsBelow (labelCount f) M) (labelsBelow (labelCount f) N) (h .0) (k .0),
+  and-both (gatesKnown M) (gatesKnown N) (h .1) (k .1),
+  and-both (boxesWired M) (boxesWired N) (h .2) (k .2),
 )
 
 -- The term that stands in a file that passes the tests.
@@ -401,9 +403,9 @@ term-allowed {f} p (box-at {e = e} {T = T} {M = M} k a s) h l =
     let r = term-allowed p s (omega arith) l in (
       r .0,
       r .1,
-      both-of (isWireType T) (boxesWired M)
+      and-both (isWireType T) (boxesWired M)
           (holds-of (isWireType T) (wiresWrong f e) (p .wires-right e (omega arith))
-          (wires-of-term f e h ∙ ap (λ i. eqb i 24 && boxWrong f e) k ∙ box-test e a))
+          (wires-of-term f e h ∙ ap (λ i. eqb i box-kind && boxWrong f e) k ∙ box-test e a))
           (r .2),
     )
 term-allowed {f} p (apply-at {M = M} {N = N} k a s t) h l =

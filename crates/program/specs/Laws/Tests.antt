@@ -13,7 +13,7 @@ use Rattle.program.specs.Traversal.{firstFrom, traverseFrom}
 use Rattle.program.specs.Reading.{refused, sizesRight, kindWrong, argumentWrong, typeWrong, wiresWrong, scopeAnswer}
 use Rattle.program.specs.Reading.{readScope, wholeAnswer, readWhole, orElse, readWires, readTypes, readArguments}
 use Rattle.program.specs.Reading.{readKinds, readOf}
-use Rattle.program.specs.Laws.Kinds.{true-of, of-true, both-left, both-right, both-of}
+use Rattle.program.specs.Laws.Kinds.{of-true}
 use Rattle.program.specs.declared.ReadAnswer.{ReadAnswer}
 use Rattle.program.specs.declared.ReadAnswer.the-variants.{Accepted}
 use Rattle.program.specs.declared.Found.{Found}
@@ -22,6 +22,7 @@ use Rattle.program.specs.declared.traversal.Subject.the-variants.{TermEn
 use Rattle.program.specs.declared.traversal.Traversed.{Traversed}
 use Rattle.program.specs.declared.traversal.Traversed.the-variants.{To, Stopped, Out}
 use Rattle.rules.specs.Sizes.{most-labels, most-types, most-terms}
+use Rattle.rules.specs.Laws.Booleans.{and-left, and-right, and-both, is-true}
 
 abbrev pub isStopped : Traversed → Bool
 isStopped (To e) = false
@@ -127,15 +128,15 @@ passed-of f L P N h =
     let r8 = whole-passed f (traverseFrom TermEnd f (termCount f) (firstTerm f) (0 ∷ [])) L P N (r7 .1) in
     let r9 = scope-passed f (traverseFrom Scope f (termCount f) (firstTerm f) (0 ∷ [])) L P N (r8 .1) in
     let s = of-true (sizesRight f) (r2 .0) in
-    let s1 = both-left (leb (labelCount f) most-labels) (leb (typeCount f) most-types && within 1 most-terms (termCount f)) s in
-    let s2 = both-right (leb (labelCount f) most-labels) (leb (typeCount f) most-types && within 1 most-terms (termCount f)) s in
-    let s3 = both-left (leb (typeCount f) most-types) (within 1 most-terms (termCount f)) s2 in
-    let s4 = both-right (leb (typeCount f) most-types) (within 1 most-terms (termCount f)) s2 in (
+    let s1 = and-left (leb (labelCount f) most-labels) (leb (typeCount f) most-types && within 1 most-terms (termCount f)) s in
+    let s2 = and-right (leb (labelCount f) most-labels) (leb (typeCount f) most-types && within 1 most-terms (termCount f)) s in
+    let s3 = and-left (leb (typeCount f) most-types) (within 1 most-terms (termCount f)) s2 in
+    let s4 = and-right (leb (typeCount f) most-types) (within 1 most-terms (termCount f)) s2 in (
       record {
         labels-fit = leb→le (labelCount f) most-labels s1;
         types-fit = leb→le (typeCount f) most-types s3;
-        some-term = leb→le 1 (termCount f) (both-left (leb 1 (termCount f)) (leb (termCount f) most-terms) s4);
-        terms-fit = leb→le (termCount f) most-terms (both-right (leb 1 (termCount f)) (leb (termCount f) most-terms) s4);
+        some-term = leb→le 1 (termCount f) (and-left (leb 1 (termCount f)) (leb (termCount f) most-terms) s4);
+        terms-fit = leb→le (termCount f) most-terms (and-right (leb 1 (termCount f)) (leb (termCount f) most-terms) s4);
         length-is = eqb-true (length f) (6 + 3 * entryCount f) (r3 .0);
         kinds-right = λ e k. none-found (kindWrong f) 0 (entryCount f) (r4 .0) e (omega arith) (omega arith);
         arguments-right = λ e k. none-found (argumentWrong f) 0 (entryCount f) (r5 .0) e (omega arith) (omega arith);
@@ -159,10 +160,10 @@ scope-answer f Out h = refl
 sizes-right : (f : List ℕ) → Passed f → IsTrue (sizesRight f)
 unfolding sizesRight
 sizes-right f p =
-    both-of (leb (labelCount f) most-labels) (leb (typeCount f) most-types && within 1 most-terms (termCount f))
+    and-both (leb (labelCount f) most-labels) (leb (typeCount f) most-types && within 1 most-terms (termCount f))
     (le→leb (labelCount f) most-labels (p .labels-fit))
-    (both-of (leb (typeCount f) most-types) (within 1 most-terms (termCount f)) (le→leb (typeCount f) most-types (p .types-fit))
-    (both-of (leb 1 (termCount f)) (leb (termCount f) most-terms) (le→leb 1 (termCount f) (p .some-term))
+    (and-both (leb (typeCount f) most-types) (within 1 most-terms (termCount f)) (le→leb (typeCount f) most-types (p .types-fit))
+    (and-both (leb 1 (termCount f)) (leb (termCount f) most-terms) (le→leb 1 (termCount f) (p .some-term))
     (le→leb (termCount f) most-terms (p .terms-fit))))
 
 read-scope-passed : (f : List ℕ) → Passed f → readScope f ≡ Accepted (labelCount f) (typeCount f) (termCount f)
@@ -209,7 +210,7 @@ read-sizes-passed f p =
     (cond (sizesRight f) (cond (eqb (length f) (6 + 3 * entryCount f)) (readKinds f) (refused 3 0)) (refused 2 0)))
     (le-ltb (length f) 6 n)
     ∙ ap (λ b. cond b (cond (eqb (length f) (6 + 3 * entryCount f)) (readKinds f) (refused 3 0)) (refused 2 0))
-    (true-of (sizesRight f) (sizes-right f p))
+    (is-true (sizesRight f) (sizes-right f p))
     ∙ ap (λ b. cond b (readKinds f) (refused 3 0)) (eq-eqb (length f) (6 + 3 * entryCount f) (p .length-is))
 
 -- A file that passes each test is accepted, with its sizes.

@@ -6,8 +6,11 @@ use mathlib.Core.Path.{_≡_, refl, sym, ap, subst, _∙_}
 use mathlib.Core.Bool.{Bool, true, false, cond}
 use mathlib.Core.List.{List, [], _∷_}
 use lib.Dec.{eqb, leb, ltb}
+use Rattle.rules.specs.Kinds.{qubit-kind, pair-type-kind, variable-kind, abstraction-kind, let-kind}
 use Rattle.program.specs.Format.{kindAt, argumentAt, shapeAt}
 use Rattle.program.specs.Traversal.{partsOf, wireParts, scopeParts, partsAt, traverseFrom}
+use Rattle.program.specs.Sized.{most-file-entries}
+use Rattle.program.specs.Laws.TreeTraversal.{traverseOn}
 use Rattle.program.specs.declared.format.Sizes.{Sizes}
 use Rattle.program.specs.declared.format.Shape.{Shape}
 use Rattle.program.specs.declared.format.Shape.the-variants.{Node, Unknown}
@@ -20,7 +23,7 @@ use Rattle.program.specs.declared.traversal.Traversed.the-variants.{To, 
 use Rattle.program.specs.Reach.{InReach, Ends, TraversedOf}
 
 -- With no part waiting the traversal has ended.
-traverse-none : (subject : Subject) (f : List ℕ) (left e : ℕ) → traverseFrom subject f left e [] ≡ To e
+pub traverse-none : (subject : Subject) (f : List ℕ) (left e : ℕ) → traverseFrom subject f left e [] ≡ To e
 traverse-none subject f zero e = refl
 traverse-none subject f (suc left) e = refl
 
@@ -62,15 +65,15 @@ shape-fits Unknown b = tt
 
 wire-fits : (k b : ℕ) → PartsFit (b + 2) (wireParts k)
 wire-fits k b =
-    cond-fits (b + 2) (leb k 1) Leaf (cond (eqb k 2) (Two 0 0) Stop) tt
-    (cond-fits (b + 2) (eqb k 2) (Two 0 0) Stop (omega arith, omega arith) tt)
+    cond-fits (b + 2) (leb k qubit-kind) Leaf (cond (eqb k pair-type-kind) (Two 0 0) Stop) tt
+    (cond-fits (b + 2) (eqb k pair-type-kind) (Two 0 0) Stop (omega arith, omega arith) tt)
 
 scope-fits : (f : List ℕ) (e b : ℕ) → PartsFit (b + 2) (scopeParts f e b)
 scope-fits f e b =
-    cond-fits (b + 2) (eqb (kindAt f e) 16) (cond (ltb (argumentAt f e) b) Leaf Stop) _
+    cond-fits (b + 2) (eqb (kindAt f e) variable-kind) (cond (ltb (argumentAt f e) b) Leaf Stop) _
     (cond-fits (b + 2) (ltb (argumentAt f e) b) Leaf Stop tt tt)
-    (cond-fits (b + 2) (eqb (kindAt f e) 18) (One (b + 1)) _ (omega arith)
-    (cond-fits (b + 2) (eqb (kindAt f e) 21) (Two b (b + 2)) _ (omega arith, omega arith)
+    (cond-fits (b + 2) (eqb (kindAt f e) abstraction-kind) (One (b + 1)) _ (omega arith)
+    (cond-fits (b + 2) (eqb (kindAt f e) let-kind) (Two b (b + 2)) _ (omega arith, omega arith)
     (shape-fits (shapeAt f e) b)))
 
 -- An entry binds at most two variables in a part.
@@ -99,28 +102,21 @@ at-entry subject {f} {s} {end} {e} {binders} {read} {parts} reach inside is know
 }
 
 -- The number of an entry is small.
-pub small-entry : {f : List ℕ} {s : Sizes} {end e binders : ℕ} → InReach f s end e binders → e < end → e ≤ 2624
+pub small-entry : {f : List ℕ} {s : Sizes} {end e binders : ℕ} → InReach f s end e binders → e < end → e ≤ most-file-entries
 small-entry reach inside =
     let all = reach .end-fits in
     let sized = reach .sized in
     omega arith
 
--- The rest of a traversal behind an entry with these parts.
+-- The rest of a traversal behind an entry with these parts, as the code counts entries.
 abbrev goOn : Subject → List ℕ → ℕ → ℕ → List ℕ → Parts → Traversed
 goOn subject f left e waiting Leaf = traverseFrom subject f left (e + 1) waiting
 goOn subject f left e waiting (One x) = traverseFrom subject f left (e + 1) (x ∷ waiting)
 goOn subject f left e waiting (Two x y) = traverseFrom subject f left (e + 1) (x ∷ y ∷ waiting)
 goOn subject f left e waiting Stop = Stopped e
 
-here-is
-    : (subject : Subject) (f : List ℕ) (left e : ℕ) (waiting : List ℕ) (p : Parts)
-    → (elim p as (λ _. Traversed) [
-      | Leaf ↦ traverseFrom subject f left (suc e) waiting
-      | One x ↦ traverseFrom subject f left (suc e) (x ∷ waiting)
-      | Two x y ↦ traverseFrom subject f left (suc e) (x ∷ y ∷ waiting)
-      | Stop ↦ Stopped e
-    ])
-    ≡ goOn subject f left e waiting p
+here-is : (subject : Subject) (f : List ℕ) (left e : ℕ) (waiting : List ℕ) (p : Parts)
+    → traverseOn subject f left e waiting p ≡ goOn subject f left e waiting p
 here-is subject f left e waiting Leaf = rw add-one
 here-is subject f left e waiting (One x) = rw add-one
 here-is subject f left e waiting (Two x y) = rw add-one

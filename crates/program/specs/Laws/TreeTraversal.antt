@@ -6,16 +6,19 @@ use mathlib.Core.List.{List, _∷_}
 use native.Mathlib.Omega.{arith}
 use native.Mathlib.Decide.{decLt, ℕ-discrete}
 use lib.Dec.{T as IsTrue, eqb, ltb}
-use Rattle.rules.specs.Types.{Ty, wire, _⊗_, _⊸_, !_, Circ, isWireType, entries}
+use Rattle.rules.specs.Kinds.{variable-kind, abstraction-kind, let-kind}
+use Rattle.rules.specs.Types.{Ty, isWireType, entries}
 use Rattle.rules.specs.Terms.{Term}
 use Rattle.rules.specs.Sizes.{nodes}
 use Rattle.program.specs.Format.{labelCount, firstTerm, kindAt, argumentAt, typeShape, termShape}
 use Rattle.program.specs.Traversal.{traverseFrom, partsAt, partsOf, wireParts}
 use Rattle.rules.specs.Counting.{source}
+use Rattle.rules.specs.Laws.Booleans.{and-left, and-right, and-both, is-true}
+use Rattle.rules.specs.Laws.TypeCodes.{entries-positive}
 use Rattle.program.specs.Trees.{TypeAt, bit-at, qubit-at, tensor-at, function-at, reusable-at, circ-at, TermAt}
 use Rattle.program.specs.Trees.{variable-at, label-at, abstraction-at, application-at, pair-at, let-at, lift-at}
 use Rattle.program.specs.Trees.{force-at, box-at, apply-at, gate-at, closedUnder}
-use Rattle.program.specs.Laws.Kinds.{shape-of-type, shape-of-term, true-of, both-left, both-right, both-of}
+use Rattle.program.specs.Laws.Kinds.{shape-of-type, shape-of-term}
 use Rattle.program.specs.declared.traversal.Subject.{Subject}
 use Rattle.program.specs.declared.traversal.Subject.the-variants.{TypeEnd, WireType, TermEnd, Scope}
 use Rattle.program.specs.declared.traversal.Parts.{Parts}
@@ -70,15 +73,8 @@ type-end (function-at k s t) = let a = type-end s in let b = type-end t in omega
 type-end (reusable-at k s) = let a = type-end s in omega arith
 type-end (circ-at k s t) = let a = type-end s in let b = type-end t in omega arith
 
-entries-some : (A : Ty) → 1 ≤ entries A
-entries-some (wire α) = omega arith
-entries-some (A ⊗ B) = omega arith
-entries-some (A ⊸ B) = omega arith
-entries-some (! A) = omega arith
-entries-some (Circ A B) = omega arith
-
 pub type-nonempty : {f : List ℕ} {e n : ℕ} {A : Ty} → TypeAt f e A n → e < n
-type-nonempty {A} s = let p = type-end s in let q = entries-some A in omega arith
+type-nonempty {A} s = let p = type-end s in let q = entries-positive A in omega arith
 
 -- A traversal passes over this many entries, from e to n − 1, if it waits there for a part under b binders.
 abbrev pub Passes : Subject → List ℕ → ℕ → ℕ → ℕ → ℕ → Type 0
@@ -218,8 +214,8 @@ pass-wire {f} (bit-at {e = e} k) b w = pass-leaf WireType f e b (ap wireParts k)
 pass-wire {f} (qubit-at {e = e} k) b w = pass-leaf WireType f e b (ap wireParts k)
 pass-wire {f} (tensor-at {e = e} {m = m} {n = n} {A = A} {B = B} k s t) b w =
     pass-two WireType f e b 0 0 (entries A) (entries B) m n (ap wireParts k)
-    (pass-wire s 0 (both-left (isWireType A) (isWireType B) w))
-    (pass-wire t 0 (both-right (isWireType A) (isWireType B) w))
+    (pass-wire s 0 (and-left (isWireType A) (isWireType B) w))
+    (pass-wire t 0 (and-right (isWireType A) (isWireType B) w))
 pass-wire (function-at k s t) b w = absurd w
 pass-wire (reusable-at k s) b w = absurd w
 pass-wire (circ-at k s t) b w = absurd w
@@ -260,13 +256,13 @@ pub term-source : {f : List ℕ} {e n : ℕ} {M : Term} → TermAt f e M n → I
 term-source (variable-at k a) = tt
 term-source (label-at k a) = tt
 term-source (abstraction-at k a s) = term-source s
-term-source (application-at {M = M} {N = N} k a s t) = both-of (source M) (source N) (term-source s) (term-source t)
-term-source (pair-at {M = M} {N = N} k a s t) = both-of (source M) (source N) (term-source s) (term-source t)
-term-source (let-at {M = M} {N = N} k a s t) = both-of (source M) (source N) (term-source s) (term-source t)
+term-source (application-at {M = M} {N = N} k a s t) = and-both (source M) (source N) (term-source s) (term-source t)
+term-source (pair-at {M = M} {N = N} k a s t) = and-both (source M) (source N) (term-source s) (term-source t)
+term-source (let-at {M = M} {N = N} k a s t) = and-both (source M) (source N) (term-source s) (term-source t)
 term-source (lift-at k a s) = term-source s
 term-source (force-at k a s) = term-source s
 term-source (box-at k a s) = term-source s
-term-source (apply-at {M = M} {N = N} k a s t) = both-of (source M) (source N) (term-source s) (term-source t)
+term-source (apply-at {M = M} {N = N} k a s t) = and-both (source M) (source N) (term-source s) (term-source t)
 term-source (gate-at k a) = tt
 
 -- The parts of an entry of the term section.
@@ -316,8 +312,8 @@ pass-term {f} (gate-at {e = e} k a) b h = pass-leaf TermEnd f e b (term-parts f 
 -- The parts of an entry of kind k with argument a in the traversal over binders.
 abbrev scopePartsOf : ℕ → ℕ → ℕ → Parts
 scopePartsOf k a b =
-    cond (eqb k 16) (cond (ltb a b) Leaf Stop)
-    (cond (eqb k 18) (One (b + 1)) (cond (eqb k 21) (Two b (b + 2)) (partsOf (termShape k) b)))
+    cond (eqb k variable-kind) (cond (ltb a b) Leaf Stop)
+    (cond (eqb k abstraction-kind) (One (b + 1)) (cond (eqb k let-kind) (Two b (b + 2)) (partsOf (termShape k) b)))
 
 scope-parts : (f : List ℕ) (e b k : ℕ)
     → firstTerm f ≤ e → kindAt f e ≡ k
@@ -325,14 +321,14 @@ scope-parts : (f : List ℕ) (e b k : ℕ)
 scope-parts f e b k h q =
     ap₂
     (λ i s.
-    cond (eqb i 16) (cond (ltb (argumentAt f e) b) Leaf Stop)
-    (cond (eqb i 18) (One (b + 1)) (cond (eqb i 21) (Two b (b + 2)) (partsOf s b))))
+    cond (eqb i variable-kind) (cond (ltb (argumentAt f e) b) Leaf Stop)
+    (cond (eqb i abstraction-kind) (One (b + 1)) (cond (eqb i let-kind) (Two b (b + 2)) (partsOf s b))))
     q
     (shape-of-term f e h ∙ ap termShape q)
 
 -- The parts of a variable, if it has its binder and if it has not.
 variable-parts : (f : List ℕ) (e b x : ℕ) (t : Bool)
-    → firstTerm f ≤ e → kindAt f e ≡ 16 → argumentAt f e ≡ x → ltb x b ≡ t
+    → firstTerm f ≤ e → kindAt f e ≡ variable-kind → argumentAt f e ≡ x → ltb x b ≡ t
     → partsAt Scope f e b ≡ cond t Leaf Stop
 variable-parts f e b x t h k a q =
     scope-parts f e b 16 h k ∙ ap (λ i. cond (ltb i b) Leaf Stop) a ∙ ap (λ u. cond u Leaf Stop) q
@@ -344,25 +340,25 @@ pub pass-scope : {f : List ℕ} {e n : ℕ} {M : Term}
     → Passes Scope f e b (nodes M) n
 unfolding termShape
 pass-scope {f} (variable-at {e = e} {x = x} k a) b h c =
-    pass-leaf Scope f e b (variable-parts f e b x true h k a (true-of (ltb x b) c))
+    pass-leaf Scope f e b (variable-parts f e b x true h k a (is-true (ltb x b) c))
 pass-scope {f} (label-at {e = e} k a) b h c = pass-leaf Scope f e b (scope-parts f e b 17 h k)
 pass-scope {f} (abstraction-at {e = e} {n = n} {M = M} k a s) b h c =
     pass-one Scope f e b (b + 1) (nodes M) n (scope-parts f e b 18 h k) (pass-scope s (b + 1) (omega arith) c)
 pass-scope {f} (application-at {e = e} {m = m} {n = n} {M = M} {N = N} k a s t) b h c =
     let p = term-end s in
     pass-two Scope f e b b b (nodes M) (nodes N) m n (scope-parts f e b 19 h k)
-    (pass-scope s b (omega arith) (both-left (closedUnder b M) (closedUnder b N) c))
-    (pass-scope t b (omega arith) (both-right (closedUnder b M) (closedUnder b N) c))
+    (pass-scope s b (omega arith) (and-left (closedUnder b M) (closedUnder b N) c))
+    (pass-scope t b (omega arith) (and-right (closedUnder b M) (closedUnder b N) c))
 pass-scope {f} (pair-at {e = e} {m = m} {n = n} {M = M} {N = N} k a s t) b h c =
     let p = term-end s in
     pass-two Scope f e b b b (nodes M) (nodes N) m n (scope-parts f e b 20 h k)
-    (pass-scope s b (omega arith) (both-left (closedUnder b M) (closedUnder b N) c))
-    (pass-scope t b (omega arith) (both-right (closedUnder b M) (closedUnder b N) c))
+    (pass-scope s b (omega arith) (and-left (closedUnder b M) (closedUnder b N) c))
+    (pass-scope t b (omega arith) (and-right (closedUnder b M) (closedUnder b N) c))
 pass-scope {f} (let-at {e = e} {m = m} {n = n} {M = M} {N = N} k a s t) b h c =
     let p = term-end s in
     pass-two Scope f e b b (b + 2) (nodes M) (nodes N) m n (scope-parts f e b 21 h k)
-    (pass-scope s b (omega arith) (both-left (closedUnder b M) (closedUnder (b + 2) N) c))
-    (pass-scope t (b + 2) (omega arith) (both-right (closedUnder b M) (closedUnder (b + 2) N) c))
+    (pass-scope s b (omega arith) (and-left (closedUnder b M) (closedUnder (b + 2) N) c))
+    (pass-scope t (b + 2) (omega arith) (and-right (closedUnder b M) (closedUnder (b + 2) N) c))
 pass-scope {f} (lift-at {e = e} {n = n} {M = M} k a s) b h c =
     pass-one Scope f e b b (nodes M) n (scope-parts f e b 22 h k) (pass-scope s b (omega arith) c)
 pass-scope {f} (force-at {e = e} {n = n} {M = M} k a s) b h c =
@@ -372,8 +368,8 @@ pass-scope {f} (box-at {e = e} {n = n} {M = M} k a s) b h c =
 pass-scope {f} (apply-at {e = e} {m = m} {n = n} {M = M} {N = N} k a s t) b h c =
     let p = term-end s in
     pass-two Scope f e b b b (nodes M) (nodes N) m n (scope-parts f e b 25 h k)
-    (pass-scope s b (omega arith) (both-left (closedUnder b M) (closedUnder b N) c))
-    (pass-scope t b (omega arith) (both-right (closedUnder b M) (closedUnder b N) c))
+    (pass-scope s b (omega arith) (and-left (closedUnder b M) (closedUnder b N) c))
+    (pass-scope t b (omega arith) (and-right (closedUnder b M) (closedUnder b N) c))
 pass-scope {f} (gate-at {e = e} k a) b h c = pass-leaf Scope f e b (scope-parts f e b 26 h k)
 
 -- Two parts of which one stops the traversal over binders.

@@ -1,11 +1,12 @@
 -- The test for wire types (01, refusal 7), said of the types that stand in the file.
-use Prim.Native.Nat.{ℕ, zero, suc, _+_, _-_, _≤_, _<_}
+use Prim.Native.Nat.{ℕ, suc, _+_, _-_, _≤_, _<_}
 use mathlib.Core.Path.{_≡_, refl, sym, ap, _∙_}
 use mathlib.Core.Bool.{Bool, true, false, _&&_, not}
 use mathlib.Core.List.{List, [], _∷_}
 use native.Mathlib.Omega.{arith}
 use lib.Dec.{eqb}
 use borrow.Author.Tests.{lt-ltb, le-ltb}
+use Rattle.rules.specs.Kinds.{circuit-kind, box-kind}
 use Rattle.rules.specs.Types.{Ty, isWireType, entries}
 use Rattle.program.specs.Format.{labelCount, typeCount, firstTerm, kindAt, argumentAt}
 use Rattle.program.specs.Traversal.{traverseFrom}
@@ -13,14 +14,8 @@ use Rattle.program.specs.Reading.{reaches, circWrong, boxWrong, wiresWro
 use Rattle.program.specs.Trees.{TypeAt, TypeAtPosition, at-position}
 use Rattle.program.specs.Laws.Kinds.{of-true}
 use Rattle.program.specs.Laws.TreeTraversal.{type-end, pass-wire, stop-wire}
-use Rattle.program.specs.declared.traversal.Subject.{Subject}
 use Rattle.program.specs.declared.traversal.Subject.the-variants.{WireType}
-use Rattle.program.specs.declared.traversal.Traversed.the-variants.{To}
-
--- A traversal that waits for nothing has come to its end.
-pub traverse-done : (s : Subject) (f : List ℕ) (left e : ℕ) → traverseFrom s f left e [] ≡ To e
-traverse-done s f zero e = refl
-traverse-done s f (suc left) e = refl
+use Rattle.program.specs.Laws.Traversal.{traverse-none}
 
 -- The traversal for wire types comes through a type exactly if it is a wire type.
 wire-traverse : {f : List ℕ} {e n : ℕ} {A : Ty}
@@ -53,7 +48,7 @@ one-wired : {f : List ℕ} {e n : ℕ} {A : Ty}
 one-wired {f} {e} {n} {A} s left h =
     ap (λ k. reaches (traverseFrom WireType f k e (0 ∷ []))) h
     ∙ wire-traverse s 0 (left - entries A) []
-    ∙ ap (λ w. isWireType A && reaches w) (traverse-done WireType f (left - entries A) n)
+    ∙ ap (λ w. isWireType A && reaches w) (traverse-none WireType f (left - entries A) n)
     ∙ and-true (isWireType A)
 
 two-wired : {f : List ℕ} {e m n : ℕ} {A B : Ty}
@@ -66,7 +61,7 @@ two-wired {f} {e} {m} {n} {A} {B} s t left rest h =
     ∙ wire-traverse s 0 (entries B + rest) (0 ∷ [])
     ∙ ap (λ w. isWireType A && w)
     (wire-traverse t 0 rest []
-    ∙ ap (λ w. isWireType B && reaches w) (traverse-done WireType f rest n)
+    ∙ ap (λ w. isWireType B && reaches w) (traverse-none WireType f rest n)
     ∙ and-true (isWireType B))
 
 -- The test at a Circ: its parts are wire types.
@@ -94,13 +89,13 @@ wires-of-label f e h = rw (lt-ltb e (labelCount f) h) refl
 
 pub wires-of-type : (f : List ℕ) (e : ℕ)
     → labelCount f ≤ e → e < firstTerm f
-    → wiresWrong f e ≡ (eqb (kindAt f e) 5 && circWrong f e)
+    → wiresWrong f e ≡ (eqb (kindAt f e) circuit-kind && circWrong f e)
 unfolding wiresWrong
 wires-of-type f e h k = rw (le-ltb e (labelCount f) h, lt-ltb e (firstTerm f) k) refl
 
 pub wires-of-term : (f : List ℕ) (e : ℕ)
     → firstTerm f ≤ e
-    → wiresWrong f e ≡ (eqb (kindAt f e) 24 && boxWrong f e)
+    → wiresWrong f e ≡ (eqb (kindAt f e) box-kind && boxWrong f e)
 unfolding wiresWrong
 wires-of-term f e h =
     let k : labelCount f ≤ e = omega arith in rw (le-ltb e (labelCount f) k, le-ltb e (firstTerm f) h) refl

@@ -1,18 +1,20 @@
 -- `read` accepts exactly the files in which trees stand: what it accepts has a term, and what has a term it accepts.
-use Prim.Native.Nat.{ℕ, zero, suc, _+_, _-_, _≤_, _<_}
+use Prim.Native.Nat.{ℕ, _+_, _-_, _≤_, _<_}
 use mathlib.Core.Path.{_≡_, refl, sym, ap, subst, _∙_}
 use mathlib.Core.Bool.{Bool, true, false, _&&_, not, true≢false}
 use mathlib.Core.List.{List, [], _∷_}
-use mathlib.Core.Option.{some}
 use native.Mathlib.Omega.{arith}
 use native.Mathlib.Decide.{decLt}
 use lib.Dec.{T as IsTrue, eqb, ltb}
-use lib.ListN.{length}
 use borrow.Author.Tests.{eq-eqb, lt-ltb}
-use Rattle.rules.specs.Types.{Wire, Bit, Qubit, Ty, isWireType, entries, wireCode}
-use Rattle.rules.specs.Gates.{nth, isGate}
+use Rattle.rules.specs.Kinds.{circuit-kind, box-kind}
+use Rattle.rules.specs.Types.{Wire, Ty, isWireType, entries}
+use Rattle.rules.specs.Gates.{isGate}
 use Rattle.rules.specs.Terms.{Term}
 use Rattle.rules.specs.Sizes.{nodes}
+use Rattle.rules.specs.Laws.Booleans.{and-left, and-right, is-true}
+use Rattle.rules.specs.Laws.TypeCodes.{wire-kind}
+use Rattle.rules.specs.Laws.Wires.{nth-within}
 use Rattle.program.specs.Format.{labelCount, typeCount, termCount, firstTerm, entryCount, kindAt, argumentAt}
 use Rattle.program.specs.Format.{termShape, shapeAt, isKnown, shapeAllows}
 use Rattle.program.specs.Traversal.{traverseFrom}
@@ -22,12 +24,12 @@ use Rattle.program.specs.Trees.{TypeAt, bit-at, qubit-at, tensor-at, fun
 use Rattle.program.specs.Trees.{at-position, formed, TermAt, variable-at, label-at, abstraction-at, application-at}
 use Rattle.program.specs.Trees.{pair-at, let-at, lift-at, force-at, box-at, apply-at, gate-at, labelsBelow, gatesKnown}
 use Rattle.program.specs.Trees.{boxesWired, closedUnder, AcceptedFile}
-use Rattle.program.specs.Laws.Kinds.{true-of, of-true, both-left, both-right, TypeKind, is-bit, is-qubit, is-tensor}
+use Rattle.program.specs.Laws.Kinds.{of-true, TypeKind, is-bit, is-qubit, is-tensor}
 use Rattle.program.specs.Laws.Kinds.{is-function, is-reusable, is-circ, shape-of-label, shape-of-type, shape-of-term}
 use Rattle.program.specs.Laws.Kinds.{label-shape-zero, type-shape-zero, zero-shape-kind, zero-shape-argument}
 use Rattle.program.specs.Laws.TreeTraversal.{type-end, type-nonempty, pass-type, term-end, term-source, pass-term}
 use Rattle.program.specs.Laws.TreeTraversal.{pass-scope, stop-scope, range-leaf, range-one, range-two}
-use Rattle.program.specs.Laws.WireTests.{traverse-done, circ-test, box-test, wires-of-label, wires-of-type}
+use Rattle.program.specs.Laws.WireTests.{circ-test, box-test, wires-of-label, wires-of-type}
 use Rattle.program.specs.Laws.WireTests.{wires-of-term}
 use Rattle.program.specs.Laws.Tests.{Passed, isStopped, passed-of, of-passed}
 use Rattle.program.specs.Laws.Sections.{position-typed, type-formed, labelWires, label-wires-count, label-wires-kinds}
@@ -36,6 +38,7 @@ use Rattle.program.specs.declared.format.Argument.the-variants.{Zero}
 use Rattle.program.specs.declared.format.Shape.the-variants.{Node}
 use Rattle.program.specs.declared.ReadAnswer.the-variants.{Accepted}
 use Rattle.program.specs.declared.traversal.Subject.the-variants.{TypeEnd, TermEnd, Scope}
+use Rattle.program.specs.Laws.Traversal.{traverse-none}
 
 -- The traversal over binders stops at a term that has a variable with no binder.
 term-closed : (f : List ℕ) (M : Term)
@@ -108,24 +111,14 @@ zero-shape-right f e parts h a w = (
   w,
 )
 
--- What stands in a list below its length.
-nth-of : {A : Type 0} (l : List A) (i : ℕ) → i < length l → (a : A) × (nth l i ≡ some a)
-nth-of [] i h = let z : ⊥ = omega arith in absurd z
-nth-of (a ∷ l) zero h = (a, refl)
-nth-of (a ∷ l) (suc i) h = nth-of l i (omega arith)
-
-wire-code-small : (α : Wire) → wireCode α ≤ 1
-wire-code-small Bit = omega arith
-wire-code-small Qubit = omega arith
-
 label-right : (f : List ℕ) (labels : List Wire) (M : Term)
     → AcceptedFile f labels M
     → (e : ℕ) → e < labelCount f
     → EntryRight f e
 label-right f labels M t e h =
-    let r = nth-of labels e (omega (arith, t .label-count)) in
+    let r = nth-within labels e (omega (arith, t .label-count)) in
     let k = t .label-kinds e (r .0) (r .1) in
-    let s = wire-code-small (r .0) in
+    let s = wire-kind (r .0) in
     zero-shape-right f e 0 (shape-of-label f e h ∙ label-shape-zero (kindAt f e) (omega arith))
     (t .arguments-zero e (omega arith))
     (wires-of-label f e h)
@@ -142,14 +135,14 @@ kind-of-tree (circ-at k s t) = is-circ k
 -- The test for wire types passes where a type stands whose Circs are of wire types.
 type-wires : {f : List ℕ} {e n : ℕ} {A : Ty}
     → TypeAt f e A n → n ≤ firstTerm f → IsTrue (formed A)
-    → (eqb (kindAt f e) 5 && circWrong f e) ≡ false
-type-wires {f} (bit-at {e = e} k) h w = ap (λ i. eqb i 5 && circWrong f e) k
-type-wires {f} (qubit-at {e = e} k) h w = ap (λ i. eqb i 5 && circWrong f e) k
-type-wires {f} (tensor-at {e = e} k s t) h w = ap (λ i. eqb i 5 && circWrong f e) k
-type-wires {f} (function-at {e = e} k s t) h w = ap (λ i. eqb i 5 && circWrong f e) k
-type-wires {f} (reusable-at {e = e} k s) h w = ap (λ i. eqb i 5 && circWrong f e) k
+    → (eqb (kindAt f e) circuit-kind && circWrong f e) ≡ false
+type-wires {f} (bit-at {e = e} k) h w = ap (λ i. eqb i circuit-kind && circWrong f e) k
+type-wires {f} (qubit-at {e = e} k) h w = ap (λ i. eqb i circuit-kind && circWrong f e) k
+type-wires {f} (tensor-at {e = e} k s t) h w = ap (λ i. eqb i circuit-kind && circWrong f e) k
+type-wires {f} (function-at {e = e} k s t) h w = ap (λ i. eqb i circuit-kind && circWrong f e) k
+type-wires {f} (reusable-at {e = e} k s) h w = ap (λ i. eqb i circuit-kind && circWrong f e) k
 type-wires {f} (circ-at {e = e} {A = A} {B = B} k s t) h w =
-    ap (λ i. eqb i 5 && circWrong f e) k ∙ circ-test s t h ∙ ap not (true-of (isWireType A && isWireType B) w)
+    ap (λ i. eqb i circuit-kind && circWrong f e) k ∙ circ-test s t h ∙ ap not (is-true (isWireType A && isWireType B) w)
 
 type-right-at : {f : List ℕ} {e n : ℕ} {A : Ty}
     → TypeAt f e A n → labelCount f ≤ e → n ≤ firstTerm f → IsTrue (formed A) → argumentAt f e ≡ 0
@@ -163,7 +156,7 @@ type-right-at {f} {e} {n} {A} s h l w a =
       zero-shape-right f e (r .0) (shape-of-type f e h (omega arith) ∙ r .1) a
           (wires-of-type f e h (omega arith) ∙ type-wires s l w),
       ap (λ j. runsOut (traverseFrom TypeEnd f j e (0 ∷ []))) k
-          ∙ ap runsOut (pass-type s 0 h l (firstTerm f - n) [] ∙ traverse-done TypeEnd f (firstTerm f - n) n),
+          ∙ ap runsOut (pass-type s 0 h l (firstTerm f - n) [] ∙ traverse-none TypeEnd f (firstTerm f - n) n),
     )
 
 type-right : (f : List ℕ) (labels : List Wire) (M : Term)
@@ -185,14 +178,14 @@ term-right : (f : List ℕ) (e k : ℕ)
     → firstTerm f ≤ e → kindAt f e ≡ k
     → isKnown (termShape k) ≡ true
     → shapeAllows (labelCount f) (typeCount f) (termShape k) (argumentAt f e) ≡ true
-    → (eqb k 24 && boxWrong f e) ≡ false
+    → (eqb k box-kind && boxWrong f e) ≡ false
     → EntryRight f e
 unfolding kindWrong argumentWrong
 term-right f e k h q known allowed wired =
     let s = shape-of-term f e h ∙ ap termShape q in (
       ap (λ x. not (isKnown x)) s ∙ ap not known,
       ap (λ x. not (shapeAllows (labelCount f) (typeCount f) x (argumentAt f e))) s ∙ ap not allowed,
-      wires-of-term f e h ∙ ap (λ i. eqb i 24 && boxWrong f e) q ∙ wired,
+      wires-of-term f e h ∙ ap (λ i. eqb i box-kind && boxWrong f e) q ∙ wired,
     )
 
 -- A position at which a type stands is one of the section.
@@ -205,9 +198,9 @@ allowed-first : (f : List ℕ) (M N : Term)
     × IsTrue (boxesWired M && boxesWired N)
     → Allowed f M
 allowed-first f M N h = (
-  both-left (labelsBelow (labelCount f) M) (labelsBelow (labelCount f) N) (h .0),
-  both-left (gatesKnown M) (gatesKnown N) (h .1),
-  both-left (boxesWired M) (boxesWired N) (h .2),
+  and-left (labelsBelow (labelCount f) M) (labelsBelow (labelCount f) N) (h .0),
+  and-left (gatesKnown M) (gatesKnown N) (h .1),
+  and-left (boxesWired M) (boxesWired N) (h .2),
 )
 
 allowed-second : (f : List ℕ) (M N : Term)
@@ -216,9 +209,9 @@ allowed-second : (f : List ℕ) (M N : Term)
     × IsTrue (boxesWired M && boxesWired N)
     → Allowed f N
 allowed-second f M N h = (
-  both-right (labelsBelow (labelCount f) M) (labelsBelow (labelCount f) N) (h .0),
-  both-right (gatesKnown M) (gatesKnown N) (h .1),
-  both-right (boxesWired M) (boxesWired N) (h .2),
+  and-right (labelsBelow (labelCount f) M) (labelsBelow (labelCount f) N) (h .0),
+  and-right (gatesKnown M) (gatesKnown N) (h .1),
+  and-right (boxesWired M) (boxesWired N) (h .2),
 )
 
 -- The entries of a term whose labels and gates are there and whose boxes are of wire types.
@@ -230,7 +223,7 @@ terms-right {f} (variable-at {e = e} k a) h w =
     range-leaf (EntryRight f) e (term-right f e 16 h k refl refl refl)
 terms-right {f} (label-at {e = e} {x = x} k a) h w =
     range-leaf (EntryRight f) e
-    (term-right f e 17 h k refl (ap (λ i. ltb i (labelCount f)) a ∙ true-of (ltb x (labelCount f)) (w .0)) refl)
+    (term-right f e 17 h k refl (ap (λ i. ltb i (labelCount f)) a ∙ is-true (ltb x (labelCount f)) (w .0)) refl)
 terms-right {f} (abstraction-at {e = e} {n = n} k a s) h w =
     range-one (EntryRight f) e n
     (term-right f e 18 h k refl (lt-ltb (argumentAt f e) (typeCount f) (position-below a)) refl)
@@ -259,8 +252,8 @@ terms-right {f} (force-at {e = e} {n = n} k a s) h w =
 terms-right {f} (box-at {e = e} {n = n} {T = T} {M = M} k a s) h w =
     range-one (EntryRight f) e n
     (term-right f e 24 h k refl (lt-ltb (argumentAt f e) (typeCount f) (position-below a))
-    (box-test e a ∙ ap not (true-of (isWireType T) (both-left (isWireType T) (boxesWired M) (w .2)))))
-    (terms-right s (omega arith) (w .0, w .1, both-right (isWireType T) (boxesWired M) (w .2)))
+    (box-test e a ∙ ap not (is-true (isWireType T) (and-left (isWireType T) (boxesWired M) (w .2)))))
+    (terms-right s (omega arith) (w .0, w .1, and-right (isWireType T) (boxesWired M) (w .2)))
 terms-right {f} (apply-at {e = e} {m = m} {n = n} {M = M} {N = N} k a s t) h w =
     let u = term-end s in
     range-two (EntryRight f) e m n (term-right f e 25 h k refl (eq-eqb (argumentAt f e) 0 a) refl)
@@ -268,7 +261,7 @@ terms-right {f} (apply-at {e = e} {m = m} {n = n} {M = M} {N = N} k a s t) h w =
     (terms-right t (omega arith) (allowed-second f M N w))
 terms-right {f} (gate-at {e = e} {x = x} k a) h w =
     range-leaf (EntryRight f) e
-    (term-right f e 26 h k refl (ap isGate a ∙ true-of (isGate x) (w .1)) refl)
+    (term-right f e 26 h k refl (ap isGate a ∙ is-true (isGate x) (w .1)) refl)
 
 entry-right : (f : List ℕ) (labels : List Wire) (M : Term)
     → AcceptedFile f labels M

@@ -13,6 +13,8 @@ use Rattle.rules.specs.Terms.{Term, variable, label, gate, constant, abstractio
 use Rattle.rules.specs.Terms.{box, apply}
 use Rattle.rules.specs.Sizes.{nodes}
 use Rattle.rules.specs.Counting.{source}
+use Rattle.rules.specs.Laws.Booleans.{and-left, and-right, and-both}
+use Rattle.rules.specs.Laws.TypeCodes.{typeCodes-entries}
 use Rattle.program.specs.Format.{labelCount, typeCount, termCount, firstTerm, entryCount, kindAt, argumentAt}
 use Rattle.words.specs.Numbers.{wordAt}
 use Rattle.program.specs.Reading.{readOf}
@@ -23,7 +25,6 @@ use Rattle.program.specs.Trees.{application-at, pair-at, let-at, lift-at
 use Rattle.program.specs.Trees.{AcceptedFile}
 use Rattle.program.specs.Laws.Trees.{typesIn, allFormed, entriesOf, codesOf, termKinds, termArguments, words}
 use Rattle.program.specs.Laws.Trees.{programKinds, programArguments, encode, Writable}
-use Rattle.program.specs.Laws.Kinds.{both-left, both-right, both-of}
 use Rattle.program.specs.Laws.TreeTraversal.{range-leaf, range-one, range-two, type-end}
 use Rattle.program.specs.Laws.Sections.{some-is}
 use Rattle.program.specs.Theorems.Accepting.{read-complete}
@@ -52,29 +53,10 @@ stand-of g e (x ∷ xs) h =
           (λ i l. let r : suc e + i ≡ e + suc i = omega arith in ap g r ∙ h (suc i) (omega arith)),
     )
 
-codes-count : (A : Ty) → length (typeCodes A) ≡ entries A
-codes-count (wire α) = refl
-codes-count (A ⊗ B) =
-    let p = codes-count A in
-    let q = codes-count B in
-    let r = length-append (typeCodes A) (typeCodes B) in
-    omega arith
-codes-count (A ⊸ B) =
-    let p = codes-count A in
-    let q = codes-count B in
-    let r = length-append (typeCodes A) (typeCodes B) in
-    omega arith
-codes-count (! A) = let p = codes-count A in omega arith
-codes-count (Circ A B) =
-    let p = codes-count A in
-    let q = codes-count B in
-    let r = length-append (typeCodes A) (typeCodes B) in
-    omega arith
-
 codes-of-count : (As : List Ty) → length (codesOf As) ≡ entriesOf As
 codes-of-count [] = refl
 codes-of-count (A ∷ As) =
-    let p = codes-count A in
+    let p = typeCodes-entries A in
     let q = codes-of-count As in
     let r = length-append (typeCodes A) (codesOf As) in
     omega arith
@@ -96,20 +78,20 @@ wire-stands f e n Qubit k q = subst (λ i. TypeAt f e (wire Qubit) i) (sym q) (q
 type-stands : (f : List ℕ) (A : Ty) (e n : ℕ) → Stand (kindAt f) e (typeCodes A) → n ≡ e + entries A → TypeAt f e A n
 type-stands f (wire α) e n h q = wire-stands f e n α (h .0) (omega arith)
 type-stands f (A ⊗ B) e n h q =
-    let p = codes-count A in
+    let p = typeCodes-entries A in
     tensor-at (h .0)
     (type-stands f A (suc e) (suc e + entries A) (stand-first (kindAt f) (suc e) (typeCodes A) (typeCodes B) (h .1)) refl)
     (type-stands f B (suc e + entries A) n
     (stand-second (kindAt f) (suc e) (suc e + entries A) (typeCodes A) (typeCodes B) (omega arith) (h .1)) (omega arith))
 type-stands f (A ⊸ B) e n h q =
-    let p = codes-count A in
+    let p = typeCodes-entries A in
     function-at (h .0)
     (type-stands f A (suc e) (suc e + entries A) (stand-first (kindAt f) (suc e) (typeCodes A) (typeCodes B) (h .1)) refl)
     (type-stands f B (suc e + entries A) n
     (stand-second (kindAt f) (suc e) (suc e + entries A) (typeCodes A) (typeCodes B) (omega arith) (h .1)) (omega arith))
 type-stands f (! A) e n h q = reusable-at (h .0) (type-stands f A (suc e) n (h .1) (omega arith))
 type-stands f (Circ A B) e n h q =
-    let p = codes-count A in
+    let p = typeCodes-entries A in
     circ-at (h .0)
     (type-stands f A (suc e) (suc e + entries A) (stand-first (kindAt f) (suc e) (typeCodes A) (typeCodes B) (h .1)) refl)
     (type-stands f B (suc e + entries A) n
@@ -119,8 +101,8 @@ type-stands f (Circ A B) e n h q =
 wire-formed : (A : Ty) → IsTrue (isWireType A) → IsTrue (formed A)
 wire-formed (wire α) h = tt
 wire-formed (A ⊗ B) h =
-    both-of (formed A) (formed B) (wire-formed A (both-left (isWireType A) (isWireType B) h))
-    (wire-formed B (both-right (isWireType A) (isWireType B) h))
+    and-both (formed A) (formed B) (wire-formed A (and-left (isWireType A) (isWireType B) h))
+    (wire-formed B (and-right (isWireType A) (isWireType B) h))
 wire-formed (A ⊸ B) h = absurd h
 wire-formed (! A) h = absurd h
 wire-formed (Circ A B) h = absurd h
@@ -143,13 +125,13 @@ typed-inside {f} (qubit-at {e = e} k) w =
 typed-inside {f} (tensor-at {e = e} {m = m} {n = n} {A = A} {B = B} k s t) w =
     let q = type-end t in
     range-two (TypedBy f n) e m n (A ⊗ B, n, tensor-at k s t, omega arith, w)
-    (λ i h l. typed-later f m n i (omega arith) (typed-inside s (both-left (formed A) (formed B) w) i h l))
-    (typed-inside t (both-right (formed A) (formed B) w))
+    (λ i h l. typed-later f m n i (omega arith) (typed-inside s (and-left (formed A) (formed B) w) i h l))
+    (typed-inside t (and-right (formed A) (formed B) w))
 typed-inside {f} (function-at {e = e} {m = m} {n = n} {A = A} {B = B} k s t) w =
     let q = type-end t in
     range-two (TypedBy f n) e m n (A ⊸ B, n, function-at k s t, omega arith, w)
-    (λ i h l. typed-later f m n i (omega arith) (typed-inside s (both-left (formed A) (formed B) w) i h l))
-    (typed-inside t (both-right (formed A) (formed B) w))
+    (λ i h l. typed-later f m n i (omega arith) (typed-inside s (and-left (formed A) (formed B) w) i h l))
+    (typed-inside t (and-right (formed A) (formed B) w))
 typed-inside {f} (reusable-at {e = e} {n = n} {A = A} k s) w =
     range-one (TypedBy f n) e n (! A, n, reusable-at k s, omega arith, w) (typed-inside s w)
 typed-inside {f} (circ-at {e = e} {m = m} {n = n} {A = A} {B = B} k s t) w =
@@ -157,8 +139,8 @@ typed-inside {f} (circ-at {e = e} {m = m} {n = n} {A = A} {B = B} k s t) w =
     range-two (TypedBy f n) e m n (Circ A B, n, circ-at k s t, omega arith, w)
     (λ i h l.
     typed-later f m n i (omega arith)
-    (typed-inside s (wire-formed A (both-left (isWireType A) (isWireType B) w)) i h l))
-    (typed-inside t (wire-formed B (both-right (isWireType A) (isWireType B) w)))
+    (typed-inside s (wire-formed A (and-left (isWireType A) (isWireType B) w)) i h l))
+    (typed-inside t (wire-formed B (and-right (isWireType A) (isWireType B) w)))
 
 -- At each entry of a list of types stands a type.
 typed-row : (f : List ℕ) (As : List Ty) (e n : ℕ)
@@ -166,16 +148,16 @@ typed-row : (f : List ℕ) (As : List Ty) (e n : ℕ)
     → (i : ℕ) → e ≤ i → i < n → TypedBy f n i
 typed-row f [] e n h q w i k l = let z : ⊥ = omega arith in absurd z
 typed-row f (A ∷ As) e n h q w i k l =
-    let c = codes-count A in
+    let c = typeCodes-entries A in
     let m = e + entries A in
     go m (type-stands f A e m (stand-first (kindAt f) e (typeCodes A) (codesOf As) h) refl)
     (omega arith)
     (typed-row f As m n (stand-second (kindAt f) e m (typeCodes A) (codesOf As) (omega arith) h) (omega arith)
-    (both-right (formed A) (allFormed As) w) i)
+    (and-right (formed A) (allFormed As) w) i)
     (decLt i m)
   where
     go : (m : ℕ) → TypeAt f e A m → m ≤ n → (m ≤ i → i < n → TypedBy f n i) → Dec (i < m) → TypedBy f n i
-    go m s u rest (yes v) = typed-later f m n i u (typed-inside s (both-left (formed A) (allFormed As) w) i k v)
+    go m s u rest (yes v) = typed-later f m n i u (typed-inside s (and-left (formed A) (allFormed As) w) i k v)
     go m s u rest (no v) = rest (omega (arith, v)) l
 
 -- The first of a term's types, and those behind it, where the codes of all of them stand.
@@ -212,26 +194,26 @@ kinds-count (gate x) h = refl
 kinds-count (constant c) h = absurd h
 kinds-count (abstraction A M) h = let p = kinds-count M h in omega arith
 kinds-count (application M N) h =
-    let p = kinds-count M (both-left (source M) (source N) h) in
-    let q = kinds-count N (both-right (source M) (source N) h) in
+    let p = kinds-count M (and-left (source M) (source N) h) in
+    let q = kinds-count N (and-right (source M) (source N) h) in
     let r = length-append (termKinds M) (termKinds N) in
     omega arith
 kinds-count (pair M N) h =
-    let p = kinds-count M (both-left (source M) (source N) h) in
-    let q = kinds-count N (both-right (source M) (source N) h) in
+    let p = kinds-count M (and-left (source M) (source N) h) in
+    let q = kinds-count N (and-right (source M) (source N) h) in
     let r = length-append (termKinds M) (termKinds N) in
     omega arith
 kinds-count (let-in M N) h =
-    let p = kinds-count M (both-left (source M) (source N) h) in
-    let q = kinds-count N (both-right (source M) (source N) h) in
+    let p = kinds-count M (and-left (source M) (source N) h) in
+    let q = kinds-count N (and-right (source M) (source N) h) in
     let r = length-append (termKinds M) (termKinds N) in
     omega arith
 kinds-count (lift M) h = let p = kinds-count M h in omega arith
 kinds-count (force M) h = let p = kinds-count M h in omega arith
 kinds-count (box T M) h = let p = kinds-count M h in omega arith
 kinds-count (apply M N) h =
-    let p = kinds-count M (both-left (source M) (source N) h) in
-    let q = kinds-count N (both-right (source M) (source N) h) in
+    let p = kinds-count M (and-left (source M) (source N) h) in
+    let q = kinds-count N (and-right (source M) (source N) h) in
     let r = length-append (termKinds M) (termKinds N) in
     omega arith
 
@@ -314,7 +296,7 @@ written-type-behind : (f : List ℕ) (e p k a : ℕ) (K G : List ℕ) (A : Ty) (
     → Written f e p (k ∷ K) (a ∷ G) (A ∷ As)
     → Written f (suc e) (p + entries A) K G As
 written-type-behind f e p k a K G A As w =
-    let c = codes-count A in
+    let c = typeCodes-entries A in
     let i = w .types-inside in
     record {
       kinds-stand = w .kinds-stand .1;
@@ -381,22 +363,22 @@ term-stands f (abstraction A M) e p n h q w =
     (term-stands f M (suc e) (p + entries A) n h (omega arith)
     (written-type-behind f e p 18 p (termKinds M) (termArguments (p + entries A) M) A (typesIn M) w))
 term-stands f (application M N) e p n h q w =
-    let s = both-left (source M) (source N) h in
+    let s = and-left (source M) (source N) h in
     application-at (w .kinds-stand .0) (w .arguments-stand .0)
     (term-stands f M (suc e) p (suc e + nodes M) s refl (part-first f e p 19 M N w))
-    (term-stands f N (suc e + nodes M) (p + entriesOf (typesIn M)) n (both-right (source M) (source N) h) (omega arith)
+    (term-stands f N (suc e + nodes M) (p + entriesOf (typesIn M)) n (and-right (source M) (source N) h) (omega arith)
     (part-second f e p 19 (suc e + nodes M) M N s refl w))
 term-stands f (pair M N) e p n h q w =
-    let s = both-left (source M) (source N) h in
+    let s = and-left (source M) (source N) h in
     pair-at (w .kinds-stand .0) (w .arguments-stand .0)
     (term-stands f M (suc e) p (suc e + nodes M) s refl (part-first f e p 20 M N w))
-    (term-stands f N (suc e + nodes M) (p + entriesOf (typesIn M)) n (both-right (source M) (source N) h) (omega arith)
+    (term-stands f N (suc e + nodes M) (p + entriesOf (typesIn M)) n (and-right (source M) (source N) h) (omega arith)
     (part-second f e p 20 (suc e + nodes M) M N s refl w))
 term-stands f (let-in M N) e p n h q w =
-    let s = both-left (source M) (source N) h in
+    let s = and-left (source M) (source N) h in
     let-at (w .kinds-stand .0) (w .arguments-stand .0)
     (term-stands f M (suc e) p (suc e + nodes M) s refl (part-first f e p 21 M N w))
-    (term-stands f N (suc e + nodes M) (p + entriesOf (typesIn M)) n (both-right (source M) (source N) h) (omega arith)
+    (term-stands f N (suc e + nodes M) (p + entriesOf (typesIn M)) n (and-right (source M) (source N) h) (omega arith)
     (part-second f e p 21 (suc e + nodes M) M N s refl w))
 term-stands f (lift M) e p n h q w =
     lift-at (w .kinds-stand .0) (w .arguments-stand .0)
@@ -412,10 +394,10 @@ term-stands f (box T M) e p n h q w =
     (term-stands f M (suc e) (p + entries T) n h (omega arith)
     (written-type-behind f e p 24 p (termKinds M) (termArguments (p + entries T) M) T (typesIn M) w))
 term-stands f (apply M N) e p n h q w =
-    let s = both-left (source M) (source N) h in
+    let s = and-left (source M) (source N) h in
     apply-at (w .kinds-stand .0) (w .arguments-stand .0)
     (term-stands f M (suc e) p (suc e + nodes M) s refl (part-first f e p 25 M N w))
-    (term-stands f N (suc e + nodes M) (p + entriesOf (typesIn M)) n (both-right (source M) (source N) h) (omega arith)
+    (term-stands f N (suc e + nodes M) (p + entriesOf (typesIn M)) n (and-right (source M) (source N) h) (omega arith)
     (part-second f e p 25 (suc e + nodes M) M N s refl w))
 
 -- A file with these sizes, kinds and arguments.

@@ -12,12 +12,12 @@ use Rattle.rules.specs.Terms.{box, apply}
 use Rattle.rules.specs.Circuits.{one-if}
 use Rattle.rules.specs.Sizes.{nodes}
 use Rattle.rules.specs.Inference.{uses, labelUses}
+use Rattle.rules.specs.Laws.Booleans.{and-left, and-right, and-both}
 use Rattle.program.specs.Format.{termCount}
 use Rattle.program.specs.Trees.{TypeAtPosition, at-position, formed, closedUnder, labelsBelow, TermAt, variable-at}
 use Rattle.program.specs.Trees.{label-at, abstraction-at, application-at, pair-at, let-at, lift-at, force-at, box-at}
 use Rattle.program.specs.Trees.{apply-at, gate-at, AcceptedFile}
 use Rattle.program.specs.Laws.Trees.{typesIn, allFormed}
-use Rattle.program.specs.Laws.Kinds.{both-left, both-right, both-of}
 use Rattle.program.specs.Laws.TreeTraversal.{type-end, type-nonempty, term-end}
 use Rattle.program.specs.Theorems.Unique.{position-unique}
 
@@ -36,8 +36,8 @@ GoodTypes As = IsTrue (allFormed As) × IsTrue (allBounded As)
 
 good-first : (A : Ty) (As : List Ty) → IsTrue (formed A) → entries A ≤ most-entries → GoodTypes As → GoodTypes (A ∷ As)
 good-first A As h k g = (
-  both-of (formed A) (allFormed As) h (g .0),
-  both-of (leb (entries A) most-entries) (allBounded As) (le→leb (entries A) most-entries k) (g .1),
+  and-both (formed A) (allFormed As) h (g .0),
+  and-both (leb (entries A) most-entries) (allBounded As) (le→leb (entries A) most-entries k) (g .1),
 )
 
 good-append : (As Bs : List Ty) → GoodTypes As → GoodTypes Bs → GoodTypes (As ++ Bs)
@@ -45,10 +45,10 @@ good-append [] Bs g h = h
 good-append (A ∷ As) Bs g h =
     let r =
     good-append As Bs
-    (both-right (formed A) (allFormed As) (g .0), both-right (leb (entries A) most-entries) (allBounded As) (g .1)) h in (
-      both-of (formed A) (allFormed (As ++ Bs)) (both-left (formed A) (allFormed As) (g .0)) (r .0),
-      both-of (leb (entries A) most-entries) (allBounded (As ++ Bs))
-          (both-left (leb (entries A) most-entries) (allBounded As) (g .1)) (r .1),
+    (and-right (formed A) (allFormed As) (g .0), and-right (leb (entries A) most-entries) (allBounded As) (g .1)) h in (
+      and-both (formed A) (allFormed (As ++ Bs)) (and-left (formed A) (allFormed As) (g .0)) (r .0),
+      and-both (leb (entries A) most-entries) (allBounded (As ++ Bs))
+          (and-left (leb (entries A) most-entries) (allBounded As) (g .1)) (r .1),
     )
 
 -- A type at a position of an accepted file: its Circs are of wire types, and it has at most as many entries as the section.
@@ -103,23 +103,23 @@ labels-unused (constant c) l h ℓ k = refl
 labels-unused (abstraction A M) l h ℓ k = labels-unused M l h ℓ k
 labels-unused (application M N) l h ℓ k =
     none-of-two (labelUses ℓ M) (labelUses ℓ N)
-    (labels-unused M l (both-left (labelsBelow l M) (labelsBelow l N) h) ℓ k)
-    (labels-unused N l (both-right (labelsBelow l M) (labelsBelow l N) h) ℓ k)
+    (labels-unused M l (and-left (labelsBelow l M) (labelsBelow l N) h) ℓ k)
+    (labels-unused N l (and-right (labelsBelow l M) (labelsBelow l N) h) ℓ k)
 labels-unused (pair M N) l h ℓ k =
     none-of-two (labelUses ℓ M) (labelUses ℓ N)
-    (labels-unused M l (both-left (labelsBelow l M) (labelsBelow l N) h) ℓ k)
-    (labels-unused N l (both-right (labelsBelow l M) (labelsBelow l N) h) ℓ k)
+    (labels-unused M l (and-left (labelsBelow l M) (labelsBelow l N) h) ℓ k)
+    (labels-unused N l (and-right (labelsBelow l M) (labelsBelow l N) h) ℓ k)
 labels-unused (let-in M N) l h ℓ k =
     none-of-two (labelUses ℓ M) (labelUses ℓ N)
-    (labels-unused M l (both-left (labelsBelow l M) (labelsBelow l N) h) ℓ k)
-    (labels-unused N l (both-right (labelsBelow l M) (labelsBelow l N) h) ℓ k)
+    (labels-unused M l (and-left (labelsBelow l M) (labelsBelow l N) h) ℓ k)
+    (labels-unused N l (and-right (labelsBelow l M) (labelsBelow l N) h) ℓ k)
 labels-unused (lift M) l h ℓ k = labels-unused M l h ℓ k
 labels-unused (force M) l h ℓ k = labels-unused M l h ℓ k
 labels-unused (box T M) l h ℓ k = labels-unused M l h ℓ k
 labels-unused (apply M N) l h ℓ k =
     none-of-two (labelUses ℓ M) (labelUses ℓ N)
-    (labels-unused M l (both-left (labelsBelow l M) (labelsBelow l N) h) ℓ k)
-    (labels-unused N l (both-right (labelsBelow l M) (labelsBelow l N) h) ℓ k)
+    (labels-unused M l (and-left (labelsBelow l M) (labelsBelow l N) h) ℓ k)
+    (labels-unused N l (and-right (labelsBelow l M) (labelsBelow l N) h) ℓ k)
 
 -- A variable from outside is not used in a term whose variables all have their binder.
 pub variables-unused : (M : Term) (b : ℕ) → IsTrue (closedUnder b M) → (n : ℕ) → b ≤ n → uses n M ≡ 0
@@ -130,20 +130,20 @@ variables-unused (constant c) b h n k = refl
 variables-unused (abstraction A M) b h n k = variables-unused M (b + 1) h (suc n) (omega arith)
 variables-unused (application M N) b h n k =
     none-of-two (uses n M) (uses n N)
-    (variables-unused M b (both-left (closedUnder b M) (closedUnder b N) h) n k)
-    (variables-unused N b (both-right (closedUnder b M) (closedUnder b N) h) n k)
+    (variables-unused M b (and-left (closedUnder b M) (closedUnder b N) h) n k)
+    (variables-unused N b (and-right (closedUnder b M) (closedUnder b N) h) n k)
 variables-unused (pair M N) b h n k =
     none-of-two (uses n M) (uses n N)
-    (variables-unused M b (both-left (closedUnder b M) (closedUnder b N) h) n k)
-    (variables-unused N b (both-right (closedUnder b M) (closedUnder b N) h) n k)
+    (variables-unused M b (and-left (closedUnder b M) (closedUnder b N) h) n k)
+    (variables-unused N b (and-right (closedUnder b M) (closedUnder b N) h) n k)
 variables-unused (let-in M N) b h n k =
     none-of-two (uses n M) (uses (suc (suc n)) N)
-    (variables-unused M b (both-left (closedUnder b M) (closedUnder (b + 2) N) h) n k)
-    (variables-unused N (b + 2) (both-right (closedUnder b M) (closedUnder (b + 2) N) h) (suc (suc n)) (omega arith))
+    (variables-unused M b (and-left (closedUnder b M) (closedUnder (b + 2) N) h) n k)
+    (variables-unused N (b + 2) (and-right (closedUnder b M) (closedUnder (b + 2) N) h) (suc (suc n)) (omega arith))
 variables-unused (lift M) b h n k = variables-unused M b h n k
 variables-unused (force M) b h n k = variables-unused M b h n k
 variables-unused (box T M) b h n k = variables-unused M b h n k
 variables-unused (apply M N) b h n k =
     none-of-two (uses n M) (uses n N)
-    (variables-unused M b (both-left (closedUnder b M) (closedUnder b N) h) n k)
-    (variables-unused N b (both-right (closedUnder b M) (closedUnder b N) h) n k)
+    (variables-unused M b (and-left (closedUnder b M) (closedUnder b N) h) n k)
+    (variables-unused N b (and-right (closedUnder b M) (closedUnder b N) h) n k)

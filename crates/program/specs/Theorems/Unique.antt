@@ -5,9 +5,10 @@ use mathlib.Core.List.{List, [], _∷_}
 use mathlib.Core.Option.{some}
 use native.Mathlib.Omega.{arith}
 use lib.ListN.{length}
-use Rattle.rules.specs.Types.{Wire, Bit, Qubit, Ty, wire, _⊗_, _⊸_, !_, Circ, wireCode}
+use Rattle.rules.specs.Types.{Wire, Bit, Qubit, Ty, wire, _⊗_, _⊸_, !_, Circ}
 use Rattle.rules.specs.Gates.{nth}
 use Rattle.rules.specs.Terms.{Term, variable, label, gate, abstraction, application, pair, let-in, lift, force, box, apply}
+use Rattle.rules.specs.Laws.TypeCodes.{same-wire}
 use Rattle.program.specs.Format.{kindAt, argumentAt}
 use Rattle.program.specs.Trees.{TypeAt, bit-at, qubit-at, tensor-at, function-at, reusable-at, circ-at, TypeAtPosition}
 use Rattle.program.specs.Trees.{at-position, AcceptedFile, TermAt, variable-at, label-at, abstraction-at}
@@ -230,12 +231,6 @@ term-unique (box-at k a s) D j u = box-unique a (term-unique s) (term-case-at 24
 term-unique (apply-at k a s t) D j u = apply-unique (term-unique s) (term-unique t) (term-case-at 25 k u)
 term-unique (gate-at k a) D j u = gate-unique a (term-case-at 26 k u)
 
-wire-code-is : (α β : Wire) → wireCode α ≡ wireCode β → α ≡ β
-wire-code-is Bit Bit h = refl
-wire-code-is Bit Qubit h = let z : ⊥ = omega arith in absurd z
-wire-code-is Qubit Bit h = let z : ⊥ = omega arith in absurd z
-wire-code-is Qubit Qubit h = refl
-
 -- Two lists of one length that have the same at each place.
 same-lists : (l m : List Wire)
     → length l ≡ length m
@@ -253,6 +248,6 @@ pub tree-unique : {f : List ℕ} {labels labels′ : List Wire} {M M′ : Term}
     → (labels ≡ labels′) × (M ≡ M′)
 tree-unique {f} {labels} {labels′} {M} {M′} s t = (
   same-lists labels labels′ (s .label-count ∙ sym (t .label-count))
-      (λ i α β p q. wire-code-is α β (sym (s .label-kinds i α p) ∙ t .label-kinds i β q)),
+      (λ i α β p q. same-wire α β (sym (s .label-kinds i α p) ∙ t .label-kinds i β q)),
   term-unique (s .term-at) M′ _ (t .term-at) .0,
 )

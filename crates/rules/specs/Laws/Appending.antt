@@ -24,7 +24,8 @@ use Rattle.rules.specs.Theorems.Counting.{closed→plain, has→counted,
 use Rattle.rules.specs.Laws.Wires.{Compared, equal, unequal, compared, one-if-equal, one-if-unequal, count-append}
 use Rattle.rules.specs.Laws.Wires.{count-map, count-map-none, count-above, count-between, numbers-append}
 use Rattle.rules.specs.Laws.Wires.{nth-append-right, nth-append-left, nth-beyond, nth-within, nth-some-within}
-use Rattle.rules.specs.Laws.Wires.{map-append, count-at-most-once, and-left, and-right, every, every-nth}
+use Rattle.rules.specs.Laws.Wires.{map-append, count-at-most-once, every, every-nth}
+use Rattle.rules.specs.Laws.Booleans.{and-left, and-right}
 
 -- The wires made are the numbers from 0 on.
 made-are-numbers : (I : List Wire) (gs : List Gate) → madeBy I gs ≡ numbers 0 (length (I ++ outputs gs))
@@ -70,11 +71,11 @@ atSome Q (some u) = Q u
 abbrev pub segment : ℕ → List Wire → LabelContext
 segment n αs v = atSome (nth αs) (offset n v)
 
-shares-left : (a : Option Wire) → Shares Never a a none
+pub shares-left : (a : Option Wire) → Shares Never a a none
 shares-left none = nowhere
 shares-left (some α) = left
 
-shares-right : (a : Option Wire) → Shares Never a none a
+pub shares-right : (a : Option Wire) → Shares Never a none a
 shares-right none = nowhere
 shares-right (some α) = right
 
@@ -196,13 +197,13 @@ pub tuple-gone-once : (I : List Wire) (gs : List Gate) (r : Tuple) {U : Ty}
     → GoneOnce I gs (labels r)
 tuple-gone-once I gs r once d = subst (GoneOnce I gs) (labels-of-tuple r) (gone-once I gs once d)
 
-shares-some-left : {a a₁ a₂ : Option Wire} {α : Wire} → Shares Never a a₁ a₂ → a₁ ≡ some α → a ≡ some α
+pub shares-some-left : {a a₁ a₂ : Option Wire} {α : Wire} → Shares Never a a₁ a₂ → a₁ ≡ some α → a ≡ some α
 shares-some-left nowhere p = p
 shares-some-left left p = p
 shares-some-left right p = cc
 shares-some-left (copied n) p = absurd n
 
-shares-some-right : {a a₁ a₂ : Option Wire} {α : Wire} → Shares Never a a₁ a₂ → a₂ ≡ some α → a ≡ some α
+pub shares-some-right : {a a₁ a₂ : Option Wire} {α : Wire} → Shares Never a a₁ a₂ → a₂ ≡ some α → a ≡ some α
 shares-some-right nowhere p = p
 shares-some-right left p = cc
 shares-some-right right p = p

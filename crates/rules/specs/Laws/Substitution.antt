@@ -2,7 +2,7 @@
 use Prim.Native.Nat.{ℕ, zero, suc}
 use mathlib.Core.Path.{_≡_, refl, sym, subst}
 use mathlib.Core.Logic.{_⊎_, inl, inr}
-use mathlib.Core.Bool.{Bool, true, false, _&&_}
+use mathlib.Core.Bool.{Bool, true, _&&_}
 use mathlib.Core.List.{List, [], _∷_}
 use mathlib.Core.Option.{Option, none, some}
 use lib.Dec.{T as IsTrue}
@@ -19,6 +19,7 @@ use Rattle.rules.specs.Contexts.{let-first, force-of, box-of, apply-left
 use Rattle.rules.specs.Laws.Labels.{splits-swap, join, splits-regroup, splits-regroup-right, splits-none-right}
 use Rattle.rules.specs.Laws.Labels.{splits-none-left, splits-right-none, splits-left-none, no-label-whole}
 use Rattle.rules.specs.Laws.Labels.{splits-interchange}
+use Rattle.rules.specs.Laws.Booleans.{and-parts}
 
 -- 000, lemma 2.1: a value of a type that may be copied holds no label.
 pub copyable-no-label : {Q : LabelContext} {W : Term} {A : Ty}
@@ -111,11 +112,6 @@ plug-has (apply-right W v E) (by-apply split-end s t u) =
     (λ N′ R R₁ s′ u′. by-apply split-end (splits-swap s′) t u′) (plug-has E u)
 
 -- If two tests together are passed, each is.
-and-true : (a b : Bool) → IsTrue (a && b) → IsTrue a × IsTrue b
-and-true true true t = (tt, tt)
-and-true true false t = absurd t
-and-true false b t = absurd t
-
 -- The closed values of each kind of type: a function is an abstraction.
 pub canonical-function : {Q : LabelContext} {W : Term} {A B : Ty}
     → IsTrue (value W) → [] ∣ Q ⊢ W ∶ A ⊸ B → (M : Term) × (W ≡ abstraction A M)
@@ -133,7 +129,7 @@ pub canonical-pair : {Q : LabelContext} {W : Term} {A B : Ty}
 canonical-pair v (by-var x n) = absurd v
 canonical-pair v (by-app g s t u) = absurd v
 canonical-pair v (by-tuple {M = M} {N = N} b g s t u) =
-    let vs = and-true (value M) (value N) v in (M, N, refl, vs .0, vs .1)
+    let vs = and-parts (value M) (value N) v in (M, N, refl, vs .0, vs .1)
 canonical-pair v (by-let g s t u) = absurd v
 canonical-pair v (by-force t) = absurd v
 canonical-pair v (by-apply g s t u) = absurd v
@@ -170,8 +166,8 @@ canonical-wires w v (by-circ p n w′ b h t) = absurd w
 canonical-wires w v (by-abs b t) = absurd w
 canonical-wires w v (by-app g s t u) = absurd v
 canonical-wires w v (by-tuple {A = A} {B = B} {M = M} {N = N} b split-end s t u) =
-    let ws = and-true (isWireType A) (isWireType B) w in
-    let vs = and-true (value M) (value N) v in
+    let ws = and-parts (isWireType A) (isWireType B) w in
+    let vs = and-parts (value M) (value N) v in
     let k = canonical-wires (ws .0) (vs .0) t in
     let l = canonical-wires (ws .1) (vs .1) u in
     (both (k .0) (l .0), λ i. pair (k .1 i) (l .1 i))
@@ -193,8 +189,8 @@ OnWires (some (T to U)) = IsTrue (isWireType T) × IsTrue (isWireType U)
 on-wires-at : (l : List GateType) (n : ℕ) → IsTrue (gatesOnWires l) → OnWires (nth l n)
 on-wires-at [] n t = tt
 on-wires-at ((T to U) ∷ l) zero t =
-    and-true (isWireType T) (isWireType U) (and-true (isWireType T && isWireType U) (gatesOnWires l) t .0)
-on-wires-at ((T to U) ∷ l) (suc n) t = on-wires-at l n (and-true (isWireType T && isWireType U) (gatesOnWires l) t .1)
+    and-parts (isWireType T) (isWireType U) (and-parts (isWireType T && isWireType U) (gatesOnWires l) t .0)
+on-wires-at ((T to U) ∷ l) (suc n) t = on-wires-at l n (and-parts (isWireType T && isWireType U) (gatesOnWires l) t .1)
 
 -- The input and the output of a gate have wire types.
 pub gate-wire-types : (n : ℕ) {T U : Ty}

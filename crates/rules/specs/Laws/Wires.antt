@@ -11,6 +11,7 @@ use lib.Dec.{T as IsTrue, eqb, eqb→eq, eqb-refl}
 use lib.ListN.{length}
 use Rattle.rules.specs.Gates.{nth}
 use Rattle.rules.specs.Circuits.{numbers, one-if, count}
+use Rattle.rules.specs.Laws.Booleans.{and-left, and-right}
 
 -- What the test for equal numbers says.
 pub data Compared (m n : ℕ) : Bool → Type 0 where
@@ -133,15 +134,6 @@ module _ {A : Type 0} where
 pub map-append : (f : ℕ → ℕ) (xs ys : List ℕ) → map f (xs ++ ys) ≡ map f xs ++ map f ys
 map-append f [] ys = refl
 map-append f (x ∷ xs) ys = ap (λ l. f x ∷ l) (map-append f xs ys)
-
--- A test of two parts.
-pub and-left : (a b : Bool) → IsTrue (a && b) → IsTrue a
-and-left true b t = tt
-and-left false b t = t
-
-pub and-right : (a b : Bool) → IsTrue (a && b) → IsTrue b
-and-right true b t = t
-and-right false b t = absurd t
 
 -- A test that passes at every entry of a list passes at the one that stands at a place.
 module _ {A : Type 0} (test : A → Bool) where

@@ -9,13 +9,13 @@ use mathlib.Core.Bool.{false}
 use mathlib.Core.List.{List, [], _∷_}
 use mathlib.Core.Option.{Option, none, some}
 use lib.Dec.{lit≤}
-use Rattle.rules.specs.Types.{Wire, Qubit, Ty, wire, _⊗_, _⊸_, !_, Circ, isWireType}
+use Rattle.rules.specs.Types.{Wire, Qubit, Ty, _⊗_, _⊸_, !_, Circ, isWireType}
 use Rattle.rules.specs.Gates.{_to_, nth, gateType}
 use Rattle.rules.specs.Terms.{single, both, Gate, _on_, Boxed, boxed, Term, variable, label, gate, constant}
 use Rattle.rules.specs.Terms.{abstraction, application, pair, let-in, lift, box, apply}
 use Rattle.rules.specs.Circuits.{circuit}
-use Rattle.rules.specs.Typing.{Context, LabelContext, Shares, nowhere, left, right, copied, Splits, split-end, _then_}
-use Rattle.rules.specs.Typing.{Never, SplitsLabels, Parameter, parameters-end, absent, parameter, here, past-absent}
+use Rattle.rules.specs.Typing.{Context, LabelContext, nowhere, left, right, copied, Splits, split-end, _then_}
+use Rattle.rules.specs.Typing.{SplitsLabels, Parameter, parameters-end, absent, parameter, here, past-absent}
 use Rattle.rules.specs.Typing.{OnlyLabel, _∣_⊢_∶_, by-var, by-label, by-gate, by-abs, by-app, by-tuple, by-let}
 use Rattle.rules.specs.Typing.{by-lift, by-box, by-apply}
 use Rattle.rules.specs.Steps.{frame, Configuration, configuration, start}
@@ -27,6 +27,7 @@ use Rattle.rules.specs.Laws.Counting.{Plain, plain-gate, plain-abs, plai
 use Rattle.rules.specs.CaseTerms.{one-label, two-labels, qubit, H, X, Z, CNOT, c1, c2, c3, c4, c5, c6, c7, c8, c9, c10}
 use Rattle.rules.specs.CaseTerms.{c11, c12}
 use Rattle.rules.specs.Theorems.Counting.{has→counted}
+use Rattle.rules.specs.Laws.Appending.{shares-left, shares-right}
 
 -- The configuration after n steps, if there are as many.
 abbrev pub after : ℕ → Configuration → Option Configuration
@@ -240,18 +241,10 @@ label-1 zero = none
 label-1 (suc ℓ) = nth one-label ℓ
 
 all-left : (Q : LabelContext) → SplitsLabels Q Q no-label
-all-left Q ℓ = go (Q ℓ)
-  where
-    go : (a : Option Wire) → Shares Never a a none
-    go none = nowhere
-    go (some α) = left
+all-left Q ℓ = shares-left (Q ℓ)
 
 all-right : (Q : LabelContext) → SplitsLabels Q no-label Q
-all-right Q ℓ = go (Q ℓ)
-  where
-    go : (a : Option Wire) → Shares Never a none a
-    go none = nowhere
-    go (some α) = right
+all-right Q ℓ = shares-right (Q ℓ)
 
 label-0-left : SplitsLabels (nth two-labels) (nth one-label) label-1
 label-0-left zero = left

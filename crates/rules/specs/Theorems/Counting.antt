@@ -21,6 +21,7 @@ use Rattle.rules.specs.Inference.{uses, labelUses, Linear}
 use Rattle.rules.specs.Laws.Counting.{Plain, plain-var, plain-label, plain-gate, plain-circ, plain-abs, plain-app}
 use Rattle.rules.specs.Laws.Counting.{plain-tuple, plain-let, plain-lift, plain-force, plain-box, plain-apply}
 use Rattle.rules.specs.Laws.Counting.{BoundOnce, NoneCrosses, Counted}
+use Rattle.rules.specs.Laws.Booleans.{is-true, is-false}
 
 -- The context of a part of a term against the types of all variables in scope: a variable that is the part's own has
 -- its type there, one that another part has is left out.
@@ -474,17 +475,9 @@ used-label (some β) α k r e h = ap some (sym (h β refl))
 right→only-label : (Q P : LabelContext) (ℓ : ℕ) (α : Wire)
     → LabelsOf Q P → P ℓ ≡ some α → ((k : ℕ) → RightUses Always (Q k) (is k ℓ)) → OnlyLabel Q ℓ α
 right→only-label Q P ℓ α q e r = (
-  used-label (Q ℓ) α (is ℓ ℓ) (r ℓ) (ap one-if (true-is (eqb ℓ ℓ) (eqb-refl ℓ))) (λ β h. let g = q ℓ β h in cc),
-  λ k n. unused-label (Q k) (is k ℓ) (r k) (ap one-if (false-is (eqb k ℓ) (λ t. n (eqb→eq k ℓ t)))),
+  used-label (Q ℓ) α (is ℓ ℓ) (r ℓ) (ap one-if (is-true (eqb ℓ ℓ) (eqb-refl ℓ))) (λ β h. let g = q ℓ β h in cc),
+  λ k n. unused-label (Q k) (is k ℓ) (r k) (ap one-if (is-false (eqb k ℓ) (λ t. n (eqb→eq k ℓ t)))),
 )
-  where
-    true-is : (b : Bool) → IsTrue b → b ≡ true
-    true-is true t = refl
-    true-is false t = absurd t
-
-    false-is : (b : Bool) → (IsTrue b → ⊥) → b ≡ false
-    false-is true n = absurd (n tt)
-    false-is false n = refl
 
 -- A term with its plain type and the right uses, with each linear variable bound used once and none through a lift, is
 -- typed by the rules.

@@ -1,7 +1,7 @@
 -- The step function gives exactly the steps of the rules; so a configuration has at most one step.
 use Prim.Native.Nat.{ℕ}
 use mathlib.Core.Path.{_≡_, refl, sym, _∙_, ap, subst}
-use mathlib.Core.Bool.{Bool, true, false, _&&_}
+use mathlib.Core.Bool.{_&&_}
 use mathlib.Core.List.{List, [], _∷_}
 use mathlib.Core.Option.{Option, none, some, Option·some-injective, Option·none-ne-some}
 use lib.Dec.{T as IsTrue, T-prop}
@@ -19,6 +19,7 @@ use Rattle.rules.specs.Next.{pair-view, lift-view, gate-view, constant-v
 use Rattle.rules.specs.Next.{stepLet, stepForce, stepBox, append, appendGate, stepApply, stepRedex, closeBox}
 use Rattle.rules.specs.Next.{closeRedex, closeFound, exit, stepFound, next}
 use Rattle.rules.specs.Values.{both-values}
+use Rattle.rules.specs.Laws.Booleans.{and-left, and-right}
 
 -- A proto-redex (000, definition 2.16): P ::= V W | let ⟨x, y⟩ = V in N | force V | box_T V | apply(V, W).
 pub data Proto : Term → Type 0 where
@@ -27,14 +28,6 @@ pub data Proto : Term → Type 0 where
   proto-force : {M : Term} → IsTrue (value M) → Proto (force M)
   proto-box : {T : Ty} {M : Term} → IsTrue (value M) → Proto (box T M)
   proto-apply : {M N : Term} → IsTrue (value M) → IsTrue (value N) → Proto (apply M N)
-
-and-left : (a b : Bool) → IsTrue (a && b) → IsTrue a
-and-left true b v = tt
-and-left false b v = absurd v
-
-and-right : (a b : Bool) → IsTrue (a && b) → IsTrue b
-and-right true b v = v
-and-right false b v = absurd v
 
 -- The parts of a pair that is a value are values.
 pub first-value : (M N : Term) → IsTrue (value (pair M N)) → IsTrue (value M)
@@ -339,7 +332,7 @@ same-box E E′ T T′ M M′ e =
     let s = same-proto E E′ (box T (lift M)) (box T′ (lift M′)) (proto-box tt) (proto-box tt) e in
     (s .0, cc (s .1), cc (s .1))
 
-no-exit : (C : Circuit) (k : Option Tuple) (K : List Boxed) → exit C k [] K ≡ none
+pub no-exit : (C : Circuit) (k : Option Tuple) (K : List Boxed) → exit C k [] K ≡ none
 no-exit C none K = refl
 no-exit C (some r) K = refl
 

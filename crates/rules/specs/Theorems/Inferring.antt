@@ -17,6 +17,7 @@ use Rattle.rules.specs.Inference.{asPair, asFunction, asReusable, asCirc
 use Rattle.rules.specs.Inference.{gateNodeType, infer}
 use Rattle.rules.specs.Counting.{source}
 use Rattle.rules.specs.Theorems.Counting.{closed→plain, has→counted, counted→has}
+use Rattle.rules.specs.Laws.Booleans.{and-left, and-right, and-both}
 
 -- If something follows, there was something that it follows from.
 given-some : {X Y : Type 0} (o : Option X) (f : X → Option Y) (y : Y)
@@ -45,18 +46,6 @@ same→equal A B t = yes-holds (Ty-discrete Wire-discrete A B) t
 
 same-refl : (A : Ty) → IsTrue (same A A)
 same-refl A = holds-yes (Ty-discrete Wire-discrete A A) refl
-
-and-left : (a b : Bool) → IsTrue (a && b) → IsTrue a
-and-left true b t = tt
-and-left false b t = absurd t
-
-and-right : (a b : Bool) → IsTrue (a && b) → IsTrue b
-and-right true b t = t
-and-right false b t = absurd t
-
-and-both : (a b : Bool) → IsTrue a → IsTrue b → IsTrue (a && b)
-and-both true b t u = u
-and-both false b t u = absurd t
 
 bounded-some : (A B : Ty) → if-bounded A ≡ some B → Bounded A × (A ≡ B)
 bounded-some A B e =

@@ -22,6 +22,7 @@ use Rattle.rules.specs.Runs.{oneStep, advanced}
 use Rattle.rules.specs.Theorems.Deterministic.{step→next, next→step}
 use Rattle.rules.specs.Theorems.Safety.{progress, row-keeps, finished-stops}
 use Rattle.rules.specs.Inputs.{outermostInputs}
+use Rattle.rules.specs.Laws.Booleans.{is-true}
 
 -- The same endings by the rules, for at most k steps from c: after a row of n steps that fit, to d.
 -- 01: "Else finished": at a finish, which at most k steps reach.
@@ -60,10 +61,6 @@ true-three : (a b c : Bool) → IsTrue a → IsTrue b → IsTrue c → IsTrue (a
 true-three true true c h i j = j
 true-three true false c h i j = absurd i
 true-three false b c h i j = absurd h
-
-is-true : (a : Bool) → IsTrue a → a ≡ true
-is-true true h = refl
-is-true false h = absurd h
 
 -- A configuration that passes the test `fits` fits.
 pub fits-true : (allowance : ℕ) (c : Configuration) → IsTrue (fits allowance c) → Fits allowance c
@@ -216,7 +213,7 @@ unfinished-next c typed h = of (progress typed)
     of (inr s) = (s .0, step→next (s .1))
 
 -- Where there is no next configuration it ends at once, however many steps may be taken.
-none-ends : (allowance k n : ℕ) (c : Configuration)
+pub none-ends : (allowance k n : ℕ) (c : Configuration)
     → next c ≡ none
     → advanced allowance k n c ≡ ended at-finish n c
 none-ends allowance zero n c p = ap (atLimit n c) p

@@ -17,6 +17,7 @@ use Rattle.rules.specs.Typing.{LabelContext, Bounded}
 use Rattle.rules.specs.Laws.Counting.{Plain, plain-var, plain-label, plain-gate, plain-circ, plain-abs, plain-app}
 use Rattle.rules.specs.Laws.Counting.{plain-tuple, plain-let, plain-lift, plain-force, plain-box, plain-apply}
 use Rattle.rules.specs.Theorems.Counting.{closed→plain}
+use Rattle.rules.specs.Laws.Booleans.{and-left, and-right}
 use Rattle.refusals.specs.Refusals.{refusalPlace}
 use Rattle.refusals.specs.declared.Refusal.{Refusal}
 use Rattle.refusals.specs.declared.Refusal.the-variants.{Form, Typing, Run}
@@ -27,7 +28,6 @@ use Rattle.program.specs.Reading.{readOf}
 use Rattle.program.specs.Laws.Reading.{Ranges, ranges}
 use Rattle.program.specs.Traversal.{firstFrom, partsAt, traverseFrom}
 use Rattle.program.specs.Theorems.Accepting.{read-sound}
-use Rattle.program.specs.Laws.Kinds.{both-left, both-right}
 use Rattle.program.specs.declared.Found.{Found}
 use Rattle.program.specs.declared.Found.the-variants.{At, Nothing}
 use Rattle.program.specs.declared.traversal.Subject.{Subject}
@@ -41,13 +41,13 @@ use Rattle.program.specs.declared.ReadAnswer.the-variants.{Accepted, Refused}
 use Rattle.check_program.specs.Checking.{Checked, typed, fault, earlier, checkTerm, wrongLabel, Verdict, has-type, refusal}
 use Rattle.check_program.specs.Checking.{lastly, secondly, decided, verdict}
 use Rattle.check_program.specs.Answers.{labelsOf, termOf, Judged, accepts, refuses, judged, judgedAs, checkOf}
-use Rattle.check_program.specs.Laws.Heads.{term-ends}
 use Rattle.check_program.specs.Laws.ReadBack.{file-read}
 use Rattle.check_program.specs.Theorems.Agreement.{accepts→has}
 use Rattle.check_program.specs.Places.{First, Nowhere, WrongLabelAt, WrongBinderAt}
 use Rattle.check_program.specs.Theorems.Places.{occurs-within, sixteen, seventeen, eighteen}
 use Rattle.run_answers.specs.Demand2.{OfRead, OfCheck}
 use Rattle.program.specs.Sized.{most-file-entries}
+use Rattle.program.specs.Laws.TreeTraversal.{term-end}
 
 -- No file has more entries: 64 labels, 512 types, 2,048 terms. So no place is greater.
 abbrev pub most-places : ℕ
@@ -223,10 +223,10 @@ nth-gate-bounded [] n T U all h = let z : _≡_ {A = ℕ} 0 1 = cc in absurd (om
 nth-gate-bounded ((T′ to U′) ∷ gs) zero T U all h =
     let p : T′ ≡ T = cc in
     let q : U′ ≡ U = cc in
-    let first = both-left (leb (entries (Circ T′ U′)) most-entries) (allGatesBounded gs) all in
+    let first = and-left (leb (entries (Circ T′ U′)) most-entries) (allGatesBounded gs) all in
     omega (arith, leb→le (entries (Circ T′ U′)) most-entries first, ap entries p, ap entries q)
 nth-gate-bounded ((T′ to U′) ∷ gs) (suc n) T U all h =
-    nth-gate-bounded gs n T U (both-right (leb (entries (Circ T′ U′)) most-entries) (allGatesBounded gs) all) h
+    nth-gate-bounded gs n T U (and-right (leb (entries (Circ T′ U′)) most-entries) (allGatesBounded gs) all) h
 
 -- 01: "No type of a node may exceed 512 entries." The rules ask it where a type is built; all others are parts of such.
 plain-bounded : {Γ : List Ty} {Q : LabelContext} {M : Term} {A : Ty} → AllBounded Γ → Plain Γ Q M A → Bounded A
@@ -307,7 +307,7 @@ check-bounds f = of (readOf f) refl (read-bounds f)
         let file = file-read (read-sound f L P N h .2) in
         let behind : length (labelsOf f) ≤ firstTerm f = omega (arith, file .label-count) in
         let end : firstTerm f + nodes (termOf f) ≤ most-places
-        = omega (arith, term-ends (file .term-at), file .labels-fit, file .types-fit, file .terms-fit) in
+        = omega (arith, term-end (file .term-at), file .labels-fit, file .types-fit, file .terms-fit) in
         given (verdict (labelsOf f) (firstTerm f) (termOf f)) refl behind end
         (verdict-number (labelsOf f) (firstTerm f) (termOf f) behind)
       where

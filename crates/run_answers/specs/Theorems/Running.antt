@@ -17,6 +17,7 @@ use Rattle.rules.specs.Runs.{Ending, at-finish, still-running, does-not-fit, Re
 use Rattle.rules.specs.Theorems.Deterministic.{tuple-value, tupleOf-tuple}
 use Rattle.rules.specs.Theorems.Runs.{FinishesAt, UnfinishedAt, ExceedsAt, EndingMeans, finish-means, running-means}
 use Rattle.rules.specs.Theorems.Runs.{not-fitting-means}
+use Rattle.rules.specs.Laws.Booleans.{is-true, is-false}
 use Rattle.refusals.specs.Refusals.{refusalNumber, refusalPlace}
 use Rattle.refusals.specs.declared.Refusal.{Refusal}
 use Rattle.refusals.specs.declared.Refusal.the-variants.{Form, Typing, Run}
@@ -146,15 +147,6 @@ declined-as : (f : List ℕ) (limit : ℕ) (x : Refusal) → runOf f limit ≡ d
 declined-as f limit x h = subst (AnswersAs f limit) h (run-as f limit)
 
 -- FROM THE RULES TO THE ANSWER
-
--- A test that is passed is true, one that is not is false.
-is-true : (b : Bool) → IsTrue b → b ≡ true
-is-true true h = refl
-is-true false h = absurd h
-
-is-false : (b : Bool) → (IsTrue b → ⊥) → b ≡ false
-is-false true h = absurd (h tt)
-is-false false h = refl
 
 -- The answer of a run of an accepted program, by the test of its type.
 pub run-typed : (f : List ℕ) (limit : ℕ) (A : Ty) (b : Bool)

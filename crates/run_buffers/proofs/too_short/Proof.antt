@@ -1,5 +1,5 @@
 -- `run_buffers::too_short` meets its contract: the tests joined are `anyBelow`, which ends with no length left. Assumes nothing.
-use mathlib.Core.Path.{_≡_, refl, sym, ap}
+use mathlib.Core.Path.{_≡_, refl, ap}
 use mathlib.Core.Bool.{Bool, true, false, _||_}
 use lib.Dec.{ltb}
 use Rattle.run_buffers.proofs.too_short.Statement.{statement}

@@ -1,5 +1,5 @@
 -- Laws of the end of the steps: the answer and the listing.
-use Prim.Native.Nat.{ℕ, _+_, _≤_, _<_}
+use Prim.Native.Nat.{ℕ, _≤_}
 use native.Mathlib.Omega.{arith}
 use mathlib.Core.Path.{_≡_, refl, sym, _∙_, ap, ap₂, subst}
 use mathlib.Core.Bool.{true}
@@ -8,18 +8,18 @@ use mathlib.Core.Option.{some}
 use lib.Dec.{T as IsTrue}
 use lib.ListN.{length}
 use Rattle.rules.specs.Types.{Wire, Ty, isWireType}
-use Rattle.rules.specs.Terms.{Tuple, Gate, Term, labels, tuple, Boxed}
+use Rattle.rules.specs.Terms.{Tuple, Gate, Term, tuple, Boxed}
 use Rattle.rules.specs.Circuits.{Circuit, circuit}
 use Rattle.rules.specs.Steps.{Frame, frame, Configuration, configuration}
 use Rattle.rules.specs.Sizes.{most-gates, Fits}
 use Rattle.rules.specs.Next.{tupleOf}
-use Rattle.rules.specs.Runs.{at-finish, Reached, ended}
+use Rattle.rules.specs.Runs.{Reached, ended}
 use Rattle.rules.specs.Theorems.Deterministic.{tupleOf-tuple}
 use Rattle.rules.specs.Inputs.{outermostInputs}
 use Rattle.rules.specs.Theorems.Runs.{fits-true}
-use Rattle.machine_terms.specs.Trees.{Node, Tree, preorder, tupleOfTree}
-use Rattle.machine_terms.specs.Meaning.{environment, meaning}
-use Rattle.machine_terms.specs.Walks.{Walk, returning, Stopped, at-end, stopped-end}
+use Rattle.machine_terms.specs.Trees.{Tree, preorder, tupleOfTree}
+use Rattle.machine_terms.specs.Meaning.{environment}
+use Rattle.machine_terms.specs.Walks.{Stopped, at-end, stopped-end}
 use Rattle.machine_terms.specs.States.{State, state, decode, openGates, StateFits}
 use Rattle.rules.specs.Demand3.{Finished as AtEnd}
 use Rattle.machine_terms.specs.Laws.Meanings.{tupleOf-meaning}
@@ -41,7 +41,7 @@ use Rattle.listing.specs.Listing.{listing, most-bytes}
 use Rattle.listing.specs.Laws.Lengths.{listing-fits, kinds-fit}
 use Rattle.run_answers.specs.declared.RunAnswer.{RunAnswer}
 use Rattle.run_answers.specs.declared.RunAnswer.the-variants.{Finished, Refused}
-use Rattle.run_answers.specs.Answers.{Ran, ran, listed, ranTo, answerTo, outTo}
+use Rattle.run_answers.specs.Answers.{Ran, ran, ranTo, answerTo, outTo}
 use Rattle.run_answers.specs.Laws.Finishing.{FinishedRun, typed-finish, finish-listed}
 use Rattle.run_parts.specs.Parts.{Complete, SaysEnd}
 use Rattle.run_parts.specs.Laws.Parts.{Writes}

@@ -1,5 +1,5 @@
 -- The run of a file: what `begin`, the steps and `finish` lead to.
-use Prim.Native.Nat.{ℕ, zero, suc, _≤_, _<_, _*_, _+_}
+use Prim.Native.Nat.{ℕ, zero, suc, _≤_, _<_, _*_}
 use native.Mathlib.Omega.{arith}
 use mathlib.Core.Path.{_≡_, refl, sym, _∙_, ap, subst}
 use mathlib.Core.Bool.{Bool, true, false, cond}
@@ -9,7 +9,7 @@ use Rattle.rules.specs.Types.{Ty, isWireType, wireCode}
 use Rattle.rules.specs.Steps.{start}
 use Rattle.rules.specs.Sizes.{most-nodes, most-gates, most-labels}
 use Rattle.rules.specs.Demand3.{ProgramHas}
-use Rattle.rules.specs.Runs.{Reached, ended, advanced}
+use Rattle.rules.specs.Runs.{ended, advanced}
 use Rattle.rules.specs.Inputs.{outermostInputs}
 use Rattle.rules.specs.Theorems.Runs.{reached-row, row-inputs-kept}
 use Rattle.words.specs.Words.{words}

@@ -7,6 +7,7 @@ use mathlib.Core.Logic.{_⊎_, inl, inr}
 use mathlib.Core.List.{List, _∷_}
 use mathlib.Core.Option.{some}
 use lib.ListN.{length}
+use Rattle.rules.specs.Kinds.{gate-kind}
 use Rattle.rules.specs.Types.{Ty}
 use Rattle.rules.specs.Terms.{Tuple, Gate, Boxed, boxed}
 use Rattle.rules.specs.Circuits.{Circuit, circuit, appended, returned}
@@ -25,7 +26,7 @@ use Rattle.machine_terms.specs.Laws.Typed.{typed-constant}
 use Rattle.machine_nodes.specs.Nodes.{nodeAt}
 use Rattle.words.specs.Quadwords.{quadwordAt, Quadword}
 use Rattle.machine_walk.specs.Stack.{stackNode}
-use Rattle.machine_walk.specs.Laws.Redexes.{apply-kind, first-leaf}
+use Rattle.machine_walk.specs.Laws.Redexes.{kind-of-apply, first-leaf}
 use Rattle.machine_circuits.specs.Laws.Typed.{constant-below}
 use Rattle.machine_state.specs.declared.StateNumbers.{StateNumbers}
 use Rattle.machine_state.specs.declared.Stepped.{Stepped}
@@ -88,10 +89,10 @@ module _ (allowance : ℕ) (m m′ : Memory) (r : StateNumbers) (answer : Steppe
 
   -- The form of the step: an apply whose first part is no gate is one of a closed circuit.
   by-form : Leaves allowance m m′ r answer
-      → (kind (nodeAt (m .nodes) (stackNode (quadwordAt (m .stack) (r .place .depth - 1)) + 1)) ≡ 26 → ⊥)
+      → (kind (nodeAt (m .nodes) (stackNode (quadwordAt (m .stack) (r .place .depth - 1)) + 1)) ≡ gate-kind → ⊥)
       → Steps at-apply allowance m m′ r answer
   by-form leaves other types positions A s s′ small at-stop sizes (contracts-application p q) =
-      let is = apply-kind (at-stop .stopped) in
+      let is = kind-of-apply (at-stop .stopped) in
       let z : _≡_ {A = ℕ} 0 1 = cc in
       absurd (omega arith)
   by-form leaves other types positions A s s′ small at-stop sizes (contracts-let p q) = elim (at-stop .stopped) [ ]
@@ -148,7 +149,7 @@ pub constant-refused : (ns : List Node) (rs : List Quadword) (gs cs fs : List Qu
     (x : Redex) (r : StateNumbers) (allowance : ℕ)
     → RedexRead ns rs gs cs fs (r .place .depth - 1) (r .counts .frames - 1) x
     → (Room x r (length ns) allowance → ⊥)
-    → (kind (nodeAt ns (stackNode (quadwordAt rs (r .place .depth - 1)) + 1)) ≡ 26 → ⊥)
+    → (kind (nodeAt ns (stackNode (quadwordAt rs (r .place .depth - 1)) + 1)) ≡ gate-kind → ⊥)
     → Steps at-apply allowance (memory ns rs gs cs fs ws results) (memory ns rs gs cs fs ws results) r TooLarge
 constant-refused ns rs gs cs fs ws results x r allowance read full other =
     by-form allowance m m r TooLarge leaves other

@@ -1,7 +1,7 @@
 -- `step_apply_gate::apply_gate` meets its contract: each of its ends is one of the three of GateSteps. Assumes nothing.
 use Prim.Native.Nat.{_+_, _≤_, _<_}
 use native.Mathlib.Omega.{arith}
-use mathlib.Core.Path.{_≡_, sym, _∙_, ap}
+use mathlib.Core.Path.{sym, _∙_, ap}
 use borrow.Author.Tests.{ltb-true, ltb-false}
 use borrow.Author.Needs.{needs}
 use Rattle.rules.specs.Sizes.{most-nodes}

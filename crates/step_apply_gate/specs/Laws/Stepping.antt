@@ -6,6 +6,7 @@ use mathlib.Core.Bool.{false}
 use mathlib.Core.List.{List, _∷_, _++_}
 use mathlib.Core.Option.{some}
 use lib.ListN.{length, set, take, drop, length-append, length-drop, length-set}
+use Rattle.rules.specs.Kinds.{gate-kind}
 use Rattle.rules.specs.Types.{Wire, Ty, wires, entries, most-entries}
 use Rattle.rules.specs.Gates.{_to_, gateType, outputWires}
 use Rattle.rules.specs.GateCodes.{wiresIn, wiresOut}
@@ -23,7 +24,7 @@ use Rattle.machine_nodes.specs.Nodes.{nodeAt}
 use Rattle.words.specs.Regions.{over, Stands}
 use Rattle.machine_walk.specs.Stack.{stackStart}
 use Rattle.machine_walk.specs.Places.{Holds}
-use Rattle.machine_walk.specs.Laws.Redexes.{apply-kind, SecondRedex, second-redex, first-leaf, reduct-written, gap-wide}
+use Rattle.machine_walk.specs.Laws.Redexes.{kind-of-apply, SecondRedex, second-redex, first-leaf, reduct-written, gap-wide}
 use Rattle.words.specs.Quadwords.{Quadword, quadword, quadwordAt, wordIn}
 use Rattle.machine_circuits.specs.Layout.{gateWords}
 use Rattle.rules.specs.Slots.{no-wire}
@@ -70,7 +71,7 @@ module _ (m : Memory) (r : StateNumbers) (n g : Node) (v : Tree) (hs : List Hole
 
 -- Where that node is a gate, so is what is applied.
 module _ (m m′ : Memory) (r : StateNumbers) (allowance : ℕ) (answer : Stepped)
-    (e : kind (nodeAt (m .nodes) (redexAt m r + 1)) ≡ 26)
+    (e : kind (nodeAt (m .nodes) (redexAt m r + 1)) ≡ gate-kind)
     (f : (types : ℕ → Ty) (positions : ℕ) (n g : Node) (v : Tree) (hs : List Hole) (I : List Wire) (gs : List Gate)
     (Cs : List Circuit) (K : List Boxed) (T U : Ty) (k : Tuple)
     → GateApplied types positions allowance m r n g v hs I gs Cs K T U k
@@ -82,7 +83,7 @@ module _ (m m′ : Memory) (r : StateNumbers) (allowance : ℕ) (answer : Steppe
       → ⊥
   unfolding leafKind
   never-constant n g v hs h q =
-      let there : kind g ≡ 26 = ap kind (sym (function-part m r n g v hs h)) ∙ e in
+      let there : kind g ≡ gate-kind = ap kind (sym (function-part m r n g v hs h)) ∙ e in
       let gate : leafKind (kind g) ≡ a-gate = ap leafKind there in
       let z : _≡_ {A = ℕ} 0 1 = cc in
       omega arith
@@ -95,7 +96,7 @@ module _ (m m′ : Memory) (r : StateNumbers) (allowance : ℕ) (answer : Steppe
       → Contracts types s s′
       → Outcome types positions allowance r m m′ s′ answer
   by-form types positions A s s′ few stop fits (contracts-application p q) =
-      let p′ = apply-kind (stop .stopped) in
+      let p′ = kind-of-apply (stop .stopped) in
       let z : _≡_ {A = ℕ} 0 1 = cc in
       absurd (omega arith)
   by-form types positions A s s′ few stop fits (contracts-let p q) = elim (stop .stopped) [ ]
@@ -395,7 +396,7 @@ module _ {types : ℕ → Ty} {positions allowance : ℕ} {m : Memory} {r : Stat
 
 -- The contract where nothing is done: there would be too many nodes, or too many gates.
 pub nodes-refused : (m : Memory) (r : StateNumbers) (allowance at number wide : ℕ)
-    → kind (nodeAt (m .nodes) (redexAt m r + 1)) ≡ 26
+    → kind (nodeAt (m .nodes) (redexAt m r + 1)) ≡ gate-kind
     → at ≡ redexAt m r
     → number ≡ argument (nodeAt (m .nodes) (at + 1))
     → SizeOf number wide
@@ -406,7 +407,7 @@ nodes-refused m r allowance at number wide e e′ e″ w h =
     (λ types positions n g v hs I gs Cs K T U k a. (nodes-exceed a at number wide e′ e″ w h, λ _ held. held))
 
 pub gates-refused : (m : Memory) (r : StateNumbers) (allowance : ℕ)
-    → kind (nodeAt (m .nodes) (redexAt m r + 1)) ≡ 26
+    → kind (nodeAt (m .nodes) (redexAt m r + 1)) ≡ gate-kind
     → allowance < r .counts .gates + r .counts .kept + 1
     → Steps at-apply allowance m m r TooLarge
 gates-refused m r allowance e h =
@@ -416,7 +417,7 @@ gates-refused m r allowance e h =
 -- The contract where the step is taken.
 pub gate-taken : (m : Memory) (r : StateNumbers) (allowance : ℕ) (ns′ : List Node) (gs′ fs′ : List Quadword) (ls : List ℕ)
     (at start number wide from count depth frame : ℕ)
-    → kind (nodeAt (m .nodes) (redexAt m r + 1)) ≡ 26
+    → kind (nodeAt (m .nodes) (redexAt m r + 1)) ≡ gate-kind
     → GateNumbers m r at start number wide from count depth frame
     → most-entries ≤ length ls
     → at + wide + (length (m .nodes) - r .place .right) ≤ most-nodes

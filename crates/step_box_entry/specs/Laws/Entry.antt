@@ -8,6 +8,7 @@ use mathlib.Core.List.{List, [], _∷_, _++_}
 use lib.Dec.{T as IsTrue, leb}
 use lib.ListN.{length, set, take, drop, length-append}
 use borrow.Author.Tests.{leb-true, leb-false}
+use Rattle.rules.specs.Kinds.{application-kind}
 use Rattle.rules.specs.Types.{Ty, isWireType, wires, entries, most-entries, typeCodes}
 use Rattle.rules.specs.Terms.{tupleFrom, Boxed}
 use Rattle.rules.specs.Circuits.{Circuit}
@@ -139,7 +140,7 @@ pub application-written : (T : Ty) (t : Tree) (ns ns₁ ns₂ ns₃ : List Node)
     → TupleWritten T 0 ns ns₁ (to + 1 + count) size wide
     → (Clear from (to + 1) count → from + count ≤ length ns₁ → to + 1 + count ≤ length ns₁
     → ns₂ ≡ over ns₁ (to + 1) (take count (drop from ns₁)))
-    → ns₃ ≡ set ns₂ to (node 19 0)
+    → ns₃ ≡ set ns₂ to (node application-kind 0)
     → (ns₃ ≡ over ns to (preorder (applied T t))) × (wide ≡ length (wires T))
 application-written T t ns ns₁ ns₂ ns₃ from count to wide size apart stands counted w inside tuple copied put =
     let xs = preorder t in
@@ -160,9 +161,9 @@ application-written T t ns ns₁ ns₂ ns₃ from count to wide size apart stand
     let long₂ : length ns₂ ≡ length ns
     = ap length both ∙ length-over ns (to + 1) (xs ++ ys) (omega arith) in (
       put
-          ∙ over-one ns₂ to (node 19 0) (omega arith)
-          ∙ ap (λ l. over l to (node 19 0 ∷ [])) both
-          ∙ over-in-front ns to (node 19 0 ∷ []) (xs ++ ys) (omega arith),
+          ∙ over-one ns₂ to (node application-kind 0) (omega arith)
+          ∙ ap (λ l. over l to (node application-kind 0 ∷ [])) both
+          ∙ over-in-front ns to (node application-kind 0 ∷ []) (xs ++ ys) (omega arith),
       tuple .labels-written,
     )
 

@@ -3,6 +3,7 @@ use Prim.Native.Nat.{_%_}
 use mathlib.Core.Path.{_∙_, ap}
 use lib.ListN.{set}
 use borrow.Author.Needs.{needs}
+use Rattle.rules.specs.Kinds.{constant-kind}
 use Rattle.machine_terms.specs.Trees.{node}
 use Rattle.machine_nodes.specs.Nodes.{nodesIn}
 use Rattle.machine_nodes.specs.Laws.Nodes.{node-put}
@@ -37,7 +38,7 @@ returns c =
     let depth = c .before .before .before .before .saturating-sub2 .ensures in
     let frames = c .before .before .before .saturating-sub3 .ensures in (
       node-put _ _ _ _ _ (c .before .before .before .before .before .before .before .put-node .ensures)
-          ∙ ap (λ i. set (nodesIn (a .nodes .now)) i (node 32 (a .numbers .counts .boxes % 65536))) right,
+          ∙ ap (λ i. set (nodesIn (a .nodes .now)) i (node constant-kind (a .numbers .counts .boxes % 65536))) right,
       cc,
     )
 

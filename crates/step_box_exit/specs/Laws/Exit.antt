@@ -2,11 +2,12 @@
 use Prim.Native.Nat.{ℕ, _+_, _-_, _*_, _/_, _%_, _≤_, _<_}
 use native.Mathlib.Omega.{arith}
 use native.Mathlib.Decide.{ℕ-discrete}
-use mathlib.Core.Path.{_≡_, refl, sym, _∙_, ap, subst}
+use mathlib.Core.Path.{_≡_, sym, _∙_, ap, subst}
 use mathlib.Core.Bool.{false}
 use mathlib.Core.List.{List, _∷_}
 use mathlib.Core.Option.{some}
 use lib.ListN.{length, set, drop, length-set, length-append}
+use Rattle.rules.specs.Kinds.{constant-kind}
 use Rattle.rules.specs.Types.{Wire, Ty, most-entries}
 use Rattle.rules.specs.Terms.{Tuple, Gate, Boxed, boxed}
 use Rattle.rules.specs.Circuits.{Circuit, circuit}
@@ -91,12 +92,12 @@ walk-after : (ns ns′ : List Node) (rs : List Quadword) (p : Place) (n : Node) 
     → Holds ns rs p (returning v (opened n b ∷ hs))
     → SecondRedex ns rs p (opened n b) b v hs at start
     → at ≡ stackNode (quadwordAt rs (p .depth - 1))
-    → ns′ ≡ set ns (p .right - 1) (node 32 number)
+    → ns′ ≡ set ns (p .right - 1) (node constant-kind number)
     → Holds
     ns′
     rs
     (record { left = at; right = p .right - 1; depth = p .depth - 1; returning = false })
-    (evaluating (leaf (node 32 number)) hs)
+    (evaluating (leaf (node constant-kind number)) hs)
 walk-after ns ns′ rs p n b v hs at start number held redex at-is put =
     let below : at < p .left = redex .hole .under-left in
     let apart : p .left ≤ p .right = held .buffer .apart in
@@ -109,9 +110,9 @@ walk-after ns ns′ rs p n b v hs at start number held redex at-is put =
     l
     rs
     (record { left = at; right = p .right - 1; depth = p .depth - 1; returning = false })
-    (evaluating (leaf (node 32 number)) hs))
-    (sym (put ∙ over-one ns (p .right - 1) (node 32 number) (omega arith)))
-    (reduct-written ns rs p (opened n b) hs v (leaf (node 32 number)) at (p .right - 1) held at-is
+    (evaluating (leaf (node constant-kind number)) hs))
+    (sym (put ∙ over-one ns (p .right - 1) (node constant-kind number) (omega arith)))
+    (reduct-written ns rs p (opened n b) hs v (leaf (node constant-kind number)) at (p .right - 1) held at-is
     (ap (λ i. drop i ns) front ∙ redex .behind)
     (omega arith)
     (omega arith)
@@ -274,7 +275,7 @@ module _ (ns ns′ : List Node) (rs : List Quadword) (gs gs′ cs cs′ fs : Lis
       → SizesFit allowance (state (returning v (opened n b ∷ hs)) (circuit I gates) (C ∷ Cs) K)
       → tupleOfTree v ≡ some k
       → Outcome types positions allowance r (memory ns rs gs cs fs ws results) (memory ns′ rs gs′ cs′ fs ws results′)
-      (state (evaluating (leaf (node 32 (length K))) hs) C Cs (boxed (types (argument n)) gates k ∷ K))
+      (state (evaluating (leaf (node constant-kind (length K))) hs) C Cs (boxed (types (argument n)) gates k ∷ K))
       (Taken (afterExit r e))
   exit-taken types positions allowance A n b v hs I gates C Cs K k stop sizes q =
       let held = stop .held .walk-held in
@@ -283,13 +284,13 @@ module _ (ns ns′ : List Node) (rs : List Quadword) (gs gs′ cs cs′ fs : Lis
       let low : r .counts .boxes % 65536 ≡ length K = omega arith in
       let walk =
       walk-after ns ns′ rs (r .place) n b v hs (e .at) (e .start) (length K) held redex (exit-at .at-is)
-      (constant-put ∙ ap (λ i. set ns (r .place .right - 1) (node 32 i)) low) in
+      (constant-put ∙ ap (λ i. set ns (r .place .right - 1) (node constant-kind i)) low) in
       let input : argument (nodeAt ns (e .at)) ≡ argument n = ap argument (redex .hole .node-is) in
       let box-fits = stop .fits .0 .2 .0 in
       let real : argument n < positions = subst (λ c. PositionFits c positions (argument n)) (box-fits .1) (box-fits .0 .1) in
       let slot = in-results types positions A n b v hs (circuit I gates) (C ∷ Cs) K k stop redex q in (
         record {
-          nodes-fit = omega (arith, walk .few, length-append (before hs) (node 32 (length K) ∷ after hs));
+          nodes-fit = omega (arith, walk .few, length-append (before hs) (node constant-kind (length K) ∷ after hs));
           gates-fit = omega (arith, sizes .gates-fit);
           boxes-fit = omega arith;
         },

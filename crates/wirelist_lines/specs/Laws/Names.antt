@@ -8,7 +8,7 @@ use mathlib.Core.List.{List, [], _∷_, map}
 use lib.Dec.{T as IsTrue, leb, leb→le}
 use lib.ListN.{length, getD, List·getD-eq-default}
 use Rattle.rules.specs.GateCodes.{filled}
-use Rattle.rules.specs.Laws.Wires.{and-left, and-right}
+use Rattle.rules.specs.Laws.Booleans.{and-left, and-right}
 use Rattle.wirelist_lines.specs.Lines.{gateNames, gateName}
 pub use Rattle.wirelist_lines.specs.Lines.{longest-name}
 use Rattle.wirelist_lines.specs.Names.{nameRow}

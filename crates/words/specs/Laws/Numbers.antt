@@ -1,5 +1,5 @@
 -- Laws of specs/Numbers.antt.
-use Prim.Native.Nat.{ℕ, _+_, _*_, _≤_, _<_, _/_}
+use Prim.Native.Nat.{ℕ, suc, _+_, _-_, _*_, _≤_, _<_, _/_}
 use native.Mathlib.Omega.{arith}
 use mathlib.Core.Path.{_≡_, sym}
 use mathlib.Core.List.{List}
@@ -22,3 +22,7 @@ number-past b i past =
 pub number-word : (b : List ℕ) (i : ℕ) → i < length b / 2 → wordAt b (2 * i) ≡ getD (words b) i 0
 unfolding wordAt
 number-word b i h = sym (word-at b i h)
+
+-- Of what is left, one less is left behind each.
+pub one-left : (end e : ℕ) → e < end → end - e ≡ suc (end - (e + 1))
+one-left end e below = omega arith

@@ -6,6 +6,7 @@ use mathlib.Core.Bool.{cond}
 use lib.ListN.{set, take}
 use borrow.Author.Tests.{eq-eqb, ne-eqb}
 use borrow.Author.Needs.{needs}
+use Rattle.rules.specs.Kinds.{label-kind, pair-kind}
 use Rattle.rules.specs.Circuits.{rename}
 use Rattle.machine_terms.specs.Trees.{node}
 use Rattle.words.specs.Words.{words}
@@ -27,7 +28,7 @@ returns c = λ h.
     let ks = take (a .n) (words (a .labels .now)) in
     node-put _ _ _ _ _ (c .before .before .put-node .ensures)
     ∙ ap
-    (λ b. set (nodesIn (a .nodes .now)) (a .to) (cond b (node 20 0) (node 17 (rename ks (a .next) (a .word) % 65536))))
+    (λ b. set (nodesIn (a .nodes .now)) (a .to) (cond b (node pair-kind 0) (node label-kind (rename ks (a .next) (a .word) % 65536))))
     (sym (eq-eqb (a .word) no-wire (c .before .before .before .before .if1 .taken)))
 
 renamed-requires : tie.Need-renamed-requires
@@ -44,9 +45,9 @@ returns-2 c = λ h.
     let a = c .before .before .before .before .before .before .before .before .args in
     let ks = take (a .n) (words (a .labels .now)) in
     node-put _ _ _ _ _ (c .before .before .put-node2 .ensures)
-    ∙ ap (λ w. set (nodesIn (a .nodes .now)) (a .to) (node 17 (w % 65536))) (c .before .before .before .renamed .ensures (omega arith))
+    ∙ ap (λ w. set (nodesIn (a .nodes .now)) (a .to) (node label-kind (w % 65536))) (c .before .before .before .renamed .ensures (omega arith))
     ∙ ap
-    (λ b. set (nodesIn (a .nodes .now)) (a .to) (cond b (node 20 0) (node 17 (rename ks (a .next) (a .word) % 65536))))
+    (λ b. set (nodesIn (a .nodes .now)) (a .to) (cond b (node pair-kind 0) (node label-kind (rename ks (a .next) (a .word) % 65536))))
     (sym (ne-eqb (a .word) no-wire (c .before .before .before .before .before .if1 .left)))
 
 pub load-node-spec : {M : Type 1} → statement M

@@ -5,6 +5,7 @@ use mathlib.Core.Bool.{cond}
 use lib.ListN.{set}
 use borrow.Author.Tests.{eq-eqb, ne-eqb}
 use borrow.Author.Needs.{needs}
+use Rattle.rules.specs.Kinds.{label-kind, pair-kind}
 use Rattle.machine_terms.specs.Trees.{node}
 use Rattle.machine_nodes.specs.Nodes.{nodesIn}
 use Rattle.machine_nodes.specs.Laws.Nodes.{node-put}
@@ -22,7 +23,7 @@ returns c =
     let a = c .before .before .before .before .before .before .args in
     let t = eq-eqb (a .code) 2 (c .before .before .before .before .if1 .taken) in (
       node-put _ _ _ _ _ (c .before .before .put-node .ensures)
-          ∙ ap (λ b. set (nodesIn (a .nodes .now)) (a .to) (cond b (node 20 0) (node 17 (a .label % 65536)))) (sym t),
+          ∙ ap (λ b. set (nodesIn (a .nodes .now)) (a .to) (cond b (node pair-kind 0) (node label-kind (a .label % 65536)))) (sym t),
       ap (λ b. cond b (a .label) (a .label + 1)) (sym t),
     )
 
@@ -40,7 +41,7 @@ returns-2 c =
     let a = c .before .before .before .before .before .before .args in
     let t = ne-eqb (a .code) 2 (c .before .before .before .before .if1 .left) in (
       node-put _ _ _ _ _ (c .before .before .put-node2 .ensures)
-          ∙ ap (λ b. set (nodesIn (a .nodes .now)) (a .to) (cond b (node 20 0) (node 17 (a .label % 65536)))) (sym t),
+          ∙ ap (λ b. set (nodesIn (a .nodes .now)) (a .to) (cond b (node pair-kind 0) (node label-kind (a .label % 65536)))) (sym t),
       ap (λ b. cond b (a .label) (a .label + 1)) (sym t),
     )
 

@@ -5,6 +5,7 @@ use mathlib.Core.Bool.{cond}
 use borrow.Author.Tests.{eq-eqb, ne-eqb}
 use borrow.Author.Needs.{needs}
 use Rattle.machine_terms.specs.Trees.{kind, argument}
+use Rattle.rules.specs.Kinds.{pair-kind}
 use Rattle.rules.specs.Slots.{no-wire}
 use Rattle.machine_nodes.specs.Nodes.{nodesIn, nodeAt}
 use Rattle.machine_circuits.proofs.tuples.result_word.Statement.{statement}
@@ -17,7 +18,7 @@ returns : tie.Need-returns
 returns c =
     let a = c .before .before .before .args in
     let n = nodeAt (nodesIn (a .nodes .now)) (a .i) in (
-      sym (ap (λ b. cond b no-wire (argument n)) (eq-eqb (kind n) 20 (sym (c .before .kind-at .ensures .0) ∙ c .if1 .taken))),
+      sym (ap (λ b. cond b no-wire (argument n)) (eq-eqb (kind n) pair-kind (sym (c .before .kind-at .ensures .0) ∙ c .if1 .taken))),
       omega arith,
     )
 
@@ -31,7 +32,7 @@ returns-2 c =
       c .argument-at .ensures .0
           ∙ sym (ap
           (λ b. cond b no-wire (argument n))
-          (ne-eqb (kind n) 20 (λ e. c .before .if1 .left (c .before .before .kind-at .ensures .0 ∙ e)))),
+          (ne-eqb (kind n) pair-kind (λ e. c .before .if1 .left (c .before .before .kind-at .ensures .0 ∙ e)))),
       c .argument-at .ensures .1,
     )
 

@@ -7,6 +7,7 @@ use mathlib.Core.Path.{_≡_, sym, ap, _∙_}
 use mathlib.Core.Bool.{Bool, true, false, cond}
 use mathlib.Core.List.{List}
 use lib.Dec.{eqb, ltb}
+use Rattle.rules.specs.Kinds.{variable-kind, abstraction-kind, let-kind}
 use Rattle.program.specs.Format.{kindAt, argumentAt, shapeAt}
 use Rattle.program.specs.Traversal.{partsOf, scopeParts}
 use Rattle.program.specs.declared.format.Shape.{Shape}
@@ -18,8 +19,8 @@ use Rattle.program.proofs.traversal.scope_parts.Tie as tie
 -- The definition, over the kind, the argument and the shape that the code has read.
 abbrev scopeOf : ℕ → ℕ → Shape → ℕ → Parts
 scopeOf kind argument shape b =
-    cond (eqb kind 16) (cond (ltb argument b) Leaf Stop)
-    (cond (eqb kind 18) (One (b + 1)) (cond (eqb kind 21) (Two b (b + 2)) (partsOf shape b)))
+    cond (eqb kind variable-kind) (cond (ltb argument b) Leaf Stop)
+    (cond (eqb kind abstraction-kind) (One (b + 1)) (cond (eqb kind let-kind) (Two b (b + 2)) (partsOf shape b)))
 
 module _ (f : List ℕ) (e b : ℕ) where
   of-kind
@@ -28,25 +29,25 @@ module _ (f : List ℕ) (e b : ℕ) where
   of-kind known is one = ap (λ k. scopeOf k (argumentAt f e) (shapeAt f e) b) (sym one ∙ is)
 
   bound
-      : (t : Bool) {kind argument : ℕ} → kind ≡ kindAt f e → kind ≡ 16 → argument ≡ argumentAt f e
+      : (t : Bool) {kind argument : ℕ} → kind ≡ kindAt f e → kind ≡ variable-kind → argument ≡ argumentAt f e
       → ltb argument b ≡ t → cond t Leaf Stop ≡ scopeParts f e b
   bound t is one told test =
-      ap (λ u. cond u Leaf Stop) (sym test ∙ ap (λ a. ltb a b) told) ∙ of-kind 16 is one
+      ap (λ u. cond u Leaf Stop) (sym test ∙ ap (λ a. ltb a b) told) ∙ of-kind variable-kind is one
 
   other
       : {kind : ℕ} {shape : Shape} {r : Parts} → kind ≡ kindAt f e
-      → (kind ≡ 16 → ⊥) → (kind ≡ 18 → ⊥) → (kind ≡ 21 → ⊥)
+      → (kind ≡ variable-kind → ⊥) → (kind ≡ abstraction-kind → ⊥) → (kind ≡ let-kind → ⊥)
       → shape ≡ shapeAt f e → r ≡ partsOf shape b → r ≡ scopeParts f e b
   other {kind = kind} is not16 not18 not21 told given =
       given
       ∙ ap (λ x. partsOf x b) told
-      ∙ ap (λ t. cond t (Two b (b + 2)) (partsOf (shapeAt f e) b)) (sym (ne-eqb kind 21 not21))
-      ∙ ap (λ t. cond t (One (b + 1)) (cond (eqb kind 21) (Two b (b + 2)) (partsOf (shapeAt f e) b)))
-      (sym (ne-eqb kind 18 not18))
+      ∙ ap (λ t. cond t (Two b (b + 2)) (partsOf (shapeAt f e) b)) (sym (ne-eqb kind let-kind not21))
+      ∙ ap (λ t. cond t (One (b + 1)) (cond (eqb kind let-kind) (Two b (b + 2)) (partsOf (shapeAt f e) b)))
+      (sym (ne-eqb kind abstraction-kind not18))
       ∙ ap
       (λ t. cond t (cond (ltb (argumentAt f e) b) Leaf Stop)
-      (cond (eqb kind 18) (One (b + 1)) (cond (eqb kind 21) (Two b (b + 2)) (partsOf (shapeAt f e) b))))
-      (sym (ne-eqb kind 16 not16))
+      (cond (eqb kind abstraction-kind) (One (b + 1)) (cond (eqb kind let-kind) (Two b (b + 2)) (partsOf (shapeAt f e) b))))
+      (sym (ne-eqb kind variable-kind not16))
       ∙ ap (λ k. scopeOf k (argumentAt f e) (shapeAt f e) b) is
 
 kind-at-requires : tie.Need-kind-at-requires
