@@ -1,5 +1,5 @@
 /*
- * The header against the library: every exported function and every accessor, on the cases of 01 and on files with large
+ * The header against the library: every exported function and every accessor, on the cases of 01 and 02 and on files with large
  * numbers, whose answers are known. It is C99 and C++. Each difference is a sentence on standard error; the exit status is 1 if
  * there is one. The program cases_header of tests/comparing prints cases.h, the cases from the table of the comparisons.
  */

@@ -8,7 +8,7 @@ use Rattle.check_program.specs.declared.CheckAnswer.the-variants.{Accepted, Ref
 use Rattle.lent.specs.Lent.{answered}
 use Rattle.check_program.specs.Answers.{checkAnswer, checkBytes}
 use Rattle.run_answers.specs.Answers.{answerTo, outTo, runAnswer, runBytes}
-use Rattle.cases.specs.Table.{CheckResult, accepted, refused, LimitedRun, limit_gives_, Case}
+use Rattle.cases.specs.Case.{CheckResult, accepted, refused, LimitedRun, limit_gives_, Case}
 
 -- "Accepted: the type in preorder, one kind byte an entry, at the start of the output buffer, and its length."
 abbrev pub checkAnswerTo : CheckResult → CheckAnswer

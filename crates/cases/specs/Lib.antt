@@ -1,3 +1,6 @@
+pub mod Case
+pub mod BaseCases
+pub mod FirstFaults
 pub mod Table
 pub mod Answers
 pub mod Theorems

@@ -55,6 +55,14 @@ abbrev pub ruled : ℕ → Option Ty → Option ℕ → Option ℕ → Checked
 ruled e (some A) u v = typed A u v
 ruled e none u v = fault e
 
+-- A node of two parts, of which the second stands behind the first in the file (02, ticket 1: "the first such entry in file
+-- order"): of two faults the first part's; if both have types, the rule's answer with the earlier 17 and the earlier 18.
+abbrev pub twoRuled : ℕ → (Ty → Ty → Option Ty) → Checked → Checked → Checked
+twoRuled e rule (fault p) (fault q) = fault p
+twoRuled e rule (fault p) (typed B u′ v′) = fault p
+twoRuled e rule (typed A u v) (fault q) = fault q
+twoRuled e rule (typed A u v) (typed B u′ v′) = ruled e (rule A B) (earlier u u′) (earlier v v′)
+
 -- A variable has the type of its binder; it may be an 18.
 abbrev pub variableFound : ℕ → ℕ → Option Binder → Checked
 variableFound e lifts (some (A under bound)) = typed A none (if-so (crosses A bound lifts) e)
@@ -75,12 +83,9 @@ checkTerm L Γ lifts e (abstraction A M) =
     followed (checkTerm L (A under lifts ∷ Γ) lifts (suc e) M) λ B u v.
     ruled e (abstractionType A B) (earlier (if-so (usedWrongly A (uses 0 M)) e) u) v
 checkTerm L Γ lifts e (application M N) =
-    followed (checkTerm L Γ lifts (suc e) M) λ F u v.
-    followed (checkTerm L Γ lifts (suc e + nodes M) N) λ A u′ v′.
-    ruled e (applicationType F A) (earlier u u′) (earlier v v′)
+    twoRuled e applicationType (checkTerm L Γ lifts (suc e) M) (checkTerm L Γ lifts (suc e + nodes M) N)
 checkTerm L Γ lifts e (pair M N) =
-    followed (checkTerm L Γ lifts (suc e) M) λ A u v.
-    followed (checkTerm L Γ lifts (suc e + nodes M) N) λ B u′ v′. ruled e (pairType A B) (earlier u u′) (earlier v v′)
+    twoRuled e pairType (checkTerm L Γ lifts (suc e) M) (checkTerm L Γ lifts (suc e + nodes M) N)
 checkTerm L Γ lifts e (let-in M N) =
     followed (checkTerm L Γ lifts (suc e) M) λ P u v.
     elim (asPair P) [
@@ -96,9 +101,7 @@ checkTerm L Γ lifts e (lift M) =
 checkTerm L Γ lifts e (force M) = followed (checkTerm L Γ lifts (suc e) M) λ A u v. ruled e (asReusable A) u v
 checkTerm L Γ lifts e (box T M) = followed (checkTerm L Γ lifts (suc e) M) λ A u v. ruled e (boxType T A) u v
 checkTerm L Γ lifts e (apply M N) =
-    followed (checkTerm L Γ lifts (suc e) M) λ F u v.
-    followed (checkTerm L Γ lifts (suc e + nodes M) N) λ A u′ v′.
-    ruled e (applyType F A) (earlier u u′) (earlier v v′)
+    twoRuled e applyType (checkTerm L Γ lifts (suc e) M) (checkTerm L Γ lifts (suc e + nodes M) N)
 
 -- The first label, from ℓ on, that is not used exactly once.
 abbrev pub wrongLabel : Term → ℕ → ℕ → Option ℕ

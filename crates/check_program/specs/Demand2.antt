@@ -34,20 +34,22 @@ NotOnce f p = WrongLabelAt (labelsOf f) (termOf f) p ⊎ WrongBinderAt (labelsOf
 abbrev pub InsideLift : List ℕ → ℕ → Type 0
 InsideLift f p = UseInsideAt (labelsOf f) (firstTerm f) (termOf f) p
 
+-- 02, ticket 1: "For 16, 17 and 18 the place becomes the first such entry in file order, where 01 allowed some such entry. The
+-- number is chosen as before." Said of the refusals that an operation gives for the file: each of the three, with a place, exactly
+-- if that place is the first such entry and no entry is one of a lower number.
+pub record FirstFaults (f : List ℕ) (Refuses : Refusal → Type 0) : Type 0 where
+  pub sixteen : (p : ℕ) → Refuses (Typing 16 p) ↔ First (RuleFails f) p
+  pub seventeen : (p : ℕ) → Refuses (Typing 17 p) ↔ (Nowhere (RuleFails f) × First (NotOnce f) p)
+  pub eighteen : (p : ℕ) → Refuses (Typing 18 p) ↔ (Nowhere (RuleFails f) × Nowhere (NotOnce f) × First (InsideLift f) p)
+
 -- Demand 2 of the check of a file.
 pub record CheckMeans (f : List ℕ) : Type 0 where
   -- It accepts with the type A exactly if the reader accepts the file and the rules derive A for its term with exactly its labels.
   pub accepted : (A : Ty) → (checkOf f ≡ accepts A) ↔ (IsRead f × ([] ∣ nth (labelsOf f) ⊢ termOf f ∶ A))
   -- "a check first reads".
   pub not-read : (x : Refusal) → readOf f ≡ NotRead x → checkOf f ≡ refuses x
-  -- Of a file that is read, "in number order": 16, 17 and 18, each at the first such entry; and no other refusal.
-  pub sixteen : IsRead f → (p : ℕ) → (checkOf f ≡ refuses (Typing 16 p)) ↔ First (RuleFails f) p
-  pub seventeen : IsRead f
-      → (p : ℕ)
-      → (checkOf f ≡ refuses (Typing 17 p)) ↔ (Nowhere (RuleFails f) × First (NotOnce f) p)
-  pub eighteen : IsRead f
-      → (p : ℕ)
-      → (checkOf f ≡ refuses (Typing 18 p)) ↔ (Nowhere (RuleFails f) × Nowhere (NotOnce f) × First (InsideLift f) p)
+  -- Of a file that is read: 16, 17 and 18, each at the first such entry, so that no place is left open; and no other refusal.
+  pub first-faults : IsRead f → FirstFaults f (λ x. checkOf f ≡ refuses x)
   pub no-other : IsRead f
       → (x : Refusal)
       → checkOf f ≡ refuses x

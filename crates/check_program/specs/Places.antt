@@ -1,5 +1,6 @@
--- The entries that the refusals 16, 17 and 18 name (01, "Check, in number order": "some such node", "some such binder or label
--- entry", "some such use"), and the first of them in file order. Theorems.Places says that the check gives the first.
+-- The entries that the refusals 16, 17 and 18 concern (01, "Check, in number order"), and the first of them (02, ticket 1: "the
+-- place becomes the first such entry in file order, where 01 allowed some such entry"). Theorems.Places says that the check
+-- gives the first.
 use Prim.Native.Nat.{ℕ, suc, _+_, _<_}
 use mathlib.Core.Path.{_≡_}
 use mathlib.Core.Logic.{_≢_}
@@ -141,6 +142,6 @@ UseInsideAt L e M p = At L (UsesInside L) [] 0 e M p
 abbrev pub Nowhere : (ℕ → Type 0) → Type 0
 Nowhere P = (p : ℕ) → P p → ⊥
 
--- Entry p is the first such in file order: it is such, and none before it.
+-- 02, ticket 1: "the first such entry in file order". Entry p is such an entry, and no earlier one is.
 abbrev pub First : (ℕ → Type 0) → ℕ → Type 0
 First P p = P p × ((q : ℕ) → q < p → P q → ⊥)

@@ -111,7 +111,8 @@ pub fn program_type(file: &[u8], work: &mut [u8]) -> ProgramType
     check_file(file, work, labels, types)
 }
 
-// The check: the type of a program file, in preorder at the start of the output buffer, and its length; or a refusal.
+// The check: the type of a program file, in preorder at the start of the output buffer, and its length; or a refusal, 16, 17 and
+// 18 at the first such entry of the file.
 pub fn check(file: &[u8], out: &mut [u8], work: &mut [u8]) -> CheckAnswer
     ensures bytes { λ r. let lent = out ∷ work ∷ [] in
         ⌜ r ≡ checkAnswer (now (file .entry)) (firstBytes lent) ⌝ ∗ ⌜ lastBytes lent ≡ checkBytes (now (file .entry)) (firstBytes lent) ⌝ }

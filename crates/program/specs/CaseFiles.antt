@@ -1,17 +1,7 @@
 -- The files of 01's cases ("Cases, c1 to c12"): "L is 1 and label 0 a Qubit unless said. Gates and boxes are used by apply."
 use Prim.Native.Nat.{ℕ}
-use mathlib.Core.List.{List, [], _∷_, _++_}
-
--- Numbers less than 256 as 16-bit numbers, low byte first.
-abbrev pub words : List ℕ → List ℕ
-words [] = []
-words (a ∷ more) = a ∷ 0 ∷ words more
-
--- The file of these sizes, kinds and arguments, each less than 256 (01, "Program file": "Three 16-bit sizes", "E kind bytes, E
--- 16-bit arguments").
-abbrev pub fileOf : ℕ → ℕ → ℕ → List ℕ → List ℕ → List ℕ
-fileOf labels types terms kinds arguments =
-    (labels ∷ 0 ∷ types ∷ 0 ∷ terms ∷ 0 ∷ []) ++ (kinds ++ words arguments)
+use mathlib.Core.List.{List, [], _∷_}
+use Rattle.program.specs.Encoding.{fileOf}
 
 -- "c1: label 0 alone. File (hex) 01 00 00 00 01 00 01 11 00 00 00 00."
 abbrev pub c1-file : List ℕ

@@ -5,6 +5,7 @@ pub mod Sized
 pub mod Traversal
 pub mod Reading
 pub mod Failing
+pub mod Encoding
 pub mod CaseFiles
 pub mod Laws
 pub mod Theorems

@@ -15,6 +15,7 @@ use Rattle.rules.specs.Demand3.{Finished}
 use Rattle.refusals.specs.declared.Refusal.{Refusal}
 use Rattle.refusals.specs.declared.Refusal.the-variants.{Form, Typing, Run}
 use Rattle.check_program.specs.Answers.{labelsOf, termOf, accepts, refuses, checkOf}
+use Rattle.check_program.specs.Demand2.{IsRead, FirstFaults}
 use Rattle.listing.specs.Listing.{listing}
 use Rattle.run_answers.specs.Answers.{ran, declines, runOf}
 
@@ -77,11 +78,13 @@ OfCheck (Form number place) = OfRead (Form number place)
 OfCheck (Typing number place) = (16 ≤ number) × (number ≤ 18)
 OfCheck (Run number place) = ⊥
 
--- Demand 2 of a run of the file with this limit: it gives each answer exactly where the rules say so, and no other answer.
+-- Demand 2 of a run of the file with this limit: it gives each answer exactly where the rules say so, and no other answer. 16, 17
+-- and 18 are those of the check, each at the first such entry (02, ticket 1).
 pub record RunMeans (f : List ℕ) (limit : ℕ) : Type 0 where
   pub finishes : (steps gates : ℕ) (bytes : List ℕ)
       → (runOf f limit ≡ ran steps gates bytes) ↔ Finishes f limit steps gates bytes
   pub refused : (x : Refusal) → (checkOf f ≡ refuses x) ↔ ((runOf f limit ≡ declines x) × OfCheck x)
+  pub first-faults : IsRead f → FirstFaults f (λ x. runOf f limit ≡ declines x)
   pub twenty : (runOf f limit ≡ declines (Run 20 0)) ↔ NoWireType f
   pub twenty-one : (runOf f limit ≡ declines (Run 21 0)) ↔ LimitDone f limit
   pub twenty-two : (runOf f limit ≡ declines (Run 22 0)) ↔ SizeExceeded f limit

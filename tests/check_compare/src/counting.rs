@@ -1,7 +1,7 @@
 //! A check that counts uses in one pass, and the same check with one fault.
 //! The comparison must tell every fault from the exported check.
 
-use program_files::{Accepted, Refusal, Term, Type, Wire, GATES};
+use program_files::{kinds, Accepted, Refusal, Term, Type, Wire, GATES};
 use std::rc::Rc;
 
 /// The fault.
@@ -21,6 +21,9 @@ pub enum Wrong {
     Last16,
     Last17,
     Last18,
+    /// Where both parts of a node of this kind have a place of this number.
+    SecondPartFirst(u8, u8),
+    InnerBinderFirst,
     UsesFirst,
     LiftsFirst,
     LetSwapped,
@@ -41,7 +44,7 @@ pub enum Wrong {
     MeasToQubit,
 }
 
-pub const PLANTED: [(&str, Wrong); 31] = [
+pub const PLANTED: [(&str, Wrong); 44] = [
     ("counting stops at a lift", Wrong::CountEndsAtLift),
     ("a function may be copied", Wrong::FunctionCopyable),
     ("a pair may be copied", Wrong::PairCopyable),
@@ -55,6 +58,55 @@ pub const PLANTED: [(&str, Wrong); 31] = [
     ("the last 16", Wrong::Last16),
     ("the last 17", Wrong::Last17),
     ("the last 18", Wrong::Last18),
+    (
+        "the second part's 16 at a pair",
+        Wrong::SecondPartFirst(16, kinds::PAIR),
+    ),
+    (
+        "the second part's 17 at a pair",
+        Wrong::SecondPartFirst(17, kinds::PAIR),
+    ),
+    (
+        "the second part's 18 at a pair",
+        Wrong::SecondPartFirst(18, kinds::PAIR),
+    ),
+    (
+        "the second part's 16 at a let",
+        Wrong::SecondPartFirst(16, kinds::LET),
+    ),
+    (
+        "the second part's 17 at a let",
+        Wrong::SecondPartFirst(17, kinds::LET),
+    ),
+    (
+        "the second part's 18 at a let",
+        Wrong::SecondPartFirst(18, kinds::LET),
+    ),
+    (
+        "the second part's 16 at an application",
+        Wrong::SecondPartFirst(16, kinds::APPLICATION),
+    ),
+    (
+        "the second part's 17 at an application",
+        Wrong::SecondPartFirst(17, kinds::APPLICATION),
+    ),
+    (
+        "the second part's 18 at an application",
+        Wrong::SecondPartFirst(18, kinds::APPLICATION),
+    ),
+    (
+        "the second part's 16 at an apply",
+        Wrong::SecondPartFirst(16, kinds::APPLY),
+    ),
+    (
+        "the second part's 17 at an apply",
+        Wrong::SecondPartFirst(17, kinds::APPLY),
+    ),
+    (
+        "the second part's 18 at an apply",
+        Wrong::SecondPartFirst(18, kinds::APPLY),
+    ),
+    ("the 17 inside an abstraction", Wrong::InnerBinderFirst),
     ("17 before 16", Wrong::UsesFirst),
     ("18 before 17", Wrong::LiftsFirst),
     ("let's variables swapped", Wrong::LetSwapped),
@@ -275,11 +327,11 @@ impl Counting<'_> {
             }
             Term::Let(first, second) => self.let_in(first, second, place),
             Term::Pair(first, second) => {
-                let (first, second) = (self.term(first), self.term(second));
+                let [first, second] = self.both(kinds::PAIR, first, second);
                 self.bounded(Type::Pair(first?, second?), place)
             }
             Term::Application(first, second) | Term::Apply(first, second) => {
-                let (left, right) = (self.term(first), self.term(second));
+                let [left, right] = self.both(term.kind(), first, second);
                 let (left, right) = (left?, right?);
                 let is_apply = matches!(term, Term::Apply(..));
                 let result = match &*left {
@@ -309,8 +361,42 @@ impl Counting<'_> {
         (from_fits && to_fits).then(|| Rc::new(Type::Circuit(at.clone(), to.clone())))
     }
 
-    fn let_in(&mut self, first: &Term, second: &Term, place: usize) -> Option<Rc<Type>> {
+    /// The types of both parts of a node of this kind.
+    fn both(&mut self, kind: u8, first: &Term, second: &Term) -> [Option<Rc<Type>>; 2] {
+        let before = self.found();
         let left = self.term(first);
+        let between = self.found();
+        let right = self.term(second);
+        self.forget_first(kind, before, between);
+        [left, right]
+    }
+
+    /// How many places there are of 16, 17 and 18.
+    fn found(&self) -> [usize; 3] {
+        [&self.rules, &self.uses, &self.linear_in_lifts].map(Vec::len)
+    }
+
+    /// Forgets the places of a node's first part, where the fault is so and
+    /// there are others behind them.
+    fn forget_first(&mut self, kind: u8, before: [usize; 3], between: [usize; 3]) {
+        let Wrong::SecondPartFirst(number, of) = self.wrong else {
+            return;
+        };
+        let at = usize::from(number - 16);
+        let places = match number {
+            16 => &mut self.rules,
+            17 => &mut self.uses,
+            _ => &mut self.linear_in_lifts,
+        };
+        if of == kind && places.len() > between[at] {
+            places.drain(before[at]..between[at]);
+        }
+    }
+
+    fn let_in(&mut self, first: &Term, second: &Term, place: usize) -> Option<Rc<Type>> {
+        let before = self.found();
+        let left = self.term(first);
+        let between = self.found();
         let mut halves = match left.as_deref() {
             Some(Type::Pair(half, other)) => [Some(half.clone()), Some(other.clone())],
             Some(Type::Function(half, other)) if self.wrong == Wrong::LetOfFunction => {
@@ -329,6 +415,7 @@ impl Counting<'_> {
             halves.swap(0, 1);
         }
         let right = self.under(&halves, place, second);
+        self.forget_first(kinds::LET, before, between);
         if has_halves {
             right
         } else {
@@ -347,10 +434,13 @@ impl Counting<'_> {
                 uses: 0,
             });
         }
+        let before = self.uses.len();
         let of = self.term(part);
+        let inner =
+            self.wrong == Wrong::InnerBinderFirst && types.len() == 1 && self.uses.len() > before;
         for variable in self.scope.split_off(outside) {
             let linear = variable.of.as_ref().is_some_and(|of| self.is_linear(of));
-            if linear && !self.is_once(variable.uses) {
+            if linear && !self.is_once(variable.uses) && !inner {
                 self.uses.push(variable.place);
             }
         }

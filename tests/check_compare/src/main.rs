@@ -7,6 +7,7 @@ mod lending;
 mod memory;
 mod seen;
 mod stack;
+mod two_faults;
 
 use compare::Comparison;
 use comparing::process;
@@ -18,6 +19,7 @@ fn main() {
 fn compare_all() {
     let mut comparison = Comparison::new();
     by_hand::compare(&mut comparison);
+    two_faults::compare(&mut comparison);
     families::compare(&mut comparison);
     lending::compare(&mut comparison);
     comparison.report();

@@ -1,13 +1,15 @@
-//! The cases of 01, c1 to c12 and the two files that are not read, as one
-//! table: of each its file, and what the reading, the check and runs answer.
+//! The cases of 01, c1 to c12 and the two files that are not read, and those of
+//! 02, as one table: of each its file, and what the reading, the check and runs
+//! answer.
 
+use crate::first_faults::{self, Faulty};
 use crate::known::Known;
 use crate::written::{entries, type_of, Written, ABS, APP, FUN, VAR};
 use program_files::kinds::*;
-use program_files::{Refusal, Sizes};
+use program_files::{encode, Entries, Positions, Program, Refusal, Sizes, Wire};
 
 pub struct Case {
-    pub name: &'static str,
+    pub name: String,
     pub file: Vec<u8>,
     pub read: Result<Sizes, Refusal>,
     /// The type in preorder.
@@ -37,9 +39,9 @@ pub struct Listing {
 pub const LIMITS: [u32; 8] = [0, 1, 2, 3, 4, 5, 9, 1_000_000];
 
 /// The table.
-pub fn all() -> [Case; 14] {
+pub fn all() -> Vec<Case> {
     assert_eq!(entries(C1).bytes(), C1_FILE, "the file of c1");
-    [
+    let mut all = vec![
         finished("c1", C1, &[QUBIT], 0, &ONE_WIRE),
         finished("c2", C2, &[QUBIT], 1, &ONE_GATE),
         finished("c3", C3, &[PAIR_TYPE, QUBIT, QUBIT], 2, &CROSSED),
@@ -54,35 +56,46 @@ pub fn all() -> [Case; 14] {
         finished("c12", C12, &[QUBIT], 1, &ONE_WIRE),
         not_read("the empty file", &[], 1),
         not_read("sizes 1, 0, 0 alone", &[1, 0, 0, 0, 0, 0], 2),
-    ]
+    ];
+    all.extend(first_faults::all().into_iter().map(faulty));
+    all
+}
+
+/// Each type is written anew, as in the proved table.
+fn faulty(of: Faulty) -> Case {
+    let program = Program::new(vec![Wire::Qubit; of.labels], of.term);
+    let entries = encode(&program, Positions::Fresh).expect("a file");
+    let refusal = refusal(of.number, of.place);
+    read(&of.name, &entries, Err(refusal), Err(refusal))
 }
 
 fn finished(
-    name: &'static str,
+    name: &str,
     program: Written,
     of: &'static [u8],
     steps: u32,
     listing: &'static Listing,
 ) -> Case {
-    read(name, program, Ok(of), Ok(Finished { steps, listing }))
+    let run = Ok(Finished { steps, listing });
+    read(name, &entries(program), Ok(of), run)
 }
 
 /// Its type is no wire type.
-fn no_wires(name: &'static str, program: Written, of: &'static [u8]) -> Case {
-    read(name, program, Ok(of), Err(refusal(20, 0)))
+fn no_wires(name: &str, program: Written, of: &'static [u8]) -> Case {
+    read(name, &entries(program), Ok(of), Err(refusal(20, 0)))
 }
 
 /// A run first checks.
-fn not_typed(name: &'static str, program: Written, number: u8, place: usize) -> Case {
+fn not_typed(name: &str, program: Written, number: u8, place: usize) -> Case {
     let refusal = refusal(number, place);
-    read(name, program, Err(refusal), Err(refusal))
+    read(name, &entries(program), Err(refusal), Err(refusal))
 }
 
 /// A check first reads.
-fn not_read(name: &'static str, file: &[u8], number: u8) -> Case {
+fn not_read(name: &str, file: &[u8], number: u8) -> Case {
     let refusal = refusal(number, 0);
     Case {
-        name,
+        name: name.to_string(),
         file: file.to_vec(),
         read: Err(refusal),
         check: Err(refusal),
@@ -90,15 +103,9 @@ fn not_read(name: &'static str, file: &[u8], number: u8) -> Case {
     }
 }
 
-fn read(
-    name: &'static str,
-    program: Written,
-    check: Result<&'static [u8], Refusal>,
-    run: Run,
-) -> Case {
-    let entries = entries(program);
+fn read(name: &str, entries: &Entries, check: Result<&'static [u8], Refusal>, run: Run) -> Case {
     Case {
-        name,
+        name: name.to_string(),
         file: entries.bytes(),
         read: Ok(entries.sizes()),
         check,

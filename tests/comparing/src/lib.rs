@@ -1,11 +1,12 @@
 //! What the comparisons have in common: what is known of a program, the cases
-//! of 01, programs written by hand and those broken, the buffers that are lent,
+//! of 01 and 02, programs written by hand and those broken, the buffers that are lent,
 //! an answer as one number, what is counted, and the process and the stack on
 //! which all this is done.
 
 pub mod cases;
 pub mod counts;
 pub mod files;
+pub mod first_faults;
 pub mod guarded;
 pub mod known;
 pub mod lent;

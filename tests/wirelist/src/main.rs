@@ -40,7 +40,7 @@ fn main() {
         write(name, &file, lines);
     }
     for case in cases::all() {
-        write(case.name, &case.file, cases::lines(&case.run(LIMIT)));
+        write(&case.name, &case.file, cases::lines(&case.run(LIMIT)));
     }
 }
 

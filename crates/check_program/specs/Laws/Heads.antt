@@ -14,7 +14,7 @@ use Rattle.rules.specs.Kinds.{force-kind, box-kind, apply-kind, gate-kind}
 use Rattle.rules.specs.Types.{Wire, Ty}
 use Rattle.rules.specs.Terms.{Term, variable, label, gate, abstraction, application, pair, let-in, lift, force, box, apply}
 use Rattle.rules.specs.Sizes.{nodes}
-use Rattle.rules.specs.Inference.{uses, asPair}
+use Rattle.rules.specs.Inference.{uses, asPair, applicationType, pairType, applyType}
 use Rattle.rules.specs.Laws.Booleans.{and-left, and-right}
 use Rattle.program.specs.Format.{kindAt, argumentAt, termShape, within}
 use Rattle.program.specs.declared.format.Argument.the-variants.{Zero, LabelNumber, GateNumber, TypePosition, BinderCount}
@@ -22,7 +22,7 @@ use Rattle.program.specs.declared.format.Shape.the-variants.{Node, Unknown}
 use Rattle.program.specs.Trees.{TypeAtPosition, TermAt, variable-at, label-at, abstraction-at, application-at, pair-at}
 use Rattle.program.specs.Trees.{let-at, lift-at, force-at, box-at, apply-at, gate-at, closedUnder, labelsBelow, gatesKnown}
 use Rattle.check_program.specs.Checking.{Binder, _under_, Checked, typed, fault, earlier, if-so, usedWrongly, followed}
-use Rattle.check_program.specs.Checking.{ruled, checkTerm}
+use Rattle.check_program.specs.Checking.{ruled, twoRuled, checkTerm}
 use Rattle.check_program.specs.Layout.{counted}
 use Rattle.check_program.specs.Heads.{OnePart, of-abstraction, of-lift, of-force, of-box, oneKind, oneRule}
 use Rattle.check_program.specs.Heads.{misuseAtAbstraction, TwoParts, of-application, of-pair, of-let, of-apply}
@@ -110,11 +110,21 @@ followed-same : (c : Checked) (k k′ : Ty → Option ℕ → Option ℕ → Che
 followed-same (typed A u v) k k′ h = h A u v
 followed-same (fault e) k k′ h = refl
 
+two-followed : (e : ℕ) (rule : Ty → Ty → Option Ty) (c d : Checked)
+    → twoRuled e rule c d
+    ≡ followed c λ A u v. followed d λ B u′ v′. ruled e (rule A B) (earlier u u′) (earlier v v′)
+two-followed e rule (fault p) (fault q) = refl
+two-followed e rule (fault p) (typed B u′ v′) = refl
+two-followed e rule (typed A u v) (fault q) = refl
+two-followed e rule (typed A u v) (typed B u′ v′) = refl
+
 pub check-two : (h : TwoParts) (L : List Wire) (Γ : List Binder) (lifts e : ℕ) (M N : Term)
     → checkTerm L Γ lifts e (two h M N)
     ≡ followed (checkTerm L Γ lifts (suc e) M) (checkSecond h L Γ lifts e (suc e + nodes M) N)
-check-two of-application L Γ lifts e M N = refl
-check-two of-pair L Γ lifts e M N = refl
+check-two of-application L Γ lifts e M N =
+    two-followed e applicationType (checkTerm L Γ lifts (suc e) M) (checkTerm L Γ lifts (suc e + nodes M) N)
+check-two of-pair L Γ lifts e M N =
+    two-followed e pairType (checkTerm L Γ lifts (suc e) M) (checkTerm L Γ lifts (suc e + nodes M) N)
 check-two of-let L Γ lifts e M N =
     followed-same (checkTerm L Γ lifts (suc e) M) _ _ (λ P u v. halved (asPair P) u v)
   where
@@ -148,7 +158,8 @@ check-two of-let L Γ lifts e M N =
         (if-so (usedWrongly (p .0) (uses 1 N)) e)
         (if-so (usedWrongly (p .1) (uses 0 N)) e)
         (earlier u u′)))
-check-two of-apply L Γ lifts e M N = refl
+check-two of-apply L Γ lifts e M N =
+    two-followed e applyType (checkTerm L Γ lifts (suc e) M) (checkTerm L Γ lifts (suc e + nodes M) N)
 
 -- A node without parts.
 pub data Leaf : Type 0 where

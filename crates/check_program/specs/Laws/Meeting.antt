@@ -171,8 +171,8 @@ module _ (f w : List ℕ) (e binders lifts cells : ℕ) (w₁ w₂ : List ℕ) (
       (first-ready h M N k d d′ ready)))
 
   -- The first part has the first 16.
-  pub first-faults : (p : ℕ) → first ≡ Fault p → Meets f w w₂ e binders lifts cells first
-  first-faults p faults L Γ M₀ n₀ ready₀ =
+  pub first-at-fault : (p : ℕ) → first ≡ Fault p → Meets f w w₂ e binders lifts cells first
+  first-at-fault p faults L Γ M₀ n₀ ready₀ =
       two-only
       (λ M₀ n₀. Ready f w e binders lifts cells L Γ M₀ n₀ → Answered w w₂ cells Γ M₀ n₀ (checkTerm L Γ lifts e M₀) first)
       parts

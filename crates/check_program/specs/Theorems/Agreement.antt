@@ -2,7 +2,7 @@
 -- exactly the labels of the file. 01, "Typing": "The check must agree with 000's derivation rules, context splitting
 -- included".
 use Prim.Native.Nat.{ℕ, zero, suc, _+_, _≤_, _<_}
-use mathlib.Core.Path.{_≡_, refl, sym, _∙_, ap, subst}
+use mathlib.Core.Path.{_≡_, refl, sym, _∙_, ap, ap₂, subst}
 use mathlib.Core.Logic.{_↔_, _≢_}
 use mathlib.Core.Bool.{Bool, true, false, _&&_, not, cond}
 use mathlib.Core.List.{List, [], _∷_}
@@ -28,7 +28,7 @@ use Rattle.rules.specs.Theorems.Counting.{plain-unique, has→counted, counted�
 use Rattle.rules.specs.Theorems.Inferring.{infer→plain, plain→infer}
 use Rattle.rules.specs.Laws.Wires.{nth-some-within, nth-within, one-if-unequal}
 use Rattle.check_program.specs.Checking.{Binder, _under_, Checked, typed, fault, earlier, if-so, linear, usedWrongly}
-use Rattle.check_program.specs.Checking.{crosses, followed, ruled, variableFound, labelFound, checkTerm, wrongLabel}
+use Rattle.check_program.specs.Checking.{crosses, followed, ruled, twoRuled, variableFound, labelFound, checkTerm, wrongLabel}
 use Rattle.check_program.specs.Checking.{has-type, secondly, decided, verdict}
 use Rattle.check_program.specs.Places.{typesOf}
 
@@ -64,14 +64,14 @@ one-type e c rule w o h =
 
 two-types : (e : ℕ) (c d : Checked) (rule : Ty → Ty → Option Ty) (o p : Option Ty)
     → typeOf c ≡ o → typeOf d ≡ p
-    → typeOf (followed c λ A u v. followed d λ B u′ v′. ruled e (rule A B) (earlier u u′) (earlier v v′))
-    ≡ given o λ A. given p λ B. rule A B
-two-types e c d rule o p h k =
-    followed-type c _ (λ A. given p λ B. rule A B)
-    (λ A u v.
-    followed-type d _ (rule A) (λ B u′ v′. ruled-type e (rule A B) (earlier u u′) (earlier v v′))
-    ∙ ap (λ x. given x (rule A)) k)
-    ∙ ap (λ x. given x λ A. given p λ B. rule A B) h
+    → typeOf (twoRuled e rule c d) ≡ given o λ A. given p λ B. rule A B
+two-types e c d rule o p h k = of-parts c d ∙ ap₂ (λ x y. given x λ A. given y λ B. rule A B) h k
+  where
+    of-parts : (c d : Checked) → typeOf (twoRuled e rule c d) ≡ given (typeOf c) λ A. given (typeOf d) λ B. rule A B
+    of-parts (fault i) (fault j) = refl
+    of-parts (fault i) (typed B u′ v′) = refl
+    of-parts (typed A u v) (fault j) = refl
+    of-parts (typed A u v) (typed B u′ v′) = ruled-type e (rule A B) _ _
 
 -- What the check finds at a let: its first part is a pair or not, and what it finds in the second part, for a pair.
 abbrev pub letFound : ℕ → Term → Option (Ty × Ty) → (Ty → Ty → Checked) → Option ℕ → Option ℕ → Checked
@@ -163,14 +163,15 @@ one-typed e c rule w B u v h =
     (f .0, f .1, f .2, f .3, r .0, r .1)
 
 two-typed : (e : ℕ) (c d : Checked) (rule : Ty → Ty → Option Ty) (C : Ty) (u v : Option ℕ)
-    → followed c (λ A u₁ v₁. followed d λ B u₂ v₂. ruled e (rule A B) (earlier u₁ u₂) (earlier v₁ v₂)) ≡ typed C u v
+    → twoRuled e rule c d ≡ typed C u v
     → (A : Ty) × (u₁ : Option ℕ) × (v₁ : Option ℕ) × (B : Ty) × (u₂ : Option ℕ) × (v₂ : Option ℕ)
     × (c ≡ typed A u₁ v₁) × (d ≡ typed B u₂ v₂) × (earlier u₁ u₂ ≡ u) × (earlier v₁ v₂ ≡ v)
-two-typed e c d rule C u v h =
-    let f = followed-typed c _ C u v h in
-    let g = followed-typed d _ C u v (f .4) in
-    let r = ruled-typed e (rule (f .0) (g .0)) C (earlier (f .1) (g .1)) (earlier (f .2) (g .2)) u v (g .4) in
-    (f .0, f .1, f .2, g .0, g .1, g .2, f .3, g .3, r .0, r .1)
+two-typed e (fault i) (fault j) rule C u v h = let z : _≡_ {A = ℕ} 0 1 = cc in absurd (omega arith)
+two-typed e (fault i) (typed B u₂ v₂) rule C u v h = let z : _≡_ {A = ℕ} 0 1 = cc in absurd (omega arith)
+two-typed e (typed A u₁ v₁) (fault j) rule C u v h = let z : _≡_ {A = ℕ} 0 1 = cc in absurd (omega arith)
+two-typed e (typed A u₁ v₁) (typed B u₂ v₂) rule C u v h =
+    let r = ruled-typed e (rule A B) C (earlier u₁ u₂) (earlier v₁ v₂) u v h in
+    (A, u₁, v₁, B, u₂, v₂, refl, refl, r .0, r .1)
 
 let-typed : (e : ℕ) (c : Checked) (second : Ty → Ty → Checked) (N : Term) (A B C : Ty) (u v : Option ℕ)
     → ((P : Ty) (u₁ v₁ : Option ℕ) → c ≡ typed P u₁ v₁ → P ≡ A ⊗ B)

@@ -26,7 +26,7 @@ use Rattle.check_program.specs.Answers.{labelsFrom, labelsOf, termOf, ac
 use Rattle.check_program.specs.Answers.{checkOf}
 use Rattle.check_program.specs.Laws.ReadBack.{program-read}
 use Rattle.check_program.specs.Places.{WrongLabelAt, WrongBinderAt, Nowhere, First}
-use Rattle.check_program.specs.Demand2.{IsRead, RuleFails, NotOnce, InsideLift, CheckMeans}
+use Rattle.check_program.specs.Demand2.{IsRead, RuleFails, NotOnce, InsideLift, FirstFaults, CheckMeans}
 use Rattle.check_program.specs.Safe.{AcceptedIsSafe}
 use Rattle.check_program.specs.Theorems.Agreement.{accepts→has, has→accepts}
 use Rattle.check_program.specs.Theorems.Places.{sixteen, seventeen-in-file-order, eighteen}
@@ -156,20 +156,27 @@ not-read-refused : (f : List ℕ) (x : Refusal) → readOf f ≡ NotRead x → c
 unfolding checkOf
 not-read-refused f x h = ap (judgedAs f) h
 
+-- Ticket 1 of every check.
+first-faults-of : (f : List ℕ) → IsRead f → FirstFaults f (λ x. checkOf f ≡ refuses x)
+first-faults-of f r =
+    record {
+      sixteen = λ p. refused-where f 16 p r (sixteen (labelsOf f) (firstTerm f) (termOf f) p);
+      seventeen =
+          λ p.
+          refused-where f 17 p r (seventeen-in-file-order (labelsOf f) (firstTerm f) (termOf f) p (labels-before f));
+      eighteen =
+          λ p.
+          let k = eighteen (labelsOf f) (firstTerm f) (termOf f) p in
+          let n = neither f p in
+          refused-where f 18 p r (λ h. n .0 (k .0 h), λ h. k .1 (n .1 h));
+    }
+
 -- Demand 2 of every check.
 pub check-means : (f : List ℕ) → CheckMeans f
 check-means f =
     record {
       accepted = check-derives f;
       not-read = not-read-refused f;
-      sixteen = λ r p. refused-where f 16 p r (sixteen (labelsOf f) (firstTerm f) (termOf f) p);
-      seventeen =
-          λ r p.
-          refused-where f 17 p r (seventeen-in-file-order (labelsOf f) (firstTerm f) (termOf f) p (labels-before f));
-      eighteen =
-          λ r p.
-          let k = eighteen (labelsOf f) (firstTerm f) (termOf f) p in
-          let n = neither f p in
-          refused-where f 18 p r (λ h. n .0 (k .0 h), λ h. k .1 (n .1 h));
+      first-faults = first-faults-of f;
       no-other = no-other-refusal f;
     }

@@ -1,4 +1,4 @@
--- Worked cases of the check on trees, by computation, with the entry of the first term node; crate cases has c1 to c12.
+-- Worked cases of the check on trees, by computation, with the entry of the first term node; crate cases has files.
 use Prim.Native.Nat.{ℕ, zero, suc}
 use mathlib.Core.Path.{_≡_, refl}
 use mathlib.Core.List.{[]}

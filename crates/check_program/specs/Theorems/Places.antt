@@ -18,7 +18,7 @@ use Rattle.rules.specs.Sizes.{nodes}
 use Rattle.rules.specs.Inference.{uses, labelUses, asPair, asReusable, given, gateNodeType, Linear, abstractionType}
 use Rattle.rules.specs.Inference.{applicationType, pairType, liftType, boxType, applyType, infer}
 use Rattle.check_program.specs.Checking.{Binder, _under_, Checked, typed, fault, earlier, if-so, usedWrongly, crosses}
-use Rattle.check_program.specs.Checking.{followed, ruled, variableFound, labelFound, checkTerm, wrongLabel, has-type}
+use Rattle.check_program.specs.Checking.{followed, ruled, twoRuled, variableFound, labelFound, checkTerm, wrongLabel, has-type}
 use Rattle.check_program.specs.Checking.{refusal, secondly, decided, verdict}
 use Rattle.check_program.specs.Places.{typesOf, Occurs, itself, in-abstraction, in-application-first}
 use Rattle.check_program.specs.Places.{in-application-second, in-pair-first, in-pair-second, in-let-first}
@@ -157,13 +157,16 @@ found-if : (t : Bool) (e : ℕ) (X : Type 0) → X ↔ IsTrue t → Found (if-so
 found-if true e X h = ((refl, h .1 tt), λ q l x. let y = x .0 in absurd (omega arith))
 found-if false e X h = λ p x. h .0 (x .1)
 
--- There is at most one first entry.
+-- There is at most one first entry: a promise of the first leaves no place open.
+pub one-first : (P : ℕ → Type 0) {p q : ℕ} → First P p → First P q → p ≡ q
+one-first P {p} {q} f g = same (λ l. f .1 q l (g .0)) (λ l. g .1 p l (f .0))
+  where
+    same : ((q < p) → ⊥) → ((p < q) → ⊥) → p ≡ q
+    same a b = omega arith
+
 found-first : (o : Option ℕ) (P : ℕ → Type 0) (p : ℕ) → Found o P → First P p → o ≡ some p
 found-first none P p h f = absurd (h p (f .0))
-found-first (some q) P p h f = ap some (same (λ l. f .1 q l (h .0)) (λ l. h .1 p l (f .0)))
-  where
-    same : ((q < p) → ⊥) → ((p < q) → ⊥) → q ≡ p
-    same a b = omega arith
+found-first (some q) P p h f = ap some (one-first P h f)
 
 found-nowhere : (o : Option ℕ) (P : ℕ → Type 0) → Found o P → Nowhere P → o ≡ none
 found-nowhere none P h n = refl
@@ -369,29 +372,42 @@ two-parts : (L : List Wire) (Γ : List Binder) (lifts e : ℕ) (K M N : Term) (r
     → (BindsWrongly L Γ lifts K → ⊥)
     → (UsesInside L Γ lifts K → ⊥)
     → (c d : Checked) → Describes L Γ lifts (suc e) M c → Describes L Γ lifts (suc e + nodes M) N d
-    → Describes L Γ lifts e K
-    (followed c λ A u v. followed d λ B u′ v′. ruled e (rule A B) (earlier u u′) (earlier v v′))
-two-parts L Γ lifts e K M N rule out into types parts fails binds no-use (fault p) d x y = (
-  types ∙ ap (λ o. given o λ A. given (infer (typesOf Γ) (nth L) N) λ B. rule A B) (x .0),
-  (into (Faulty L) p (inl (x .1 .0)), λ q l a. go q l (out (Faulty L) q a)),
-)
+    → Describes L Γ lifts e K (twoRuled e rule c d)
+two-parts L Γ lifts e K M N rule out into types parts fails binds no-use c d x y = of-parts c d x y
   where
-    go : (q : ℕ) → q < p
-        → Own (Faulty L) Γ lifts e K q
-        ⊎ (At L (Faulty L) Γ lifts (suc e) M q ⊎ At L (Faulty L) Γ lifts (suc e + nodes M) N q)
-        → ⊥
-    go q l (inl f) = let h = parts (f .1) .0 in Option·some-ne-none (h .0) (sym (h .1) ∙ x .0)
-    go q l (inr (inl a)) = x .1 .1 q l a
-    go q l (inr (inr b)) = let z = behind-first L (Faulty L) Γ Γ lifts e M N p q (x .1 .0) b in omega arith
-two-parts L Γ lifts e K M N rule out into types parts fails binds no-use (typed A u v) d x y =
-    second-part L Γ Γ lifts e K M N (rule A) false false ⊥ ⊥ A u v out into
-    (types ∙ ap (λ o. given o λ A. given (infer (typesOf Γ) (nth L) N) λ B. rule A B) (x .0))
-    (λ f. parts f .1) (λ h. fails ((A, x .0), h)) (λ n. n, λ n. n) (λ n. n, λ n. n) (λ b. absurd (binds b)) never no-use
-    x d y
-  where
+    first-fault : (p : ℕ) → Describes L Γ lifts (suc e) M (fault p) → Describes L Γ lifts e K (fault p)
+    first-fault p x = (
+      types ∙ ap (λ o. given o λ A. given (infer (typesOf Γ) (nth L) N) λ B. rule A B) (x .0),
+      (into (Faulty L) p (inl (x .1 .0)), λ q l a. go q l (out (Faulty L) q a)),
+    )
+      where
+        go : (q : ℕ) → q < p
+            → Own (Faulty L) Γ lifts e K q
+            ⊎ (At L (Faulty L) Γ lifts (suc e) M q ⊎ At L (Faulty L) Γ lifts (suc e + nodes M) N q)
+            → ⊥
+        go q l (inl f) = let h = parts (f .1) .0 in Option·some-ne-none (h .0) (sym (h .1) ∙ x .0)
+        go q l (inr (inl a)) = x .1 .1 q l a
+        go q l (inr (inr b)) = let z = behind-first L (Faulty L) Γ Γ lifts e M N p q (x .1 .0) b in omega arith
+
     never : ⊥ ⊎ ⊥ → BindsWrongly L Γ lifts K
     never (inl n) = absurd n
     never (inr n) = absurd n
+
+    first-typed : (A : Ty) (u v : Option ℕ) → Describes L Γ lifts (suc e) M (typed A u v)
+        → (d : Checked) → Describes L Γ lifts (suc e + nodes M) N d
+        → Describes L Γ lifts e K (followed d λ B u′ v′. ruled e (rule A B) (earlier u u′) (earlier v v′))
+    first-typed A u v x d y =
+        second-part L Γ Γ lifts e K M N (rule A) false false ⊥ ⊥ A u v out into
+        (types ∙ ap (λ o. given o λ A. given (infer (typesOf Γ) (nth L) N) λ B. rule A B) (x .0))
+        (λ f. parts f .1) (λ h. fails ((A, x .0), h)) (λ n. n, λ n. n) (λ n. n, λ n. n) (λ b. absurd (binds b)) never
+        no-use x d y
+
+    of-parts : (c d : Checked) → Describes L Γ lifts (suc e) M c → Describes L Γ lifts (suc e + nodes M) N d
+        → Describes L Γ lifts e K (twoRuled e rule c d)
+    of-parts (fault p) (fault q) x y = first-fault p x
+    of-parts (fault p) (typed B u′ v′) x y = first-fault p x
+    of-parts (typed A u v) (fault q) x y = first-typed A u v x (fault q) y
+    of-parts (typed A u v) (typed B u′ v′) x y = first-typed A u v x (typed B u′ v′) y
 
 -- A let has the type of its second part.
 let-type : (L : List Wire) (Γ : List Ty) (M N : Term) (A B : Ty)

@@ -13,8 +13,9 @@ use Rattle.rules.specs.Terms.{box, apply}
 use Rattle.rules.specs.Sizes.{nodes, most-labels}
 use Rattle.rules.specs.Laws.Booleans.{and-left, and-right, and-both}
 use Rattle.program.specs.Trees.{closedUnder, labelsBelow, gatesKnown}
-use Rattle.program.specs.Laws.Trees.{typesIn, entriesOf, codesOf, termKinds, termArguments, words, programKinds}
-use Rattle.program.specs.Laws.Trees.{programArguments, encode, Writable}
+use Rattle.program.specs.Encoding.{typesIn, entriesOf, codesOf, termKinds, termArguments, words, programKinds}
+use Rattle.program.specs.Encoding.{programArguments, encode}
+use Rattle.program.specs.Laws.Trees.{Writable}
 use Rattle.program.specs.Theorems.Encoding.{entries-append}
 
 bytes-first : (x : ℕ) (xs : List ℕ) → x < 256 → IsTrue (areBytes xs) → IsTrue (areBytes (x ∷ xs))

@@ -23,8 +23,9 @@ use Rattle.program.specs.Trees.{TypeAt, bit-at, qubit-at, tensor-at, fun
 use Rattle.program.specs.Trees.{at-position, formed, labelsBelow, TermAt, variable-at, label-at, abstraction-at}
 use Rattle.program.specs.Trees.{application-at, pair-at, let-at, lift-at, force-at, box-at, apply-at, gate-at}
 use Rattle.program.specs.Trees.{AcceptedFile}
-use Rattle.program.specs.Laws.Trees.{typesIn, allFormed, entriesOf, codesOf, termKinds, termArguments, words}
-use Rattle.program.specs.Laws.Trees.{programKinds, programArguments, encode, Writable}
+use Rattle.program.specs.Encoding.{typesIn, entriesOf, codesOf, termKinds, termArguments, words, programKinds}
+use Rattle.program.specs.Encoding.{programArguments, encode}
+use Rattle.program.specs.Laws.Trees.{allFormed, Writable}
 use Rattle.program.specs.Laws.TreeTraversal.{range-leaf, range-one, range-two, type-end}
 use Rattle.program.specs.Laws.Sections.{some-is}
 use Rattle.program.specs.Theorems.Accepting.{read-complete}

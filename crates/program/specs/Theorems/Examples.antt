@@ -9,7 +9,8 @@ use Rattle.words.specs.Numbers.{wordAt}
 use Rattle.program.specs.Reading.{refused, sizesRight, kindWrong, argumentWrong, typeWrong, circWrong, boxWrong}
 use Rattle.program.specs.Reading.{wiresWrong, readScope, readWhole, readWires, readTypes, readArguments, readKinds}
 use Rattle.program.specs.Reading.{readOf}
-use Rattle.program.specs.CaseFiles.{fileOf, c1-file, sizes-file}
+use Rattle.program.specs.Encoding.{fileOf}
+use Rattle.program.specs.CaseFiles.{c1-file, sizes-file}
 use Rattle.program.specs.declared.ReadAnswer.{ReadAnswer}
 use Rattle.program.specs.declared.ReadAnswer.the-variants.{Accepted}
 

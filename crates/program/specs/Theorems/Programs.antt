@@ -17,7 +17,8 @@ use Rattle.program.specs.Format.{termCount}
 use Rattle.program.specs.Trees.{TypeAtPosition, at-position, formed, closedUnder, labelsBelow, TermAt, variable-at}
 use Rattle.program.specs.Trees.{label-at, abstraction-at, application-at, pair-at, let-at, lift-at, force-at, box-at}
 use Rattle.program.specs.Trees.{apply-at, gate-at, AcceptedFile}
-use Rattle.program.specs.Laws.Trees.{typesIn, allFormed}
+use Rattle.program.specs.Encoding.{typesIn}
+use Rattle.program.specs.Laws.Trees.{allFormed}
 use Rattle.program.specs.Laws.TreeTraversal.{type-end, type-nonempty, term-end}
 use Rattle.program.specs.Theorems.Unique.{position-unique}
 

@@ -22,7 +22,8 @@ use Rattle.refusals.specs.Refusals.{refusalNumber, refusalPlace}
 use Rattle.refusals.specs.declared.Refusal.{Refusal}
 use Rattle.refusals.specs.declared.Refusal.the-variants.{Form, Typing, Run}
 use Rattle.check_program.specs.Answers.{labelsOf, termOf, Judged, accepts, refuses, checkOf}
-use Rattle.check_program.specs.Theorems.Checked.{accepted-is-safe}
+use Rattle.check_program.specs.Demand2.{IsRead, FirstFaults}
+use Rattle.check_program.specs.Theorems.Checked.{accepted-is-safe, check-means}
 use Rattle.listing.specs.Laws.Lengths.{listing-fits}
 use Rattle.listing.specs.Listing.{most-bytes, listing}
 use Rattle.run_answers.specs.Answers.{Ran, ran, declines, listedAs, endedAs, ranTo, ranAs, runOf}
@@ -316,12 +317,32 @@ run-bounds f limit = of (runOf f limit) (run-as f limit)
         )
     of (declines x) a = declined x a
 
+-- Ticket 1 of every run: what the check refuses is handed up, with its place.
+run-first-faults : (f : List ℕ) (limit : ℕ) → IsRead f → FirstFaults f (λ x. runOf f limit ≡ declines x)
+run-first-faults f limit r =
+    record {
+      sixteen = λ p. handed-up (Typing 16 p) (omega arith, omega arith) (of-the-check .sixteen p);
+      seventeen = λ p. handed-up (Typing 17 p) (omega arith, omega arith) (of-the-check .seventeen p);
+      eighteen = λ p. handed-up (Typing 18 p) (omega arith, omega arith) (of-the-check .eighteen p);
+    }
+  where
+    of-the-check : FirstFaults f (λ x. checkOf f ≡ refuses x)
+    of-the-check = check-means f .first-faults r
+
+    handed-up : (x : Refusal) {X : Type 0}
+        → OfCheck x
+        → (checkOf f ≡ refuses x) ↔ X
+        → (runOf f limit ≡ declines x) ↔ X
+    handed-up x of-check k =
+        let same = run-refused f limit x in (λ h. k .0 (same .1 (h, of-check)), λ y. same .0 (k .1 y) .0)
+
 -- Demand 2 of every run.
 pub run-means : (f : List ℕ) (limit : ℕ) → RunMeans f limit
 run-means f limit =
     record {
       finishes = run-finishes f limit;
       refused = run-refused f limit;
+      first-faults = run-first-faults f limit;
       twenty = run-20 f limit;
       twenty-one = run-21 f limit;
       twenty-two = run-22 f limit;

@@ -10,7 +10,7 @@ use Rattle.check_program.specs.Heads.{partCount}
 use Rattle.check_program.specs.Laws.Heads.{partCount-most}
 use Rattle.check_program.specs.Inferring.{EndsTwo}
 use Rattle.check_program.specs.Laws.Ends.{small, two-left}
-use Rattle.check_program.specs.Laws.Meeting.{first-possible, one-meets, first-faults, no-pair, second-later}
+use Rattle.check_program.specs.Laws.Meeting.{first-possible, one-meets, first-at-fault, no-pair, second-later}
 use Rattle.check_program.specs.Laws.Meeting.{second-possible, two-meets, possible-inside, meets-inside, possible-after}
 use Rattle.check_program.specs.Laws.Meeting.{meets-after}
 use Prim.Native.Nat.{ℕ, _-_, _<_}
@@ -156,7 +156,7 @@ infer-same-length-3 t c = c .before .before .before .before .before .infer .kept
 infer-returns-3 : (t : ℕ) → infer-lts.Need-returns-3 (calls t) (infer-at t) infer.Post
 infer-returns-3 t c =
     let s = c .before .before .before .before .before .before .before .before .before .before .before .before .before .before .before .before .before .before .args in
-    first-faults (s .file .now) (words (s .work .now)) (s .e) (s .binders) (s .lifts) (s .cells) (words (c .before .before .before .before .before .before .before .before .before .before .before .enter .last .1 .0)) (words (c .before .before .before .before .before .infer .last .1 .0)) (c .before .before .before .before .before .infer .result)
+    first-at-fault (s .file .now) (words (s .work .now)) (s .e) (s .binders) (s .lifts) (s .cells) (words (c .before .before .before .before .before .before .before .before .before .before .before .enter .last .1 .0)) (words (c .before .before .before .before .before .infer .last .1 .0)) (c .before .before .before .before .before .infer .result)
     (two-left (partCount (kindAt (s .file .now) (s .e))) (partCount-most (kindAt (s .file .now) (s .e))) (λ q. c .before .before .before .before .before .before .before .before .before .before .before .before .before .if1 .left (c .before .before .before .before .before .before .before .before .before .before .before .before .before .before .part-count .ensures ∙ ap partCount (c .before .before .before .before .before .before .before .before .before .before .before .before .before .before .before .kind-at .ensures .0) ∙ q)) (λ q. c .before .before .if2 .left (c .before .before .before .before .before .before .before .before .before .before .before .before .before .before .part-count .ensures ∙ ap partCount (c .before .before .before .before .before .before .before .before .before .before .before .before .before .before .before .kind-at .ensures .0) ∙ q)))
     (c .before .before .before .before .before .before .before .before .before .before .before .enter .ensures)
     (meets-inside (s .file .now) (words (c .before .before .before .before .before .before .before .before .before .before .before .enter .last .1 .0)) (s .e) (s .binders) (s .lifts) (s .cells) (c .before .before .before .before .before .before .before .before .before .before .before .before .before .before .before .kind-at .result) (c .before .before .before .before .before .before .before .before .binders-inside .result)
