@@ -34,8 +34,8 @@ extern "C" {
 #define GAWIPSOL_RUN_OUT 11078
 
 /*
- * The number of an answer: 0, or that of the refusal; the lowest that fits. A place is an entry number where one is named here,
- * else 0; where several entries are such, it is the first of them in the file.
+ * The number of an answer: 0, or that of the refusal. A place is an entry number where one is named here, else 0; where several
+ * entries are such, it is the first of them in the file.
  */
 enum gawipsol_number {
     GAWIPSOL_ACCEPTED = 0, /* of a run: finished */
