@@ -1,5 +1,5 @@
--- The places of the refusals 16, 17 and 18 (01, "Check, in number order"): the theorems at the end say, for each of the three,
--- when the check gives it and at which entry.
+-- The places of the refusals 16, 17 and 18 (01, "Check, in number order"; 02, ticket 1): the theorems at the end say, for each of
+-- the three, when the check gives it, and that its place is the first such entry.
 use Prim.Native.Nat.{ℕ, zero, suc, _+_, _≤_, _<_}
 use mathlib.Core.Path.{_≡_, refl, sym, _∙_, ap, subst, subst₂}
 use mathlib.Core.Logic.{_↔_, _≢_, _⊎_, inl, inr}
