@@ -68,11 +68,6 @@ computed c =
       runs = map (ranWith (c .file)) (c .runs);
     }
 
--- A case holds if it says what is computed.
-abbrev pub Holds : Case → Type 0
-Holds c = computed c ≡ c
-
--- Every case of a list holds.
+-- Every case of a list holds: it says what is computed.
 abbrev pub AllHold : List Case → Type 0
-AllHold [] = Unit {0}
-AllHold (c ∷ more) = Holds c × AllHold more
+AllHold cs = map computed cs ≡ cs

@@ -13,7 +13,7 @@ use Rattle.program.specs.Format.{firstTerm}
 use Rattle.program.specs.Reading.{readOf}
 use Rattle.program.specs.declared.ReadAnswer.the-variants.{Accepted as Read, Refused as NotRead}
 use Rattle.check_program.specs.Answers.{labelsOf, termOf, accepts, refuses, checkOf}
-use Rattle.check_program.specs.Places.{FaultAt, WrongLabelAt, WrongBinderAt, UseInsideAt, Nowhere, First}
+use Rattle.check_program.specs.Places.{FaultAt, NotOnceAt, UseInsideAt, Nowhere, First}
 
 -- The reader accepts the file.
 pub record IsRead (f : List ℕ) : Type 0 where
@@ -28,7 +28,7 @@ RuleFails f p = FaultAt (labelsOf f) (firstTerm f) (termOf f) p
 
 -- 17 concerns this entry: a label or a binder.
 abbrev pub NotOnce : List ℕ → ℕ → Type 0
-NotOnce f p = WrongLabelAt (labelsOf f) (termOf f) p ⊎ WrongBinderAt (labelsOf f) (firstTerm f) (termOf f) p
+NotOnce f p = NotOnceAt (labelsOf f) (firstTerm f) (termOf f) p
 
 -- 18 concerns this entry.
 abbrev pub InsideLift : List ℕ → ℕ → Type 0

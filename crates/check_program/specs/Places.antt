@@ -3,7 +3,7 @@
 -- gives the first.
 use Prim.Native.Nat.{ℕ, suc, _+_, _<_}
 use mathlib.Core.Path.{_≡_}
-use mathlib.Core.Logic.{_≢_}
+use mathlib.Core.Logic.{_≢_, _⊎_}
 use mathlib.Core.List.{List, [], _∷_}
 use mathlib.Core.Option.{none, some}
 use lib.ListN.{length}
@@ -133,6 +133,10 @@ WrongLabelAt L M p = (p < length L) × (labelUses p M ≢ 1)
 -- 17 concerns the binder at entry p: an abstraction or a let.
 abbrev pub WrongBinderAt : List Wire → ℕ → Term → ℕ → Type 0
 WrongBinderAt L e M p = At L (BindsWrongly L) [] 0 e M p
+
+-- 17 concerns entry p: a label or a binder.
+abbrev pub NotOnceAt : List Wire → ℕ → Term → ℕ → Type 0
+NotOnceAt L e M p = WrongLabelAt L M p ⊎ WrongBinderAt L e M p
 
 -- 18 concerns the use at entry p.
 abbrev pub UseInsideAt : List Wire → ℕ → Term → ℕ → Type 0

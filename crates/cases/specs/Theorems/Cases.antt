@@ -18,8 +18,8 @@ use Rattle.listing.specs.Listing.{listing}
 use Rattle.run_answers.specs.declared.RunAnswer.the-variants.{Refused as RunRefused}
 use Rattle.run_answers.specs.Lengths.{run-lengths}
 use Rattle.run_answers.specs.Answers.{Ran, runOf, answerTo, outTo, runAnswer, runBytes}
-use Rattle.cases.specs.Case.{CheckResult, LimitedRun, limit_gives_, Case, checkedAs, ranWith, computed, Holds, AllHold}
-use Rattle.cases.specs.BaseCases.{c1, c2, c3, c4, c5, c6, c7, c8, c9, c10, c11, c12, empty-file, sizes-alone, base-cases}
+use Rattle.cases.specs.Case.{CheckResult, LimitedRun, limit_gives_, Case, checkedAs, ranWith, computed, AllHold}
+use Rattle.cases.specs.BaseCases.{base-cases}
 use Rattle.cases.specs.FirstFaults.{in-parts, behind-later-numbers, nested, first-fault-cases}
 use Rattle.cases.specs.Table.{table}
 use Rattle.cases.specs.Answers.{checkAnswerTo, checkOutTo, RunsAnswer, Answers, AllAnswer}
@@ -29,109 +29,36 @@ opened : List ℕ → ℕ → Ran
 unfolding check-opened listing flatMap runOf encode programKinds programArguments
 opened f n = runOf f n
 
--- Each case: what is read, what the check gives, what each run gives.
-pub c1-holds : Holds c1
-unfolding opened
-c1-holds = refl
-
-pub c2-holds : Holds c2
-unfolding opened
-c2-holds = refl
-
-pub c3-holds : Holds c3
-unfolding opened
-c3-holds = refl
-
-pub c4-holds : Holds c4
-unfolding opened
-c4-holds = refl
-
-pub c5-holds : Holds c5
-unfolding opened
-c5-holds = refl
-
-pub c6-holds : Holds c6
-unfolding opened
-c6-holds = refl
-
-pub c7-holds : Holds c7
-unfolding opened
-c7-holds = refl
-
-pub c8-holds : Holds c8
-unfolding opened
-c8-holds = refl
-
-pub c9-holds : Holds c9
-unfolding opened
-c9-holds = refl
-
-pub c10-holds : Holds c10
-unfolding opened
-c10-holds = refl
-
-pub c11-holds : Holds c11
-unfolding opened
-c11-holds = refl
-
-pub c12-holds : Holds c12
-unfolding opened
-c12-holds = refl
-
-pub empty-file-holds : Holds empty-file
-unfolding opened
-empty-file-holds = refl
-
-pub sizes-alone-holds : Holds sizes-alone
-unfolding opened
-sizes-alone-holds = refl
-
--- A fact and those behind it.
-_also_ : {A B : Type 0} → A → B → A × B
-a also b = (a, b)
-
-infixr 50 _also_
--- The cases of 01 hold.
+-- Every case of the table holds: those of 01, and those of ticket 1, whose nodes have faults in their parts, behind one of a later
+-- number, and inside each other.
 pub base-hold : AllHold base-cases
-base-hold =
-    c1-holds also c2-holds also c3-holds also c4-holds also c5-holds also c6-holds also c7-holds
-    also c8-holds also c9-holds also c10-holds also c11-holds also c12-holds
-    also empty-file-holds also sizes-alone-holds also tt
+unfolding opened
+base-hold = refl
 
--- A list of cases that is computed whole.
-each-holds : (cs : List Case) → map computed cs ≡ cs → AllHold cs
-each-holds [] e = tt
-each-holds (c ∷ cs) e =
-    let this : computed c ≡ c = cc in
-    let those : map computed cs ≡ cs = cc in
-    (this, each-holds cs those)
-
-all-of-both : (cs ds : List Case) → AllHold cs → AllHold ds → AllHold (cs ++ ds)
-all-of-both [] ds h k = k
-all-of-both (c ∷ cs) ds h k = (h .0, all-of-both cs ds (h .1) k)
-
--- Those of ticket 1 hold: two faults in the parts of a node; a fault of a later number before them; a node inside another.
-in-parts-hold : map computed in-parts ≡ in-parts
+pub in-parts-hold : AllHold in-parts
 unfolding opened
 in-parts-hold = refl
 
-behind-later-hold : map computed behind-later-numbers ≡ behind-later-numbers
+pub behind-later-hold : AllHold behind-later-numbers
 unfolding opened
 behind-later-hold = refl
 
-nested-hold : map computed nested ≡ nested
+pub nested-hold : AllHold nested
 unfolding opened
 nested-hold = refl
 
-pub first-faults-hold : AllHold first-fault-cases
-first-faults-hold =
-    all-of-both in-parts (behind-later-numbers ++ nested) (each-holds in-parts in-parts-hold)
-    (all-of-both behind-later-numbers nested (each-holds behind-later-numbers behind-later-hold)
-    (each-holds nested nested-hold))
+both-hold : (cs ds : List Case) → AllHold cs → AllHold ds → AllHold (cs ++ ds)
+both-hold [] ds h k = k
+both-hold (c ∷ cs) ds h k =
+    let this : computed c ≡ c = cc in
+    let those : map computed cs ≡ cs = cc in
+    ap₂ _∷_ this (both-hold cs ds those k)
 
--- Every case of the table holds.
 pub all-hold : AllHold table
-all-hold = all-of-both base-cases first-fault-cases base-hold first-faults-hold
+all-hold =
+    both-hold base-cases first-fault-cases base-hold
+    (both-hold in-parts (behind-later-numbers ++ nested) in-parts-hold
+    (both-hold behind-later-numbers nested behind-later-hold nested-hold))
 
 -- The answer to a judgement, by what the table has of it.
 same-answer : (j : Judged) → judgedAnswer j ≡ checkAnswerTo (checkedAs j)
@@ -184,14 +111,17 @@ module _ (check-buffers run-buffers : List (List ℕ))
         let a = run-answers f n r this in
         (a .0, a .1, runs-answer f more those)
 
-    answers : (c : Case) → Holds c → Answers check-buffers run-buffers c
+    answers : (c : Case) → computed c ≡ c → Answers check-buffers run-buffers c
     answers c h =
         let a = check-answers (c .file) (c .check) (ap (λ d. d .check) h) in
         (a .0, a .1, runs-answer (c .file) (c .runs) (ap (λ d. d .runs) h))
 
     all-answer : (cs : List Case) → AllHold cs → AllAnswer check-buffers run-buffers cs
     all-answer [] h = tt
-    all-answer (c ∷ more) h = (answers c (h .0), all-answer more (h .1))
+    all-answer (c ∷ more) h =
+        let this : computed c ≡ c = cc in
+        let those : map computed more ≡ more = cc in
+        (answers c this, all-answer more those)
 
     -- With buffers that are long enough every check and run of the table answers and leaves what the table says.
     pub table-answers : AllAnswer check-buffers run-buffers table

@@ -25,11 +25,10 @@ use Rattle.check_program.specs.Checking.{refusal, secondly, decided, ver
 use Rattle.check_program.specs.Answers.{labelsFrom, labelsOf, termOf, accepts, refuses, judged, judgedAs}
 use Rattle.check_program.specs.Answers.{checkOf}
 use Rattle.check_program.specs.Laws.ReadBack.{program-read}
-use Rattle.check_program.specs.Places.{WrongLabelAt, WrongBinderAt, Nowhere, First}
-use Rattle.check_program.specs.Demand2.{IsRead, RuleFails, NotOnce, InsideLift, FirstFaults, CheckMeans}
+use Rattle.check_program.specs.Demand2.{IsRead, FirstFaults, CheckMeans}
 use Rattle.check_program.specs.Safe.{AcceptedIsSafe}
 use Rattle.check_program.specs.Theorems.Agreement.{accepts→has, has→accepts}
-use Rattle.check_program.specs.Theorems.Places.{sixteen, seventeen-in-file-order, eighteen}
+use Rattle.check_program.specs.Theorems.Places.{sixteen, seventeen, eighteen}
 
 judged-type : (v : Verdict) (A : Ty) → judged v ≡ accepts A → v ≡ has-type A
 judged-type (has-type B) A h = let p : B ≡ A = cc in ap has-type p
@@ -98,18 +97,6 @@ labels-length f e (suc n) = ap suc (labels-length f (suc e) n)
 labels-before : (f : List ℕ) → length (labelsOf f) ≤ firstTerm f
 labels-before f = let x = labels-length f 0 (labelCount f) in omega arith
 
--- No label and no binder is used wrongly, in one statement and in two.
-neither : (f : List ℕ) (p : ℕ)
-    → (Nowhere (RuleFails f)
-    × Nowhere (WrongLabelAt (labelsOf f) (termOf f))
-    × Nowhere (WrongBinderAt (labelsOf f) (firstTerm f) (termOf f))
-    × First (InsideLift f) p)
-    ↔ (Nowhere (RuleFails f) × Nowhere (NotOnce f) × First (InsideLift f) p)
-neither f p = (
-  λ h. (h .0, (λ q x. elim x [ inl a ↦ h .1 q a | inr b ↦ h .2 q b ]), h .3),
-  λ h. (h .0, (λ q a. h .1 q (inl a)), (λ q b. h .1 q (inr b)), h .2),
-)
-
 -- A verdict refuses with 16, 17 or 18.
 decided-number : (L : List Wire) (M : Term) (c : Checked) (n p : ℕ)
     → decided L M c ≡ refusal n p
@@ -161,14 +148,8 @@ first-faults-of : (f : List ℕ) → IsRead f → FirstFaults f (λ x. checkOf f
 first-faults-of f r =
     record {
       sixteen = λ p. refused-where f 16 p r (sixteen (labelsOf f) (firstTerm f) (termOf f) p);
-      seventeen =
-          λ p.
-          refused-where f 17 p r (seventeen-in-file-order (labelsOf f) (firstTerm f) (termOf f) p (labels-before f));
-      eighteen =
-          λ p.
-          let k = eighteen (labelsOf f) (firstTerm f) (termOf f) p in
-          let n = neither f p in
-          refused-where f 18 p r (λ h. n .0 (k .0 h), λ h. k .1 (n .1 h));
+      seventeen = λ p. refused-where f 17 p r (seventeen (labelsOf f) (firstTerm f) (termOf f) (labels-before f) p);
+      eighteen = λ p. refused-where f 18 p r (eighteen (labelsOf f) (firstTerm f) (termOf f) (labels-before f) p);
     }
 
 -- Demand 2 of every check.

@@ -18,14 +18,14 @@ use Rattle.rules.specs.Sizes.{nodes}
 use Rattle.rules.specs.Inference.{uses, labelUses, asPair, asReusable, given, gateNodeType, Linear, abstractionType}
 use Rattle.rules.specs.Inference.{applicationType, pairType, liftType, boxType, applyType, infer}
 use Rattle.check_program.specs.Checking.{Binder, _under_, Checked, typed, fault, earlier, if-so, usedWrongly, crosses}
-use Rattle.check_program.specs.Checking.{followed, ruled, twoRuled, variableFound, labelFound, checkTerm, wrongLabel, has-type}
+use Rattle.check_program.specs.Checking.{followed, ruled, twoRuled, variableFound, labelFound, checkTerm, wrongLabel}
 use Rattle.check_program.specs.Checking.{refusal, secondly, decided, verdict}
 use Rattle.check_program.specs.Places.{typesOf, Occurs, itself, in-abstraction, in-application-first}
 use Rattle.check_program.specs.Places.{in-application-second, in-pair-first, in-pair-second, in-let-first}
 use Rattle.check_program.specs.Places.{in-let-second, in-lift, in-force, in-box, in-apply-first, in-apply-second}
 use Rattle.check_program.specs.Places.{HasType, Faulty, rule-fails, no-pair, BindsWrongly}
 use Rattle.check_program.specs.Places.{by-abstraction, by-let-first, by-let-second, UsesInside, of-variable, of-label}
-use Rattle.check_program.specs.Places.{Property, At, FaultAt, WrongLabelAt, WrongBinderAt, UseInsideAt, Nowhere, First}
+use Rattle.check_program.specs.Places.{Property, At, FaultAt, WrongLabelAt, WrongBinderAt, NotOnceAt, UseInsideAt, Nowhere, First}
 use Rattle.check_program.specs.Theorems.Agreement.{typeOf, letFound, check-type, binder-type, used-wrongly→}
 use Rattle.check_program.specs.Theorems.Agreement.{→used-wrongly, crosses→, →crosses, given-same}
 
@@ -678,7 +678,7 @@ labels-found L M =
     (λ p h. (let b = h .1 in omega arith, h .2)) (λ p h. (omega arith, let b = h .0 in omega arith, h .1))
     (wrong-label-found M 0 (length L))
 
--- What is decided from the places that were found: w and u of 17, v of 18.
+-- What is decided from the places that were found: u of 17, v of 18.
 not-16 : (A : Ty) (u v : Option ℕ) (p : ℕ) → secondly A u v ≡ refusal 16 p → ⊥
 not-16 A none none p h = let z : _≡_ {A = ℕ} 0 1 = cc in omega arith
 not-16 A none (some q) p h = let z : _≡_ {A = ℕ} 18 16 = cc in omega arith
@@ -693,52 +693,19 @@ decided-17 A u v Q p g = (from u v g, λ f. ap (λ o. secondly A o v) (found-fir
     from none (some q) g h = let z : _≡_ {A = ℕ} 18 17 = cc in absurd (omega arith)
     from none none g h = let z : _≡_ {A = ℕ} 0 1 = cc in absurd (omega arith)
 
-labels-before : (A : Ty) (w u v : Option ℕ) (P Q : ℕ → Type 0) (p : ℕ) → Found w P → Found u Q
-    → (secondly A (earlier w u) v ≡ refusal 17 p) ↔ (First P p ⊎ (Nowhere P × First Q p))
-labels-before A w u v P Q p f g = (from w f, to)
+decided-18 : (A : Ty) (u v : Option ℕ) (Q R : ℕ → Type 0) (p : ℕ) → Found u Q → Found v R
+    → (secondly A u v ≡ refusal 18 p) ↔ (Nowhere Q × First R p)
+decided-18 A u v Q R p g k = (from u v g k, to)
   where
-    from : (w : Option ℕ) → Found w P → secondly A (earlier w u) v ≡ refusal 17 p → First P p ⊎ (Nowhere P × First Q p)
-    from (some q) f h = inl (decided-17 A (some q) v P p f .0 h)
-    from none f h = inr (f, decided-17 A u v Q p g .0 h)
+    from : (u v : Option ℕ) → Found u Q → Found v R → secondly A u v ≡ refusal 18 p → Nowhere Q × First R p
+    from (some q) v g k h = let z : _≡_ {A = ℕ} 18 17 = cc in absurd (omega arith)
+    from none (some q) g k h = let x : q ≡ p = cc in (g, subst (First R) x k)
+    from none none g k h = let z : _≡_ {A = ℕ} 0 1 = cc in absurd (omega arith)
 
-    to : First P p ⊎ (Nowhere P × First Q p) → secondly A (earlier w u) v ≡ refusal 17 p
-    to (inl h) = ap (λ o. secondly A (earlier o u) v) (found-first w P p f h)
-    to (inr h) = ap (λ o. secondly A (earlier o u) v) (found-nowhere w P f (h .0)) ∙ decided-17 A u v Q p g .1 (h .1)
-
-decided-18 : (A : Ty) (w u v : Option ℕ) (P Q R : ℕ → Type 0) (p : ℕ) → Found w P → Found u Q → Found v R
-    → (secondly A (earlier w u) v ≡ refusal 18 p) ↔ (Nowhere P × Nowhere Q × First R p)
-decided-18 A w u v P Q R p f g k = (from w u v f g k, to)
-  where
-    from : (w u v : Option ℕ) → Found w P → Found u Q → Found v R
-        → secondly A (earlier w u) v ≡ refusal 18 p → Nowhere P × Nowhere Q × First R p
-    from (some q) u v f g k h = let z : _≡_ {A = ℕ} 18 17 = cc in absurd (omega arith)
-    from none (some q) v f g k h = let z : _≡_ {A = ℕ} 18 17 = cc in absurd (omega arith)
-    from none none (some q) f g k h = let x : q ≡ p = cc in (f, g, subst (First R) x k)
-    from none none none f g k h = let z : _≡_ {A = ℕ} 0 1 = cc in absurd (omega arith)
-
-    to : Nowhere P × Nowhere Q × First R p → secondly A (earlier w u) v ≡ refusal 18 p
+    to : Nowhere Q × First R p → secondly A u v ≡ refusal 18 p
     to h =
-        ap (λ o. secondly A (earlier o u) v) (found-nowhere w P f (h .0))
-        ∙ ap (λ o. secondly A o v) (found-nowhere u Q g (h .1))
-        ∙ ap (λ o. secondly A none o) (found-first v R p k (h .2))
-
-decided-type : (A B : Ty) (w u v : Option ℕ) (P Q R : ℕ → Type 0) → Found w P → Found u Q → Found v R
-    → (secondly B (earlier w u) v ≡ has-type A) ↔ ((B ≡ A) × Nowhere P × Nowhere Q × Nowhere R)
-decided-type A B w u v P Q R f g k = (from w u v f g k, to)
-  where
-    from : (w u v : Option ℕ) → Found w P → Found u Q → Found v R
-        → secondly B (earlier w u) v ≡ has-type A → (B ≡ A) × Nowhere P × Nowhere Q × Nowhere R
-    from (some q) u v f g k h = let z : _≡_ {A = ℕ} 0 1 = cc in absurd (omega arith)
-    from none (some q) v f g k h = let z : _≡_ {A = ℕ} 0 1 = cc in absurd (omega arith)
-    from none none (some q) f g k h = let z : _≡_ {A = ℕ} 0 1 = cc in absurd (omega arith)
-    from none none none f g k h = (cc, f, g, k)
-
-    to : (B ≡ A) × Nowhere P × Nowhere Q × Nowhere R → secondly B (earlier w u) v ≡ has-type A
-    to h =
-        ap (λ o. secondly B (earlier o u) v) (found-nowhere w P f (h .1))
-        ∙ ap (λ o. secondly B o v) (found-nowhere u Q g (h .2))
-        ∙ ap (λ o. secondly B none o) (found-nowhere v R k (h .3))
-        ∙ ap has-type (h .0)
+        ap (λ o. secondly A o v) (found-nowhere u Q g (h .0))
+        ∙ ap (λ o. secondly A none o) (found-first v R p k (h .1))
 
 -- 16: the check refuses with 16 and place p exactly if p is the first entry of a faulty node.
 pub sixteen : (L : List Wire) (e : ℕ) (M : Term) (p : ℕ)
@@ -753,91 +720,45 @@ sixteen L e M p = go (checkTerm L [] 0 e M) (described L [] 0 e M)
     go (typed A u v) d =
         (λ h. absurd (not-16 A (earlier (wrongLabel M 0 (length L)) u) v p h), λ f. absurd (d .1 p (f .0)))
 
--- 17: the check refuses with 17 and place p exactly if no node is faulty and p is the first label that is not used exactly
--- once or, if all labels are, the first binder of a linear variable that is not.
-pub seventeen : (L : List Wire) (e : ℕ) (M : Term) (p : ℕ)
-    → (verdict L e M ≡ refusal 17 p)
-    ↔ (Nowhere (FaultAt L e M)
-    × (First (WrongLabelAt L M) p ⊎ (Nowhere (WrongLabelAt L M) × First (WrongBinderAt L e M) p)))
-seventeen L e M p = go (checkTerm L [] 0 e M) (described L [] 0 e M)
-  where
-    go : (c : Checked) → Describes L [] 0 e M c
-        → (decided L M c ≡ refusal 17 p)
-        ↔ (Nowhere (FaultAt L e M)
-        × (First (WrongLabelAt L M) p ⊎ (Nowhere (WrongLabelAt L M) × First (WrongBinderAt L e M) p)))
-    go (fault q) d =
-        (λ h. let z : _≡_ {A = ℕ} 16 17 = cc in absurd (omega arith), λ f. absurd (f .0 q (d .1 .0)))
-    go (typed A u v) d =
-        let w = wrongLabel M 0 (length L) in
-        let x = labels-before A w u v (WrongLabelAt L M) (WrongBinderAt L e M) p (labels-found L M) (d .2) in
-        (λ h. (d .1, x .0 h), λ f. x .1 (f .1))
+-- A program whose labels stand before its term, as in a file.
+module _ (L : List Wire) (e : ℕ) (M : Term) (behind : length L ≤ e) where
+  -- The labels are the first of what 17 concerns.
+  not-once-found : (u : Option ℕ) → Found u (WrongBinderAt L e M)
+      → Found (earlier (wrongLabel M 0 (length L)) u) (NotOnceAt L e M)
+  not-once-found u f =
+      found-both (wrongLabel M 0 (length L)) u (WrongLabelAt L M) (WrongBinderAt L e M) before (labels-found L M) f
+    where
+      before : (p q : ℕ) → WrongLabelAt L M p → WrongBinderAt L e M q → p ≤ q
+      before p q h a = let x = h .0 in let y = occurs-within (a .3) .0 in omega arith
 
--- In a file the labels stand before the terms. Then the place of 17 is the first in file order of both kinds.
-pub seventeen-in-file-order : (L : List Wire) (e : ℕ) (M : Term) (p : ℕ)
-    → length L ≤ e
-    → (verdict L e M ≡ refusal 17 p)
-    ↔ (Nowhere (FaultAt L e M) × First (λ q. WrongLabelAt L M q ⊎ WrongBinderAt L e M q) p)
-seventeen-in-file-order L e M p b = go (checkTerm L [] 0 e M) (described L [] 0 e M)
-  where
-    before : (p q : ℕ) → WrongLabelAt L M p → WrongBinderAt L e M q → p ≤ q
-    before p q h a = let x = h .0 in let y = occurs-within (a .3) .0 in omega arith
+  -- 17: the check refuses with 17 and place p exactly if no node is faulty and p is the first label or binder of a linear
+  -- variable that is not used exactly once.
+  pub seventeen : (p : ℕ)
+      → (verdict L e M ≡ refusal 17 p) ↔ (Nowhere (FaultAt L e M) × First (NotOnceAt L e M) p)
+  seventeen p = go (checkTerm L [] 0 e M) (described L [] 0 e M)
+    where
+      go : (c : Checked) → Describes L [] 0 e M c
+          → (decided L M c ≡ refusal 17 p) ↔ (Nowhere (FaultAt L e M) × First (NotOnceAt L e M) p)
+      go (fault q) d =
+          (λ h. let z : _≡_ {A = ℕ} 16 17 = cc in absurd (omega arith), λ f. absurd (f .0 q (d .1 .0)))
+      go (typed A u v) d =
+          let o = earlier (wrongLabel M 0 (length L)) u in
+          let x = decided-17 A o v (NotOnceAt L e M) p (not-once-found u (d .2)) in
+          (λ h. (d .1, x .0 h), λ f. x .1 (f .1))
 
-    go : (c : Checked) → Describes L [] 0 e M c
-        → (decided L M c ≡ refusal 17 p)
-        ↔ (Nowhere (FaultAt L e M) × First (λ q. WrongLabelAt L M q ⊎ WrongBinderAt L e M q) p)
-    go (fault q) d =
-        (λ h. let z : _≡_ {A = ℕ} 16 17 = cc in absurd (omega arith), λ f. absurd (f .0 q (d .1 .0)))
-    go (typed A u v) d =
-        let w = wrongLabel M 0 (length L) in
-        let o = found-both w u (WrongLabelAt L M) (WrongBinderAt L e M) before (labels-found L M) (d .2) in
-        let x = decided-17 A (earlier w u) v (λ q. WrongLabelAt L M q ⊎ WrongBinderAt L e M q) p o in
-        (λ h. (d .1, x .0 h), λ f. x .1 (f .1))
-
--- 18: the check refuses with 18 and place p exactly if no node is faulty, every label and every linear variable is used
--- exactly once, and p is the first linear use inside a lift from outside it.
-pub eighteen : (L : List Wire) (e : ℕ) (M : Term) (p : ℕ)
-    → (verdict L e M ≡ refusal 18 p)
-    ↔ (Nowhere (FaultAt L e M) × Nowhere (WrongLabelAt L M) × Nowhere (WrongBinderAt L e M)
-    × First (UseInsideAt L e M) p)
-eighteen L e M p = go (checkTerm L [] 0 e M) (described L [] 0 e M)
-  where
-    go : (c : Checked) → Describes L [] 0 e M c
-        → (decided L M c ≡ refusal 18 p)
-        ↔ (Nowhere (FaultAt L e M) × Nowhere (WrongLabelAt L M) × Nowhere (WrongBinderAt L e M)
-        × First (UseInsideAt L e M) p)
-    go (fault q) d =
-        (λ h. let z : _≡_ {A = ℕ} 16 18 = cc in absurd (omega arith), λ f. absurd (f .0 q (d .1 .0)))
-    go (typed A u v) d =
-        let w = wrongLabel M 0 (length L) in
-        let l = labels-found L M in
-        let x = decided-18 A w u v (WrongLabelAt L M) (WrongBinderAt L e M) (UseInsideAt L e M) p l (d .2) (d .3) in (
-          λ h. let y = x .0 h in (d .1, y .0, y .1, y .2),
-          λ f. x .1 (f .1, f .2, f .3),
-        )
-
--- The check accepts with type A exactly if plain inference gives A and there is nothing to refuse with 17 or 18.
-pub accepted-with : (L : List Wire) (e : ℕ) (M : Term) (A : Ty)
-    → (verdict L e M ≡ has-type A)
-    ↔ ((infer [] (nth L) M ≡ some A) × Nowhere (WrongLabelAt L M) × Nowhere (WrongBinderAt L e M)
-    × Nowhere (UseInsideAt L e M))
-accepted-with L e M A = go (checkTerm L [] 0 e M) (described L [] 0 e M)
-  where
-    go : (c : Checked) → Describes L [] 0 e M c
-        → (decided L M c ≡ has-type A)
-        ↔ ((infer [] (nth L) M ≡ some A) × Nowhere (WrongLabelAt L M) × Nowhere (WrongBinderAt L e M)
-        × Nowhere (UseInsideAt L e M))
-    go (fault q) d = (
-      λ h. let z : _≡_ {A = ℕ} 0 1 = cc in absurd (omega arith),
-      λ f. absurd (Option·some-ne-none A (sym (f .0) ∙ d .0)),
-    )
-    go (typed B u v) d =
-        let w = wrongLabel M 0 (length L) in
-        let l = labels-found L M in
-        let x = decided-type A B w u v (WrongLabelAt L M) (WrongBinderAt L e M) (UseInsideAt L e M) l (d .2) (d .3) in (
-          λ h. let y = x .0 h in (d .0 ∙ ap some (y .0), y .1, y .2, y .3),
-          λ f.
-              let i = f .0 in
-              let j = d .0 in
-              let k : B ≡ A = cc in
-              x .1 (k, f .1, f .2, f .3),
-        )
+  -- 18: the check refuses with 18 and place p exactly if no node is faulty, every label and every linear variable is used
+  -- exactly once, and p is the first linear use inside a lift from outside it.
+  pub eighteen : (p : ℕ)
+      → (verdict L e M ≡ refusal 18 p)
+      ↔ (Nowhere (FaultAt L e M) × Nowhere (NotOnceAt L e M) × First (UseInsideAt L e M) p)
+  eighteen p = go (checkTerm L [] 0 e M) (described L [] 0 e M)
+    where
+      go : (c : Checked) → Describes L [] 0 e M c
+          → (decided L M c ≡ refusal 18 p)
+          ↔ (Nowhere (FaultAt L e M) × Nowhere (NotOnceAt L e M) × First (UseInsideAt L e M) p)
+      go (fault q) d =
+          (λ h. let z : _≡_ {A = ℕ} 16 18 = cc in absurd (omega arith), λ f. absurd (f .0 q (d .1 .0)))
+      go (typed A u v) d =
+          let o = earlier (wrongLabel M 0 (length L)) u in
+          let x = decided-18 A o v (NotOnceAt L e M) (UseInsideAt L e M) p (not-once-found u (d .2)) (d .3) in
+          (λ h. let y = x .0 h in (d .1, y .0, y .1), λ f. x .1 (f .1, f .2))

@@ -43,7 +43,7 @@ use Rattle.check_program.specs.Checking.{lastly, secondly, decided, verdict}
 use Rattle.check_program.specs.Answers.{labelsOf, termOf, Judged, accepts, refuses, judged, judgedAs, checkOf}
 use Rattle.check_program.specs.Laws.ReadBack.{file-read}
 use Rattle.check_program.specs.Theorems.Agreement.{accepts→has}
-use Rattle.check_program.specs.Places.{First, Nowhere, WrongLabelAt, WrongBinderAt}
+use Rattle.check_program.specs.Places.{NotOnceAt}
 use Rattle.check_program.specs.Theorems.Places.{occurs-within, sixteen, seventeen, eighteen}
 use Rattle.run_answers.specs.Demand2.{OfRead, OfCheck}
 use Rattle.program.specs.Sized.{most-file-entries}
@@ -276,14 +276,14 @@ module _ (L : List Wire) (e : ℕ) (M : Term) (behind : length L ≤ e) where
       → place < e + nodes M
   verdict-place number place (inl n) h =
       let a = sixteen L e M place .0 (h ∙ ap (λ k. refusal k place) n) .0 in occurs-within (a .3) .1
-  verdict-place number place (inr (inl n)) h = of (seventeen L e M place .0 (h ∙ ap (λ k. refusal k place) n) .1)
+  verdict-place number place (inr (inl n)) h =
+      of (seventeen L e M behind place .0 (h ∙ ap (λ k. refusal k place) n) .1 .0)
     where
-      of : First (WrongLabelAt L M) place ⊎ (Nowhere (WrongLabelAt L M) × First (WrongBinderAt L e M) place)
-          → place < e + nodes M
-      of (inl a) = let within = a .0 .0 in omega arith
-      of (inr a) = occurs-within (a .1 .0 .3) .1
+      of : NotOnceAt L e M place → place < e + nodes M
+      of (inl a) = let within = a .0 in omega arith
+      of (inr a) = occurs-within (a .3) .1
   verdict-place number place (inr (inr n)) h =
-      let a = eighteen L e M place .0 (h ∙ ap (λ k. refusal k place) n) .3 .0 in occurs-within (a .3) .1
+      let a = eighteen L e M behind place .0 (h ∙ ap (λ k. refusal k place) n) .2 .0 in occurs-within (a .3) .1
 
 -- A typing refusal is one of the check.
 of-typing : (number place : ℕ) → TypingNumber number → OfCheck (Typing number place)
