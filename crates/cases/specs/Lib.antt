@@ -1,6 +1,7 @@
 pub mod Case
 pub mod BaseCases
 pub mod FirstFaults
+pub mod CopiedPairs
 pub mod Table
 pub mod Answers
 pub mod Theorems

@@ -3,6 +3,7 @@ use mathlib.Core.List.{List, _++_}
 use Rattle.cases.specs.Case.{Case}
 use Rattle.cases.specs.BaseCases.{base-cases}
 use Rattle.cases.specs.FirstFaults.{first-fault-cases}
+use Rattle.cases.specs.CopiedPairs.{pair-cases}
 
 abbrev pub table : List Case
-table = base-cases ++ first-fault-cases
+table = base-cases ++ (first-fault-cases ++ pair-cases)

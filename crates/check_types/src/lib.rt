@@ -23,7 +23,7 @@ ghost use Rattle.rules.specs.Inference.{asPair, asReusable, abstractionType, ap
 ghost use Rattle.rules.specs.Inference.{applyType};
 ghost use Rattle.check_types.specs.Cells.{cellKind, cellFirst, cellSecond, cellSize, Denotes, MeetsOne, MeetsTwo};
 ghost use Rattle.check_types.specs.Cells.{PartsGiven, PartsAre, cellOfTwo, cellOfReusable, afterRule};
-ghost use Rattle.check_types.specs.Compare.{shareOf, SaysSame, SaysWireType};
+ghost use Rattle.check_types.specs.Compare.{shareOf, SaysSame, SaysOfKind, SaysOfCell};
 ghost use Rattle.check_types.specs.Rules.{SaysSameType, SaysIsWireType, MakesTwo, GivesResult, SaysBox};
 ghost use Rattle.rules.specs.GateCodes.{typeEntries, typeCode};
 ghost use Rattle.check_types.specs.Load.{entrySize, loadEntry, loadCodes, TypesLoaded};
@@ -144,47 +144,54 @@ fn same_type(work: &[u8], i: usize, j: usize) -> bool
     same_within(work, i, j, MOST_ENTRIES)
 }
 
-// Is the type of a cell, of at most so many entries, a wire type? There are at most as many calls as of same_within.
-fn wire_type_within(work: &[u8], i: usize, most: usize) -> bool
-    ensures { λ r. ⌜ SaysWireType (words (now (work .entry))) most i r ⌝ }
+// What is asked of a type: is it a wire type, or may it be copied and dropped? A pair is so exactly if both halves are.
+enum Asked {
+    WireType,
+    Copyable,
+}
+
+// The answer for a type of this kind that is no pair.
+fn kind_answer(kind: usize, asked: Asked) -> bool
+    ensures { λ r. ⌜ SaysOfKind asked kind r ⌝ }
+{
+    match asked {
+        Asked::WireType => kind < PAIR_TYPE,
+        Asked::Copyable => REUSABLE <= kind,
+    }
+}
+
+// The answer for the type of a cell, of at most so many entries. There are at most as many calls as of same_within.
+fn answer_within(work: &[u8], i: usize, most: usize, asked: Asked) -> bool
+    ensures { λ r. ⌜ SaysOfCell asked (words (now (work .entry))) most i r ⌝ }
 {
     let kind = cell_kind(work, i);
-    if kind < PAIR_TYPE {
-        return true;
-    }
     if kind != PAIR_TYPE {
-        return false;
+        return kind_answer(kind, asked);
     }
     if most == 0 {
         return false;
     }
     let first = cell_first(work, i);
+    let second = cell_second(work, i);
     let size = share(work, first, most - 1);
-    if !wire_type_within(work, first, size) {
+    if !answer_within(work, first, size, asked) {
         return false;
     }
-    wire_type_within(work, cell_second(work, i), most - 1 - size)
+    answer_within(work, second, most - 1 - size, asked)
 }
 
 // 01: "Wire types are Bit, Qubit and pairs of wire types".
 pub fn is_wire_type(work: &[u8], i: usize) -> bool
     ensures { λ r. ⌜ SaysIsWireType (words (now (work .entry))) i r ⌝ }
 {
-    wire_type_within(work, i, MOST_ENTRIES)
+    answer_within(work, i, MOST_ENTRIES, Asked::WireType)
 }
 
-// 01: "The types that may be copied and dropped are the reusable kind and Circ, and no others".
+// 01: "The types that may be copied and dropped are the reusable kind and Circ"; 02, ticket 2: and a pair "when both halves may".
 pub fn is_copyable(work: &[u8], i: usize) -> bool
     ensures { λ r. ⌜ ((n : ℕ) (A : Ty) → Denotes (words (now (work .entry))) n i A → r ≡ copyable A) ⌝ }
 {
-    let kind = cell_kind(work, i);
-    if kind == REUSABLE {
-        return true;
-    }
-    if kind == CIRCUIT {
-        return true;
-    }
-    false
+    answer_within(work, i, MOST_ENTRIES, Asked::Copyable)
 }
 
 // The cells of a pair's parts.

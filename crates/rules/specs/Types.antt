@@ -29,10 +29,11 @@ isWireType (A ⊸ B) = false
 isWireType (! A) = false
 isWireType (Circ T U) = false
 
--- 01: "The types that may be copied and dropped are the reusable kind and Circ, and no others".
+-- 01: "The types that may be copied and dropped are the reusable kind and Circ". 02, ticket 2: "A pair may now be copied and
+-- dropped when both halves may" (000, 2.3: the parameter types P, R ::= P ⊗ R | !A | Circ(T, U)).
 abbrev pub copyable : Ty → Bool
 copyable (wire α) = false
-copyable (A ⊗ B) = false
+copyable (A ⊗ B) = copyable A && copyable B
 copyable (A ⊸ B) = false
 copyable (! A) = true
 copyable (Circ T U) = true

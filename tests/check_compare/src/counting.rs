@@ -10,7 +10,12 @@ pub enum Wrong {
     Nothing,
     CountEndsAtLift,
     FunctionCopyable,
-    PairCopyable,
+    PairsLinear,
+    OneHalfEnough,
+    FirstHalfOnly,
+    SecondHalfOnly,
+    InnerPairsLinear,
+    InnerPairsCopyable,
     ReusableLinear,
     CircuitLinear,
     Bound511,
@@ -44,10 +49,15 @@ pub enum Wrong {
     MeasToQubit,
 }
 
-pub const PLANTED: [(&str, Wrong); 44] = [
+pub const PLANTED: [(&str, Wrong); 49] = [
     ("counting stops at a lift", Wrong::CountEndsAtLift),
     ("a function may be copied", Wrong::FunctionCopyable),
-    ("a pair may be copied", Wrong::PairCopyable),
+    ("pairs never copied", Wrong::PairsLinear),
+    ("one half of a pair is enough", Wrong::OneHalfEnough),
+    ("the first half of a pair decides", Wrong::FirstHalfOnly),
+    ("the second half of a pair decides", Wrong::SecondHalfOnly),
+    ("outer pair only, inner ones never", Wrong::InnerPairsLinear),
+    ("outer pair only, inner ones always", Wrong::InnerPairsCopyable),
     ("a reusable is linear", Wrong::ReusableLinear),
     ("a circuit is linear", Wrong::CircuitLinear),
     ("bound 511", Wrong::Bound511),
@@ -214,11 +224,20 @@ impl Counting<'_> {
     fn is_copyable(&self, of: &Type) -> bool {
         match of {
             Type::Bit | Type::Qubit => false,
-            Type::Pair(first, second) => {
-                self.wrong == Wrong::PairCopyable
-                    && self.is_copyable(first)
-                    && self.is_copyable(second)
-            }
+            Type::Pair(first, second) => match self.wrong {
+                Wrong::PairsLinear => false,
+                Wrong::OneHalfEnough => self.is_copyable(first) || self.is_copyable(second),
+                Wrong::FirstHalfOnly => self.is_copyable(first),
+                Wrong::SecondHalfOnly => self.is_copyable(second),
+                Wrong::InnerPairsLinear | Wrong::InnerPairsCopyable => {
+                    let always = self.wrong == Wrong::InnerPairsCopyable;
+                    [first, second].into_iter().all(|half| match **half {
+                        Type::Pair(..) => always,
+                        _ => self.is_copyable(half),
+                    })
+                }
+                _ => self.is_copyable(first) && self.is_copyable(second),
+            },
             Type::Function(..) => self.wrong == Wrong::FunctionCopyable,
             Type::Reusable(_) => self.wrong != Wrong::ReusableLinear,
             Type::Circuit(..) => self.wrong != Wrong::CircuitLinear,

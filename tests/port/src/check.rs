@@ -54,8 +54,17 @@ pub fn check(read: &Accepted) -> Result<Rc<Type>, Refusal> {
     }
 }
 
+/// Whether a part that is no pair has a wire or is a function.
 fn is_linear(of: &Type) -> bool {
-    !matches!(of, Type::Reusable(_) | Type::Circuit(..))
+    let mut left = vec![of];
+    while let Some(of) = left.pop() {
+        match of {
+            Type::Pair(first, second) => left.extend([&**first, &**second]),
+            Type::Bit | Type::Qubit | Type::Function(..) => return true,
+            Type::Reusable(_) | Type::Circuit(..) => {}
+        }
+    }
+    false
 }
 
 /// The earlier of two places.

@@ -145,6 +145,9 @@ fn taken_by(held: &Held) -> Option<Rc<Type>> {
     }
 }
 
+/// No pair that may be copied has more entries than this.
+const MOST_PAIRED: usize = 60;
+
 /// A term that can be used, with its type.
 type Made = (Rc<Term>, Rc<Type>);
 
@@ -156,8 +159,8 @@ struct Builder<'a> {
 impl Builder<'_> {
     /// A term that uses every wire in hand, after so many actions.
     fn block(&mut self, mut hand: Hand, actions: usize) -> Made {
-        let is_pair = |held: &Held| matches!(*held.of, Type::Pair(..));
-        if let Some(at) = hand.held.iter().position(is_pair) {
+        let is_wires = |held: &Held| matches!(*held.of, Type::Pair(..)) && !copyable(&held.of);
+        if let Some(at) = hand.held.iter().position(is_wires) {
             let leaf = hand.leaf(&hand.held[at]);
             let held = hand.held.remove(at);
             return self.bind((leaf, held.of), hand, actions);
@@ -169,12 +172,13 @@ impl Builder<'_> {
             return self.new_box(hand, actions);
         }
         for _ in 0..8 {
-            let made = match self.random.below(14) {
+            let made = match self.random.below(16) {
                 0..=2 => self.gate(&mut hand),
                 3 | 4 if hand.boxes < self.plan.boxes => return self.new_box(hand, actions),
                 5 => return self.new_function(hand, actions),
                 6 => self.crossed(&mut hand),
                 7 => self.closure(&mut hand),
+                8 | 9 => self.paired(&hand),
                 _ => self.use_held(&mut hand),
             };
             if let Some(made) = made {
@@ -187,7 +191,8 @@ impl Builder<'_> {
     /// The rest of the block with this bound.
     fn bind(&mut self, (term, of): Made, mut hand: Hand, actions: usize) -> Made {
         if let Type::Pair(first, second) = &*of {
-            if !self.random.one_in(8) {
+            let whole = if copyable(&of) { 2 } else { 8 };
+            if !self.random.one_in(whole) {
                 hand.bind(first);
                 hand.bind(second);
                 let (body, to) = self.block(hand, actions);
@@ -305,8 +310,16 @@ impl Builder<'_> {
         Some((terms::application(closure, argument), to))
     }
 
-    /// A circuit or a reusable in hand is applied, boxed, lifted or doubled.
-    fn use_held(&mut self, hand: &mut Hand) -> Option<Made> {
+    /// Two that may be copied as a pair, which may be copied too.
+    fn paired(&mut self, hand: &Hand) -> Option<Made> {
+        let (one, other) = (self.copied(hand)?, self.copied(hand)?);
+        let of = pair(one.of.clone(), other.of.clone());
+        let term = terms::pair(hand.leaf(&one), hand.leaf(&other));
+        (of.size() <= MOST_PAIRED).then_some((term, of))
+    }
+
+    /// One of those in hand that may be copied.
+    fn copied(&mut self, hand: &Hand) -> Option<Held> {
         let mut held = hand.held.clone();
         held.retain(|held| copyable(&held.of));
         if held.is_empty() {
@@ -317,9 +330,19 @@ impl Builder<'_> {
             0 => 0,
             _ => self.random.below(held.len()),
         };
-        let held = held.swap_remove(at);
+        Some(held.swap_remove(at))
+    }
+
+    /// A circuit or a reusable in hand is applied, boxed, lifted or doubled,
+    /// and a pair of such is taken apart or lifted.
+    fn use_held(&mut self, hand: &mut Hand) -> Option<Made> {
+        let held = self.copied(hand)?;
         let leaf = hand.leaf(&held);
         match &*held.of {
+            Type::Pair(..) if self.random.one_in(6) => {
+                Some((terms::lift(leaf), reusable(held.of.clone())))
+            }
+            Type::Pair(..) => Some((leaf, held.of)),
             Type::Circuit(..) if self.random.one_in(12) => {
                 Some((terms::lift(leaf), reusable(held.of.clone())))
             }
@@ -332,8 +355,9 @@ impl Builder<'_> {
         }
     }
 
-    fn use_reusable(&mut self, hand: &mut Hand, leaf: Rc<Term>, part: &Type) -> Option<Made> {
-        match part {
+    fn use_reusable(&mut self, hand: &mut Hand, leaf: Rc<Term>, part: &Rc<Type>) -> Option<Made> {
+        match &**part {
+            Type::Pair(..) => Some((terms::force(leaf), part.clone())),
             Type::Circuit(from, to) => {
                 let argument = self.argument(hand, from)?;
                 Some((terms::apply(terms::force(leaf), argument), to.clone()))

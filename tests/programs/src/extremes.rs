@@ -167,6 +167,52 @@ pub fn lifts_in_lets(terms: usize) -> Typed {
     typed(0, term, one_qubit())
 }
 
+/// So many pairs of gates, each around the one before, with the type.
+fn pairs_left(count: usize) -> Typed {
+    typed(
+        0,
+        levels(count, gate(0), |inside, _| pair_of(inside, gate(1))),
+        around(count, one_qubit(), |of| pair(of, one_qubit())),
+    )
+}
+
+fn pairs_right(count: usize) -> Typed {
+    typed(
+        0,
+        levels(count, gate(0), |inside, _| pair_of(gate(1), inside)),
+        around(count, one_qubit(), |of| pair(one_qubit(), of)),
+    )
+}
+
+/// So many lets that take the variable outside all of them apart, and drop
+/// both halves.
+fn taken_apart(count: usize) -> Rc<Term> {
+    levels(count, gate(0), |inside, level| {
+        let_in(variable(2 * (count - 1 - level)), inside)
+    })
+}
+
+/// A deep pair of gates, used many times inside a lift. The largest type has
+/// 512 entries.
+pub fn pairs_in_a_lift(terms: usize) -> Typed {
+    let of = pairs_left(126).of;
+    let Some(left) = terms.checked_sub(3) else {
+        return typed(0, gate(0), one_qubit());
+    };
+    let term = abstraction(of.clone(), lift(taken_apart(left / 2)));
+    typed(0, term, function(of, reusable(one_qubit())))
+}
+
+/// The same outside of any lift, nested to the right.
+pub fn pairs_used(terms: usize) -> Typed {
+    let of = pairs_right(126).of;
+    let Some(left) = terms.checked_sub(2) else {
+        return typed(0, gate(0), one_qubit());
+    };
+    let term = abstraction(of.clone(), taken_apart(left / 2));
+    typed(0, term, function(of, one_qubit()))
+}
+
 /// All 64 labels through gates, in one tuple nested to the right.
 pub fn labels(terms: usize) -> Typed {
     const LABELS: usize = 64;
@@ -201,6 +247,8 @@ pub fn all(terms: usize) -> Vec<(&'static str, Typed)> {
         ),
         ("lifts in lets", lifts_in_lets(terms)),
         ("64 labels", labels(terms)),
+        ("pairs of gates in a lift", pairs_in_a_lift(terms)),
+        ("pairs of gates used", pairs_used(terms)),
     ]
 }
 
@@ -212,20 +260,6 @@ pub fn at_the_type_bound() -> Vec<(&'static str, Typed)> {
             0,
             levels(count, gate(0), |inside, _| lift(inside)),
             around(count, one_qubit(), reusable),
-        )
-    };
-    let pairs_left = |count: usize| {
-        typed(
-            0,
-            levels(count, gate(0), |inside, _| pair_of(inside, gate(1))),
-            around(count, one_qubit(), |of| pair(of, one_qubit())),
-        )
-    };
-    let pairs_right = |count: usize| {
-        typed(
-            0,
-            levels(count, gate(0), |inside, _| pair_of(gate(1), inside)),
-            around(count, one_qubit(), |of| pair(one_qubit(), of)),
         )
     };
     let abstractions = |count: usize| {

@@ -2,7 +2,7 @@
 //! the goal is put together from what there is.
 
 use crate::rules::MOST_ENTRIES;
-use crate::sequent::{is_function, is_pair, Sequent};
+use crate::sequent::{is_function, is_pair, Held, Sequent};
 use crate::terms::{abstraction, application, apply, boxed, force, gate, let_in, lift, pair};
 use crate::types::{function, pieces, reusable};
 use program_files::{Random, Term, Type, GATES};
@@ -21,6 +21,9 @@ pub fn plain(sequent: &Sequent, random: &mut Random) -> Option<Rc<Term>> {
         let (held, rest) = sequent.take(at);
         return bind(sequent.leaf(&held), &held.of, &rest, random);
     }
+    if let Some(held) = sequent.closed.last() {
+        return open_pair(sequent, held, random);
+    }
     if sequent.linear.is_empty() {
         if let Some(source) = sequent.source(&sequent.goal) {
             return Some(force(sequent.leaf(source)));
@@ -36,6 +39,10 @@ pub fn plain(sequent: &Sequent, random: &mut Random) -> Option<Rc<Term>> {
     }
     match &*sequent.goal {
         Type::Pair(first, second) => {
+            let known = sequent.variable(&sequent.goal);
+            if known.is_some() && sequent.linear.is_empty() && random.one_in(2) {
+                return known.map(|held| sequent.leaf(held));
+            }
             let (given, rest) = sequent.share(first)?;
             let first = plain(&sequent.with(given, first), random)?;
             let second = plain(&sequent.with(rest, second), random)?;
@@ -74,6 +81,22 @@ pub fn plain(sequent: &Sequent, random: &mut Random) -> Option<Rc<Term>> {
         }
         Type::Function(..) => unreachable!("a function has an abstraction"),
     }
+}
+
+/// Takes a pair that may be copied and dropped apart, at times only where
+/// there is no term without its halves.
+fn open_pair(sequent: &Sequent, held: &Held, random: &mut Random) -> Option<Rc<Term>> {
+    let mut rest = sequent.clone();
+    if random.one_in(2) {
+        rest.closed.clear();
+        let term = plain(&rest, random);
+        if term.is_some() {
+            return term;
+        }
+        rest.closed = sequent.closed.clone();
+    }
+    rest.closed.pop();
+    bind(sequent.leaf(held), &held.of, &rest, random)
 }
 
 /// The gates of this type.

@@ -11,7 +11,11 @@ pub const MOST_ENTRIES: usize = 512;
 
 /// The types that may be copied and dropped.
 pub fn copyable(of: &Type) -> bool {
-    matches!(of, Type::Reusable(_) | Type::Circuit(..))
+    match of {
+        Type::Bit | Type::Qubit | Type::Function(..) => false,
+        Type::Pair(first, second) => copyable(first) && copyable(second),
+        Type::Reusable(_) | Type::Circuit(..) => true,
+    }
 }
 
 /// Which of the rules hold.

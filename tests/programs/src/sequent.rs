@@ -24,6 +24,8 @@ pub struct Held {
 pub struct Sequent {
     pub binders: usize,
     pub copyable: Vec<Held>,
+    /// Those pairs among the copyable ones that no let has taken apart.
+    pub closed: Vec<Held>,
     pub linear: Vec<Held>,
     pub goal: Rc<Type>,
     /// How many boxes there are around the term.
@@ -39,6 +41,7 @@ impl Sequent {
         Sequent {
             binders: 0,
             copyable: Vec::new(),
+            closed: Vec::new(),
             linear,
             goal: goal.clone(),
             boxes: 0,
@@ -62,6 +65,7 @@ impl Sequent {
         Sequent {
             binders: self.binders,
             copyable: self.copyable.clone(),
+            closed: self.closed.clone(),
             linear,
             goal: goal.clone(),
             boxes: self.boxes,
@@ -90,6 +94,9 @@ impl Sequent {
         };
         self.binders += 1;
         if copyable(of) {
+            if is_pair(of) {
+                self.closed.push(held.clone());
+            }
             self.copyable.push(held);
             if !self.open {
                 let mut types = sources_and_sinks().into_iter();

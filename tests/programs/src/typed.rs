@@ -448,7 +448,8 @@ impl Generator<'_> {
         made_of(self.random, &parts, room)
     }
 
-    /// A circuit or reusable function for some of the wires in hand.
+    /// A circuit or reusable function for some of the wires in hand, or pairs
+    /// of such.
     fn type_to_use(&mut self, sequent: &Sequent) -> Option<Rc<Type>> {
         let in_hand = sequent.linear.iter().flat_map(|held| pieces(&held.of));
         let mut wires: Vec<Wire> = in_hand
@@ -466,10 +467,18 @@ impl Generator<'_> {
         let from = wire_type(self.random, &wires);
         let wires = changed_wires(self.random, &wires, 8);
         let to = wire_type(self.random, &wires);
-        Some(match self.random.below(4) {
+        let of = match self.random.below(4) {
             0 => reusable(function(from, to)),
             1 => reusable(circuit(from, to)),
             _ => circuit(from, to),
+        };
+        if of.size() > self.plan.type_size || !self.random.one_in(3) {
+            return Some(of);
+        }
+        let other = self.type_to_use(sequent)?;
+        Some(match self.random.below(2) {
+            0 => pair(of, other),
+            _ => pair(other, of),
         })
     }
 

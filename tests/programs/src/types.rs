@@ -116,7 +116,13 @@ pub fn open_type(random: &mut Random, to: Rc<Type>) -> Rc<Type> {
 /// A type of so many entries, at least 3, that may be copied and dropped and
 /// that some closed term without labels has.
 pub fn parameter_type(random: &mut Random, size: usize) -> Rc<Type> {
-    if size == 3 || (size % 4 == 3 && random.one_in(2)) {
+    if size >= 7 && random.one_in(3) {
+        let first = random.between(3, size - 4);
+        pair(
+            parameter_type(random, first),
+            parameter_type(random, size - 1 - first),
+        )
+    } else if size == 3 || (size % 4 == 3 && random.one_in(2)) {
         let (from, to) = as_many_wires(random, size.div_ceil(4));
         circuit(from, to)
     } else {

@@ -21,6 +21,7 @@ use Rattle.run_answers.specs.Answers.{Ran, runOf, answerTo, outTo, runAnswer, r
 use Rattle.cases.specs.Case.{CheckResult, LimitedRun, limit_gives_, Case, checkedAs, ranWith, computed, AllHold}
 use Rattle.cases.specs.BaseCases.{base-cases}
 use Rattle.cases.specs.FirstFaults.{in-parts, behind-later-numbers, nested, first-fault-cases}
+use Rattle.cases.specs.CopiedPairs.{copied-pairs, linear-pairs, pair-cases}
 use Rattle.cases.specs.Table.{table}
 use Rattle.cases.specs.Answers.{checkAnswerTo, checkOutTo, RunsAnswer, Answers, AllAnswer}
 
@@ -29,8 +30,8 @@ opened : List ℕ → ℕ → Ran
 unfolding check-opened listing flatMap runOf encode programKinds programArguments
 opened f n = runOf f n
 
--- Every case of the table holds: those of 01, and those of ticket 1, whose nodes have faults in their parts, behind one of a later
--- number, and inside each other.
+-- Every case of the table holds: those of 01; those of ticket 1, whose nodes have faults in their parts, behind one of a later
+-- number, and inside each other; those of ticket 2, with pairs that may be copied and pairs that may not.
 pub base-hold : AllHold base-cases
 unfolding opened
 base-hold = refl
@@ -47,6 +48,14 @@ pub nested-hold : AllHold nested
 unfolding opened
 nested-hold = refl
 
+pub copied-pairs-hold : AllHold copied-pairs
+unfolding opened
+copied-pairs-hold = refl
+
+pub linear-pairs-hold : AllHold linear-pairs
+unfolding opened
+linear-pairs-hold = refl
+
 both-hold : (cs ds : List Case) → AllHold cs → AllHold ds → AllHold (cs ++ ds)
 both-hold [] ds h k = k
 both-hold (c ∷ cs) ds h k =
@@ -56,9 +65,11 @@ both-hold (c ∷ cs) ds h k =
 
 pub all-hold : AllHold table
 all-hold =
-    both-hold base-cases first-fault-cases base-hold
+    both-hold base-cases (first-fault-cases ++ pair-cases) base-hold
+    (both-hold first-fault-cases pair-cases
     (both-hold in-parts (behind-later-numbers ++ nested) in-parts-hold
     (both-hold behind-later-numbers nested behind-later-hold nested-hold))
+    (both-hold copied-pairs linear-pairs copied-pairs-hold linear-pairs-hold))
 
 -- The answer to a judgement, by what the table has of it.
 same-answer : (j : Judged) → judgedAnswer j ≡ checkAnswerTo (checkedAs j)

@@ -6,7 +6,7 @@ use mathlib.Core.Bool.{Bool, true, _&&_}
 use mathlib.Core.List.{List, [], _∷_}
 use mathlib.Core.Option.{Option, none, some}
 use lib.Dec.{T as IsTrue}
-use Rattle.rules.specs.Types.{Ty, wire, _⊗_, _⊸_, !_, Circ, isWireType}
+use Rattle.rules.specs.Types.{Ty, wire, _⊗_, _⊸_, !_, Circ, isWireType, copyable}
 use Rattle.rules.specs.Gates.{GateType, _to_, nth, gateTable, gateType}
 use Rattle.rules.specs.Terms.{Tuple, single, both, Boxed, boxed, Term, variable, label, gate, constant, abstraction}
 use Rattle.rules.specs.Terms.{pair, lift, value, tuple, termAt, variableAt, under, substitute}
@@ -30,7 +30,10 @@ copyable-no-label v c (by-gate p n e) = n
 copyable-no-label v c (by-circ p n w b h t) = n
 copyable-no-label v c (by-abs b t) = absurd c
 copyable-no-label v c (by-app g s t u) = absurd v
-copyable-no-label v c (by-tuple b g s t u) = absurd c
+copyable-no-label v c (by-tuple {A = A} {B = B} {M = M} {N = N} b split-end s t u) =
+    let vs = and-parts (value M) (value N) v in
+    let cs = and-parts (copyable A) (copyable B) c in
+    no-label-whole (copyable-no-label (vs .0) (cs .0) t) (copyable-no-label (vs .1) (cs .1) u) s
 copyable-no-label v c (by-let g s t u) = absurd v
 copyable-no-label v c (by-lift b p n t) = n
 copyable-no-label v c (by-force t) = absurd v
