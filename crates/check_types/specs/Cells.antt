@@ -1,12 +1,14 @@
 -- Types as cells in a list of words. Cell i is the quadword of words 4 * i .. 4 * i + 3: its kind, the cell of its first part,
--- the cell of its second part, and the number of entries of the type.
-use Prim.Native.Nat.{ℕ, _+_, _*_, _≤_, _<_}
+-- the cell of its second part, and the number of entries of the type, with a mark if it may be copied and dropped.
+use Prim.Native.Nat.{ℕ, _+_, _*_, _%_, _≤_, _<_}
 use mathlib.Core.Path.{_≡_}
+use mathlib.Core.Bool.{Bool, true, false, _&&_, cond}
 use mathlib.Core.List.{List, [], _∷_}
 use mathlib.Core.Option.{Option, none, some}
 use lib.ListN.{length, getD}
+use lib.Dec.{eqb, leb}
 use Rattle.rules.specs.Kinds.{pair-type-kind, function-kind, reusable-kind, circuit-kind}
-use Rattle.rules.specs.Types.{Wire, Ty, wire, _⊗_, _⊸_, !_, Circ, entries, most-entries, wireCode}
+use Rattle.rules.specs.Types.{Wire, Ty, wire, _⊗_, _⊸_, !_, Circ, copyable, entries, most-entries, wireCode}
 use Rattle.words.specs.Words.{putWords}
 use Rattle.check_types.specs.declared.Ruled.{Ruled}
 use Rattle.check_types.specs.declared.Ruled.the-variants.{Gives, Fails}
@@ -22,8 +24,23 @@ cellFirst w i = getD w (4 * i + 1) 0
 abbrev pub cellSecond : List ℕ → ℕ → ℕ
 cellSecond w i = getD w (4 * i + 2) 0
 
+-- The mark: how much more the fourth word is than the number of entries.
+abbrev pub copyable-mark : ℕ
+copyable-mark = 1024
+
+abbrev pub marked : Bool → ℕ → ℕ
+marked true size = size + copyable-mark
+marked false size = size
+
 abbrev pub cellSize : List ℕ → ℕ → ℕ
-cellSize w i = getD w (4 * i + 3) 0
+cellSize w i = getD w (4 * i + 3) 0 % copyable-mark
+
+abbrev pub cellCopyable : List ℕ → ℕ → Bool
+cellCopyable w i = leb copyable-mark (getD w (4 * i + 3) 0)
+
+-- May the type of this kind, whose parts are the types of cells a and b, be copied and dropped?
+abbrev pub copyableFrom : List ℕ → ℕ → ℕ → ℕ → Bool
+copyableFrom w kind a b = cond (eqb kind pair-type-kind) (cellCopyable w a && cellCopyable w b) (leb reusable-kind kind)
 
 -- 01, type section: "0 Bit, 1 Qubit (no parts); 2 pair, 3 function, 5 circuit (two parts); 4 reusable (one)".
 abbrev pub kindOf : Ty → ℕ
@@ -33,11 +50,12 @@ kindOf (A ⊸ B) = function-kind
 kindOf (! A) = reusable-kind
 kindOf (Circ T U) = circuit-kind
 
--- Cell i is one of the first n cells, and has the kind and the number of entries of A, at most 512.
+-- Cell i is one of the first n cells, has the kind and the number of entries of A, at most 512, and says whether A may be copied.
 pub record Cell (w : List ℕ) (n i : ℕ) (A : Ty) : Type 0 where
   pub below : i < n
   pub kind : cellKind w i ≡ kindOf A
   pub size : cellSize w i ≡ entries A
+  pub copies : cellCopyable w i ≡ copyable A
   pub bounded : entries A ≤ most-entries
 
 -- Cell i, among the first n cells, is the type A: its quadword is A's, and the cells of its parts are the parts of A.
@@ -104,10 +122,10 @@ MeetsTwo rule w w′ n a b r =
 
 -- The words of a cell of this kind with two parts, and of a reusable type.
 abbrev pub cellOfTwo : List ℕ → ℕ → ℕ → ℕ → List ℕ
-cellOfTwo w kind a b = kind ∷ a ∷ b ∷ (1 + cellSize w a + cellSize w b) ∷ []
+cellOfTwo w kind a b = kind ∷ a ∷ b ∷ marked (copyableFrom w kind a b) (1 + cellSize w a + cellSize w b) ∷ []
 
 abbrev pub cellOfReusable : List ℕ → ℕ → List ℕ
-cellOfReusable w a = 4 ∷ a ∷ 0 ∷ (1 + cellSize w a) ∷ []
+cellOfReusable w a = 4 ∷ a ∷ 0 ∷ marked true (1 + cellSize w a) ∷ []
 
 -- The bytes after a rule's function with this answer: cell n has these words where the rule gives it; else nothing changes.
 abbrev pub afterRule : Ruled → List ℕ → ℕ → List ℕ → List ℕ

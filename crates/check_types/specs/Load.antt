@@ -6,7 +6,7 @@ use mathlib.Core.List.{List}
 use lib.ListN.{length, getD}
 use lib.Dec.{ltb, eqb}
 use Rattle.rules.specs.Kinds.{reusable-kind}
-use Rattle.check_types.specs.Cells.{cellSize}
+use Rattle.check_types.specs.Cells.{marked, cellSize, copyableFrom}
 use Rattle.check_types.specs.NewCell.{withCell}
 
 abbrev pub pick : Bool → ℕ → ℕ → ℕ
@@ -26,9 +26,13 @@ entrySize w n kind =
     pick (ltb kind 2) 1
     (pick (eqb kind reusable-kind) (1 + cellSize w (firstBehind n)) (1 + cellSize w (firstBehind n) + cellSize w (secondBehind w n)))
 
+-- The fourth word of its cell.
+abbrev pub entryWord : List ℕ → ℕ → ℕ → ℕ
+entryWord w n kind = marked (copyableFrom w kind (firstBehind n) (secondBehind w n)) (entrySize w n kind)
+
 -- One entry is loaded as cell n.
 unfoldable pub loadEntry : List ℕ → ℕ → ℕ → List ℕ
-loadEntry w n kind = withCell w n kind (firstBehind n) (secondBehind w n) (entrySize w n kind)
+loadEntry w n kind = withCell w n kind (firstBehind n) (secondBehind w n) (entryWord w n kind)
 
 -- The k codes from position p on are loaded as the cells from n on. Position p is loaded last and gets cell n + k - 1.
 unfoldable pub loadCodes : List ℕ → ℕ → (ℕ → ℕ) → ℕ → ℕ → List ℕ

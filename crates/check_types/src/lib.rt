@@ -1,5 +1,5 @@
 // Types as cells in lent memory, and the typing rules on them (01, "Typing"). A cell is a quadword: its kind, the cell of its
-// first part, the cell of its second part, and the number of entries of the type.
+// first part, the cell of its second part, and the number of entries of the type, with a mark if it may be copied and dropped.
 // Nothing to believe. Denotes (specs/Cells) says which type a cell is; each rule's function meets the rule of rules/specs/Inference.
 // Main law: denotes-kept (specs/Laws/Cells), a cell's type stays while cells are only added.
 // Called by the check, and by the run for refusal 20. The contracts have no `requires`: they speak of all types that cells denote.
@@ -21,9 +21,10 @@ ghost use Rattle.words.specs.Words.{words, putWords};
 ghost use Rattle.rules.specs.Types.{Ty, copyable};
 ghost use Rattle.rules.specs.Inference.{asPair, asReusable, abstractionType, applicationType, pairType, liftType, boxType};
 ghost use Rattle.rules.specs.Inference.{applyType};
-ghost use Rattle.check_types.specs.Cells.{cellKind, cellFirst, cellSecond, cellSize, Denotes, MeetsOne, MeetsTwo};
+ghost use Rattle.check_types.specs.Cells.{copyable-mark, marked, cellKind, cellFirst, cellSecond, cellSize, cellCopyable};
+ghost use Rattle.check_types.specs.Cells.{copyableFrom, Denotes, MeetsOne, MeetsTwo};
 ghost use Rattle.check_types.specs.Cells.{PartsGiven, PartsAre, cellOfTwo, cellOfReusable, afterRule};
-ghost use Rattle.check_types.specs.Compare.{shareOf, SaysSame, SaysOfKind, SaysOfCell};
+ghost use Rattle.check_types.specs.Compare.{shareOf, SaysSame, SaysWireType};
 ghost use Rattle.check_types.specs.Rules.{SaysSameType, SaysIsWireType, MakesTwo, GivesResult, SaysBox};
 ghost use Rattle.rules.specs.GateCodes.{typeEntries, typeCode};
 ghost use Rattle.check_types.specs.Load.{entrySize, loadEntry, loadCodes, TypesLoaded};
@@ -46,6 +47,10 @@ pub enum Parts {
 // Cell numbers are words.
 const MOST_CELLS: usize = 65536;
 
+// How much more the fourth word of a cell is than the number of entries if the type may be copied and dropped. It is noted there
+// when the cell is made, so that a use of a variable takes the same time however deep the pairs of its type are.
+const COPYABLE_MARK: usize = 1024;
+
 // What stands in a column of a cell's quadword.
 fn column(work: &[u8], i: usize, k: usize) -> usize
     requires { ⌜ k < 4 ⌝ }
@@ -58,7 +63,8 @@ fn column(work: &[u8], i: usize, k: usize) -> usize
     words::get(work, 4 * i + k)
 }
 
-// The kind of a cell, the cells of its parts and its number of entries; 0 past the end of the buffer.
+// The kind of a cell, the cells of its parts, its number of entries, and whether it may be copied; past the end of the buffer 0
+// and no.
 pub fn cell_kind(work: &[u8], i: usize) -> usize
     ensures { λ r. ⌜ r ≡ cellKind (words (now (work .entry))) i ⌝ }
 {
@@ -79,17 +85,23 @@ pub fn cell_second(work: &[u8], i: usize) -> usize
 
 fn cell_size(work: &[u8], i: usize) -> usize
     ensures { λ r. ⌜ r ≡ cellSize (words (now (work .entry))) i ⌝ }
-    ensures { λ r. ⌜ r < 65536 ⌝ }
+    ensures { λ r. ⌜ r < copyable-mark ⌝ }
 {
-    column(work, i, 3)
+    column(work, i, 3) % COPYABLE_MARK
+}
+
+fn cell_copyable(work: &[u8], i: usize) -> bool
+    ensures { λ r. ⌜ r ≡ cellCopyable (words (now (work .entry))) i ⌝ }
+{
+    COPYABLE_MARK <= column(work, i, 3)
 }
 
 // Quadword n becomes this cell; where the buffer has no such quadword, nothing changes. The words then: cell-put of
 // specs/Laws/NewCell.antt. What the cell then denotes: wire-written, one-part-written and two-parts-written there.
-pub fn new_cell(work: &mut [u8], n: usize, kind: usize, first: usize, second: usize, size: usize)
-    ensures { λ r. ⌜ now (work .exit) ≡ putWords 4 (now (work .entry)) n (kind ∷ first ∷ second ∷ size ∷ []) ⌝ }
+pub fn new_cell(work: &mut [u8], n: usize, kind: usize, first: usize, second: usize, word: usize)
+    ensures { λ r. ⌜ now (work .exit) ≡ putWords 4 (now (work .entry)) n (kind ∷ first ∷ second ∷ word ∷ []) ⌝ }
 {
-    put_quadword(work, n, kind, first, second, size);
+    put_quadword(work, n, kind, first, second, word);
 }
 
 // How many of the entries that are left a cell may have: as many as its quadword says, at most all.
@@ -144,54 +156,65 @@ fn same_type(work: &[u8], i: usize, j: usize) -> bool
     same_within(work, i, j, MOST_ENTRIES)
 }
 
-// What is asked of a type: is it a wire type, or may it be copied and dropped? A pair is so exactly if both halves are.
-enum Asked {
-    WireType,
-    Copyable,
-}
-
-// The answer for a type of this kind that is no pair.
-fn kind_answer(kind: usize, asked: Asked) -> bool
-    ensures { λ r. ⌜ SaysOfKind asked kind r ⌝ }
-{
-    match asked {
-        Asked::WireType => kind < PAIR_TYPE,
-        Asked::Copyable => REUSABLE <= kind,
-    }
-}
-
-// The answer for the type of a cell, of at most so many entries. There are at most as many calls as of same_within.
-fn answer_within(work: &[u8], i: usize, most: usize, asked: Asked) -> bool
-    ensures { λ r. ⌜ SaysOfCell asked (words (now (work .entry))) most i r ⌝ }
+// Is the type of a cell, of at most so many entries, a wire type? There are at most as many calls as of same_within.
+fn wire_type_within(work: &[u8], i: usize, most: usize) -> bool
+    ensures { λ r. ⌜ SaysWireType (words (now (work .entry))) most i r ⌝ }
 {
     let kind = cell_kind(work, i);
+    if kind < PAIR_TYPE {
+        return true;
+    }
     if kind != PAIR_TYPE {
-        return kind_answer(kind, asked);
+        return false;
     }
     if most == 0 {
         return false;
     }
     let first = cell_first(work, i);
-    let second = cell_second(work, i);
     let size = share(work, first, most - 1);
-    if !answer_within(work, first, size, asked) {
+    if !wire_type_within(work, first, size) {
         return false;
     }
-    answer_within(work, second, most - 1 - size, asked)
+    wire_type_within(work, cell_second(work, i), most - 1 - size)
 }
 
 // 01: "Wire types are Bit, Qubit and pairs of wire types".
 pub fn is_wire_type(work: &[u8], i: usize) -> bool
     ensures { λ r. ⌜ SaysIsWireType (words (now (work .entry))) i r ⌝ }
 {
-    answer_within(work, i, MOST_ENTRIES, Asked::WireType)
+    wire_type_within(work, i, MOST_ENTRIES)
 }
 
-// 01: "The types that may be copied and dropped are the reusable kind and Circ"; 02, ticket 2: and a pair "when both halves may".
+// May the type of a cell be copied and dropped?
 pub fn is_copyable(work: &[u8], i: usize) -> bool
     ensures { λ r. ⌜ ((n : ℕ) (A : Ty) → Denotes (words (now (work .entry))) n i A → r ≡ copyable A) ⌝ }
 {
-    answer_within(work, i, MOST_ENTRIES, Asked::Copyable)
+    cell_copyable(work, i)
+}
+
+// May the type of this kind, whose parts are the types of two cells, be copied and dropped? 01: "The types that may be copied and
+// dropped are the reusable kind and Circ"; 02, ticket 2: a pair "when both halves may".
+fn copyable_from(work: &[u8], kind: usize, a: usize, b: usize) -> bool
+    ensures { λ r. ⌜ r ≡ copyableFrom (words (now (work .entry))) kind a b ⌝ }
+{
+    if kind != PAIR_TYPE {
+        return REUSABLE <= kind;
+    }
+    if !cell_copyable(work, a) {
+        return false;
+    }
+    cell_copyable(work, b)
+}
+
+// The fourth word of the cell of such a type with so many entries.
+fn fourth_word(work: &[u8], kind: usize, a: usize, b: usize, size: usize) -> usize
+    requires { ⌜ size < 65536 ⌝ }
+    ensures { λ r. ⌜ r ≡ marked (copyableFrom (words (now (work .entry))) kind a b) size ⌝ }
+{
+    if copyable_from(work, kind, a, b) {
+        return size + COPYABLE_MARK;
+    }
+    size
 }
 
 // The cells of a pair's parts.
@@ -219,7 +242,8 @@ fn two_parts(work: &mut [u8], n: usize, kind: usize, a: usize, b: usize) -> Rule
     if MOST_CELLS <= n {
         return Ruled::Fails;
     }
-    new_cell(work, n, kind, a, b, size);
+    let word = fourth_word(work, kind, a, b, size);
+    new_cell(work, n, kind, a, b, word);
     Ruled::Gives {
         cell: n,
         cells: n + 1,
@@ -253,7 +277,7 @@ pub fn lift_type(work: &mut [u8], n: usize, a: usize) -> Ruled
     if MOST_CELLS <= n {
         return Ruled::Fails;
     }
-    new_cell(work, n, REUSABLE, a, 0, size);
+    new_cell(work, n, REUSABLE, a, 0, size + COPYABLE_MARK);
     Ruled::Gives {
         cell: n,
         cells: n + 1,
@@ -343,6 +367,7 @@ pub fn box_type(work: &mut [u8], n: usize, t: usize, a: usize) -> Ruled
 // The entries of the type that is loaded as cell n.
 fn entry_size(work: &[u8], n: usize, kind: usize) -> usize
     ensures { λ r. ⌜ r ≡ entrySize (words (now (work .entry))) n kind ⌝ }
+    ensures { λ r. ⌜ r < 65536 ⌝ }
 {
     if kind < PAIR_TYPE {
         return 1;
@@ -363,7 +388,8 @@ fn load_entry(work: &mut [u8], n: usize, kind: usize)
     let size = entry_size(work, n, kind);
     let first = saturating_sub(n, 1);
     let second = saturating_sub(first, cell_size(work, first));
-    new_cell(work, n, kind, first, second, size);
+    let word = fourth_word(work, kind, first, second, size);
+    new_cell(work, n, kind, first, second, word);
 }
 
 // Loads a string of types in preorder as the cells from n on, from its last entry to its first: position p of P becomes

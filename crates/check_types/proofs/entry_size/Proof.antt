@@ -1,5 +1,6 @@
 -- `check_types::entry_size` meets its contract: by the number of parts. Assumes nothing.
 use Prim.Native.Nat.{_+_, _-_}
+use native.Mathlib.Omega.{arith}
 use mathlib.Core.Path.{_∙_, ap, ap₂}
 use Rattle.words.specs.Words.{words}
 use Rattle.check_types.specs.Cells.{cellSize}
@@ -12,7 +13,7 @@ returns : tie.Need-returns
 returns c =
     let s = c .before .before .args in
     let w = words (s .work .now) in
-    size-of-wire w (s .n) (s .kind) (c .if1 .taken)
+    (size-of-wire w (s .n) (s .kind) (c .if1 .taken), omega arith)
 
 saturating-sub-requires : tie.Need-saturating-sub-requires
 saturating-sub-requires c κs = search needs
@@ -28,7 +29,7 @@ returns-2 c =
     let s = c .before .before .before .before .before .args in
     let w = words (s .work .now) in
     let e = c .before .cell-size .ensures .0 ∙ ap (cellSize w) (c .before .before .saturating-sub .ensures) in
-    ap (λ x. 1 + x) e ∙ size-of-one w (s .n) (s .kind) (c .if2 .taken)
+    (ap (λ x. 1 + x) e ∙ size-of-one w (s .n) (s .kind) (c .if2 .taken), omega (arith, c .before .cell-size .ensures .1))
 
 add-result-2 : tie.Need-add-result-2
 add-result-2 c = search needs
@@ -48,8 +49,11 @@ returns-3 c =
     let w = words (s .work .now) in
     let e = c .before .before .before .cell-size .ensures .0 ∙ ap (cellSize w) (c .before .before .before .before .saturating-sub .ensures) in
     let behind = c .before .saturating-sub2 .ensures ∙ ap₂ (λ x y. x - y) (c .before .before .before .before .saturating-sub .ensures) e in
-    let e2 = c .cell-size2 .ensures .0 ∙ ap (cellSize w) behind in
-    ap₂ (λ x y. 1 + x + y) e e2 ∙ size-of-two w (s .n) (s .kind) (c .before .before .before .before .before .if1 .left) (c .before .before .if2 .left)
+    let e2 = c .cell-size2 .ensures .0 ∙ ap (cellSize w) behind in (
+      ap₂ (λ x y. 1 + x + y) e e2
+          ∙ size-of-two w (s .n) (s .kind) (c .before .before .before .before .before .if1 .left) (c .before .before .if2 .left),
+      omega (arith, c .before .before .before .cell-size .ensures .1, c .cell-size2 .ensures .1),
+    )
 
 pub entry-size-spec : {M : Type 1} → statement M
 entry-size-spec =

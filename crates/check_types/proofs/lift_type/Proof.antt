@@ -29,6 +29,9 @@ same-length-2 c = search needs
 returns-2 : tie.Need-returns-2
 returns-2 c = (λ room A d. absurd (omega (arith, room .number-fits, c .if2 .taken)), refl)
 
+add-new-cell : tie.Need-add-new-cell
+add-new-cell c = search needs
+
 new-cell-requires : tie.Need-new-cell-requires
 new-cell-requires c κs = search needs
 
@@ -58,6 +61,7 @@ lift-type-spec =
     returns
     same-length-2
     returns-2
+    add-new-cell
     new-cell-requires
     add-t5
     same-length-3

@@ -18,6 +18,9 @@ cell-size-requires c κs = search needs
 saturating-sub-requires-2 : tie.Need-saturating-sub-requires-2
 saturating-sub-requires-2 c κs = search needs
 
+fourth-word-requires : tie.Need-fourth-word-requires
+fourth-word-requires c κs = search needs
+
 new-cell-requires : tie.Need-new-cell-requires
 new-cell-requires c κs = search needs
 
@@ -26,14 +29,16 @@ same-length c = search needs
 
 returns : tie.Need-returns
 returns c =
-    let s = c .before .before .before .before .before .before .before .before .before .before .before .args in
+    let s = c .before .before .before .before .before .before .before .before .before .before .before .before .before .args in
     let new = c .before .before .new-cell in
-    let first = c .before .before .before .before .before .before .before .saturating-sub in
-    let size = c .before .before .before .before .before .cell-size in
-    let second = c .before .before .before .before .saturating-sub2 in
-    let all = c .before .before .before .before .before .before .before .before .entry-size in (
-      entry-loaded (words (s .work .now)) (words (new .last .0)) (s .n) (s .kind) (first .result) (second .result) (all .result) (size .result)
-          (first .ensures) (size .ensures .0) (second .ensures) (all .ensures) (cell-put _ _ _ _ _ _ _ (new .ensures)),
+    let first = c .before .before .before .before .before .before .before .before .before .saturating-sub in
+    let size = c .before .before .before .before .before .before .before .cell-size in
+    let second = c .before .before .before .before .before .before .saturating-sub2 in
+    let all = c .before .before .before .before .before .before .before .before .before .before .entry-size in
+    let word = c .before .before .before .before .fourth-word in (
+      entry-loaded (words (s .work .now)) (words (new .last .0)) (s .n) (s .kind)
+          (first .result) (second .result) (all .result) (word .result) (size .result)
+          (first .ensures) (size .ensures .0) (second .ensures) (all .ensures .0) (word .ensures) (cell-put _ _ _ _ _ _ _ (new .ensures)),
       new .kept .0,
     )
 
@@ -45,6 +50,7 @@ load-entry-spec =
     saturating-sub-requires
     cell-size-requires
     saturating-sub-requires-2
+    fourth-word-requires
     new-cell-requires
     same-length
     returns)

@@ -38,24 +38,28 @@ same-length-2 c = search needs
 returns-2 : tie.Need-returns-2
 returns-2 c = (λ A B C m room d e. absurd (omega (arith, room .number-fits, c .if2 .taken)), refl)
 
+fourth-word-requires : tie.Need-fourth-word-requires
+fourth-word-requires c κs = search needs
+
 new-cell-requires : tie.Need-new-cell-requires
 new-cell-requires c κs = search needs
 
-add-t7 : tie.Need-add-t7
-add-t7 c = search needs
+add-t8 : tie.Need-add-t8
+add-t8 c = search needs
 
 same-length-3 : tie.Need-same-length-3
 same-length-3 c = search needs
 
 returns-3 : tie.Need-returns-3
 returns-3 c =
-    let s = c .before .before .before .before .before .before .before .before .before .before .before .args in
-    let x = c .before .before .before .before .before .before .before .before .cell-size in
-    let y = c .before .before .before .before .before .before .cell-size2 in
+    let s = c .before .before .before .before .before .before .before .before .before .before .before .before .before .args in
+    let x = c .before .before .before .before .before .before .before .before .before .before .cell-size in
+    let y = c .before .before .before .before .before .before .before .before .cell-size2 in
+    let word = c .before .before .before .before .fourth-word in
     let new = c .before .before .new-cell in (
       makes-cell (words (s .work .now)) (s .n) (s .kind) (s .a) (s .b) (x .result) (y .result) (x .ensures .0) (y .ensures .0)
-          (words (new .last .0)) (c .before .before .before .before .before .if1 .left) (cell-put _ _ _ _ _ _ _ (new .ensures)),
-      cc (new .ensures, x .ensures .0, y .ensures .0),
+          (words (new .last .0)) (word .result) (c .before .before .before .before .before .before .before .if1 .left) (word .ensures) (cell-put _ _ _ _ _ _ _ (new .ensures)),
+      cc (new .ensures, word .ensures, x .ensures .0, y .ensures .0),
     )
 
 pub two-parts-spec : {M : Type 1} → statement M
@@ -70,7 +74,8 @@ two-parts-spec =
     returns
     same-length-2
     returns-2
+    fourth-word-requires
     new-cell-requires
-    add-t7
+    add-t8
     same-length-3
     returns-3)

@@ -1,11 +1,16 @@
 -- Laws of the meaning of cells.
-use Prim.Native.Nat.{ℕ, _+_, _*_, _≤_}
+use Prim.Native.Nat.{ℕ, _+_, _*_, _%_, _≤_}
 use native.Mathlib.Omega.{arith}
-use mathlib.Core.Path.{_≡_, refl, sym, _∙_, subst}
+use mathlib.Core.Path.{_≡_, refl, sym, _∙_, ap, ap₂, subst}
+use mathlib.Core.Logic.{_≢_}
+use mathlib.Core.Bool.{_&&_, cond}
 use mathlib.Core.List.{List}
-use Rattle.rules.specs.Kinds.{reusable-kind}
-use Rattle.rules.specs.Types.{Wire, Ty, wire, !_, entries, wireCode}
-use Rattle.check_types.specs.Cells.{cellKind, cellFirst, cellSecond, Cell, Agree, Denotes, wire-cell, pair-cell}
+use lib.Dec.{leb}
+use borrow.Author.Tests.{ne-eqb}
+use Rattle.rules.specs.Kinds.{pair-type-kind, reusable-kind}
+use Rattle.rules.specs.Types.{Wire, Ty, wire, !_, copyable, entries, wireCode}
+use Rattle.check_types.specs.Cells.{copyable-mark, cellKind, cellFirst, cellSecond, cellCopyable, copyableFrom, Cell}
+use Rattle.check_types.specs.Cells.{Agree, Denotes, wire-cell, pair-cell}
 use Rattle.check_types.specs.Cells.{function-cell, reusable-cell, circuit-cell, Made, made-pair, made-function}
 use Rattle.check_types.specs.Cells.{made-circuit}
 
@@ -34,7 +39,8 @@ cell-kept {i = i} a h r =
     record {
       below = omega arith;
       kind = a .words-same (4 * i) (omega arith) ∙ r .kind;
-      size = a .words-same (4 * i + 3) (omega arith) ∙ r .size;
+      size = ap (λ x. x % copyable-mark) (a .words-same (4 * i + 3) (omega arith)) ∙ r .size;
+      copies = ap (leb copyable-mark) (a .words-same (4 * i + 3) (omega arith)) ∙ r .copies;
       bounded = r .bounded;
     }
 
@@ -68,6 +74,21 @@ pub made-entries : {k : ℕ} {A B C : Ty} → Made k A B C → entries C ≡ 1 +
 made-entries made-pair = refl
 made-entries made-function = refl
 made-entries made-circuit = refl
+
+-- Whether it may be copied: by its kind if it is no pair, else by its parts.
+pub copyable-by-kind : (w : List ℕ) (kind a b : ℕ) → kind ≢ pair-type-kind → leb reusable-kind kind ≡ copyableFrom w kind a b
+copyable-by-kind w kind a b f =
+    ap (λ t. cond t (cellCopyable w a && cellCopyable w b) (leb reusable-kind kind)) (sym (ne-eqb kind pair-type-kind f))
+
+pub copyable-by-halves : (w : List ℕ) (kind a b : ℕ) → kind ≡ pair-type-kind
+    → cellCopyable w a && cellCopyable w b ≡ copyableFrom w kind a b
+copyable-by-halves w kind a b e = ap (λ k. copyableFrom w k a b) (sym e)
+
+pub made-copyable : {w : List ℕ} {n a b k : ℕ} {A B C : Ty}
+    → Made k A B C → Denotes w n a A → Denotes w n b B → copyableFrom w k a b ≡ copyable C
+made-copyable made-pair d e = ap₂ _&&_ (cell-of d .copies) (cell-of e .copies)
+made-copyable made-function d e = refl
+made-copyable made-circuit d e = refl
 
 pub made-kind : {k : ℕ} {A B C : Ty} → Made k A B C → 2 ≤ k
 made-kind made-pair = omega arith

@@ -4,10 +4,8 @@ use native.Mathlib.Omega.{arith}
 use mathlib.Core.Path.{_≡_, refl, sym, _∙_, ap, subst}
 use mathlib.Core.Bool.{Bool, true, false, _&&_}
 use mathlib.Core.List.{List}
-use mathlib.Core.Logic.{_≢_}
-use lib.Dec.{ltb, leb}
 use Rattle.rules.specs.Kinds.{pair-type-kind, reusable-kind}
-use Rattle.rules.specs.Types.{Wire, Bit, Qubit, Ty, wire, _⊗_, _⊸_, !_, Circ, entries, Wire-discrete, Ty-discrete, wireCode}
+use Rattle.rules.specs.Types.{Wire, Ty, wire, !_, entries, isWireType, Wire-discrete, Ty-discrete, wireCode}
 use Rattle.rules.specs.Inference.{same, isYes}
 use Rattle.rules.specs.Laws.TypeCodes.{entries-positive, wire-kind, same-wire}
 use Rattle.check_types.specs.Cells.{cellKind, cellFirst, cellSecond, kindOf, Denotes, wire-cell, pair-cell}
@@ -15,9 +13,7 @@ use Rattle.check_types.specs.Cells.{function-cell, reusable-cell, circui
 use Rattle.check_types.specs.Cells.{made-circuit}
 use Rattle.check_types.specs.Laws.Cells.{cell-of, made-entries, made-kind, made-not-reusable, made-whole, made-first}
 use Rattle.check_types.specs.Laws.Cells.{made-second, View, no-part, two-parts, one-part, view}
-use Rattle.check_types.specs.declared.Asked.{Asked}
-use Rattle.check_types.specs.declared.Asked.the-variants.{WireType, Copyable}
-use Rattle.check_types.specs.Compare.{shareOf, SaysSame, answer, SaysOfKind, SaysOfCell}
+use Rattle.check_types.specs.Compare.{shareOf, SaysSame, SaysWireType}
 
 -- `same` says whether two types are equal.
 yes-true : {X : Type 0} (d : Dec X) → X → true ≡ isYes d
@@ -176,64 +172,63 @@ module _ (w : List ℕ) (most i j : ℕ) where
           as-second m m′ r (same-equal A A′ f) s
       go (alike-one {A = A} {A′ = A′} k x x′) b = absurd (h′ k)
 
--- What is asked of a type. The answer of a type that is no pair is that of its kind.
-pub wire-kinds : (k : ℕ) → SaysOfKind WireType k (ltb k pair-type-kind)
-wire-kinds k (wire Bit) e f = ap (λ x. ltb x pair-type-kind) (sym e)
-wire-kinds k (wire Qubit) e f = ap (λ x. ltb x pair-type-kind) (sym e)
-wire-kinds k (A ⊗ B) e f = absurd (f (sym e))
-wire-kinds k (A ⊸ B) e f = ap (λ x. ltb x pair-type-kind) (sym e)
-wire-kinds k (! A) e f = ap (λ x. ltb x pair-type-kind) (sym e)
-wire-kinds k (Circ T U) e f = ap (λ x. ltb x pair-type-kind) (sym e)
-
-pub copyable-kinds : (k : ℕ) → SaysOfKind Copyable k (leb reusable-kind k)
-copyable-kinds k (wire Bit) e f = ap (leb reusable-kind) (sym e)
-copyable-kinds k (wire Qubit) e f = ap (leb reusable-kind) (sym e)
-copyable-kinds k (A ⊗ B) e f = absurd (f (sym e))
-copyable-kinds k (A ⊸ B) e f = ap (leb reusable-kind) (sym e)
-copyable-kinds k (! A) e f = ap (leb reusable-kind) (sym e)
-copyable-kinds k (Circ T U) e f = ap (leb reusable-kind) (sym e)
-
--- That of a pair is the answer of both halves.
-of-pair : (asked : Asked) (A B : Ty) → answer asked A && answer asked B ≡ answer asked (A ⊗ B)
-of-pair WireType A B = refl
-of-pair Copyable A B = refl
-
--- The halves of a cell of the kind of a pair.
-data Halves (w : List ℕ) (n i : ℕ) : Ty → Type 0 where
-  halves : {A B : Ty} → Denotes w n (cellFirst w i) A → Denotes w n (cellSecond w i) B → Halves w n i (A ⊗ B)
-
-halves-of : {w : List ℕ} {n i : ℕ} {A : Ty} → cellKind w i ≡ pair-type-kind → Denotes w n i A → Halves w n i A
-halves-of e (wire-cell {α = α} r) = absurd (omega (arith, r .kind, wire-kind α))
-halves-of e (pair-cell r x y) = halves x y
-halves-of e (function-cell r x y) = absurd (omega (arith, r .kind))
-halves-of e (reusable-cell r x) = absurd (omega (arith, r .kind))
-halves-of e (circuit-cell r x y) = absurd (omega (arith, r .kind))
-
-module _ (w : List ℕ) (most i : ℕ) (asked : Asked) where
-  pub no-pair : (r : Bool) → cellKind w i ≢ pair-type-kind → SaysOfKind asked (cellKind w i) r → SaysOfCell asked w most i r
-  no-pair r f says n A d b = says A (sym (cell-of d .kind)) f
-
-  pub no-entries : (r : Bool) → most ≡ 0 → SaysOfCell asked w most i r
-  no-entries r e n A d b = absurd (omega (arith, entries-positive A))
-
-  pub not-the-first : cellKind w i ≡ pair-type-kind
-      → SaysOfCell asked w (shareOf w (cellFirst w i) (most - 1)) (cellFirst w i) false
-      → SaysOfCell asked w most i false
-  not-the-first e first n A d b = go (halves-of e d) b
+-- The test for a wire type.
+module _ (w : List ℕ) (most i : ℕ) where
+  pub is-wire : cellKind w i < 2 → SaysWireType w most i true
+  is-wire h n A d b = go (view d)
     where
-      go : {A : Ty} → Halves w n i A → entries A ≤ most → false ≡ answer asked A
-      go (halves {A = A} {B = B} x y) b =
-          ap (λ t. t && answer asked B) (first n A x (omega (arith, cell-of x .size))) ∙ of-pair asked A B
+      go : {A : Ty} → View w n i A → true ≡ isWireType A
+      go (no-part α k) = refl
+      go (two-parts m k x y) = absurd (omega (arith, made-kind m))
+      go (one-part k x) = absurd (omega arith)
 
-  pub as-the-second : (r : Bool)
+  pub no-wire : 2 ≤ cellKind w i → (cellKind w i ≡ pair-type-kind → ⊥) → SaysWireType w most i false
+  no-wire h h′ n A d b = go (view d)
+    where
+      made : {k : ℕ} {A B C : Ty} → Made k A B C → (k ≡ pair-type-kind → ⊥) → false ≡ isWireType C
+      made made-pair f = absurd (f refl)
+      made made-function f = refl
+      made made-circuit f = refl
+
+      go : {A : Ty} → View w n i A → false ≡ isWireType A
+      go (no-part α k) = absurd (omega (arith, wire-kind α))
+      go (two-parts m k x y) = made m λ e. h′ (k ∙ e)
+      go (one-part k x) = refl
+
+  pub no-wire-entries : (r : Bool) → most ≡ 0 → SaysWireType w most i r
+  no-wire-entries r e n A d b = absurd (omega (arith, entries-positive A))
+
+  pub first-no-wire : cellKind w i ≡ pair-type-kind
+      → SaysWireType w (shareOf w (cellFirst w i) (most - 1)) (cellFirst w i) false
+      → SaysWireType w most i false
+  first-no-wire e first n A d b = go (view d) b
+    where
+      made : {k : ℕ} {A B C : Ty} → Made k A B C → k ≡ pair-type-kind → false ≡ isWireType A → false ≡ isWireType C
+      made (made-pair {A = A} {B = B}) f g = ap (λ t. t && isWireType B) g
+      made made-function f g = refl
+      made made-circuit f g = refl
+
+      go : {A : Ty} → View w n i A → entries A ≤ most → false ≡ isWireType A
+      go (no-part α k) b = absurd (omega (arith, wire-kind α))
+      go (two-parts {A = A} m k x y) b = made m (sym k ∙ e) (first n A x (omega (arith, made-entries m, cell-of x .size)))
+      go (one-part k x) b = refl
+
+  pub then-second-wire : (r : Bool)
       → cellKind w i ≡ pair-type-kind
-      → SaysOfCell asked w (shareOf w (cellFirst w i) (most - 1)) (cellFirst w i) true
-      → SaysOfCell asked w (most - 1 - shareOf w (cellFirst w i) (most - 1)) (cellSecond w i) r
-      → SaysOfCell asked w most i r
-  as-the-second r e first second n A d b = go (halves-of e d) b
+      → SaysWireType w (shareOf w (cellFirst w i) (most - 1)) (cellFirst w i) true
+      → SaysWireType w (most - 1 - shareOf w (cellFirst w i) (most - 1)) (cellSecond w i) r
+      → SaysWireType w most i r
+  then-second-wire r e first second n A d b = go (view d) b
     where
-      go : {A : Ty} → Halves w n i A → entries A ≤ most → r ≡ answer asked A
-      go (halves {A = A} {B = B} x y) b =
-          second n B y (omega (arith, cell-of x .size))
-          ∙ ap (λ t. t && answer asked B) (first n A x (omega (arith, cell-of x .size)))
-          ∙ of-pair asked A B
+      made : {k : ℕ} {A B C : Ty} → Made k A B C → k ≡ pair-type-kind → true ≡ isWireType A → r ≡ isWireType B → r ≡ isWireType C
+      made (made-pair {A = A} {B = B}) f g s = s ∙ ap (λ t. t && isWireType B) g
+      made made-function f g s = absurd (omega arith)
+      made made-circuit f g s = absurd (omega arith)
+
+      go : {A : Ty} → View w n i A → entries A ≤ most → r ≡ isWireType A
+      go (no-part α k) b = absurd (omega (arith, wire-kind α))
+      go (two-parts {A = A} {B = B} m k x y) b =
+          made m (sym k ∙ e)
+          (first n A x (omega (arith, made-entries m, cell-of x .size)))
+          (second n B y (omega (arith, made-entries m, cell-of x .size)))
+      go (one-part k x) b = absurd (omega arith)

@@ -9,15 +9,18 @@ use lib.Seq.{getD-append-add}
 use lib.Dec.{ltb, eqb}
 use borrow.Author.Tests.{lt-ltb, le-ltb, ne-eqb}
 use Rattle.rules.specs.Kinds.{reusable-kind}
-use Rattle.rules.specs.Types.{Wire, Bit, Qubit, Ty, wire, _⊗_, _⊸_, !_, Circ, entries, most-entries, wireCode, typeCodes}
+use Rattle.rules.specs.Types.{Wire, Bit, Qubit, Ty, wire, _⊗_, _⊸_, !_, Circ, copyable, entries, most-entries, wireCode}
+use Rattle.rules.specs.Types.{typeCodes}
 use Rattle.rules.specs.GateCodes.{codeAt}
 use Rattle.rules.specs.Laws.TypeCodes.{typeCodes-entries, entries-positive}
-use Rattle.check_types.specs.Cells.{cellSize, Denotes, Agree, Room, Made, made-pair, made-function, made-circuit}
+use Rattle.check_types.specs.Cells.{marked, cellSize, copyableFrom, Denotes, Agree, Room, Made, made-pair, made-function}
+use Rattle.check_types.specs.Cells.{made-circuit}
 use Rattle.check_types.specs.Laws.Cells.{cell-of, agree-refl, agree-less, agree-trans, denotes-kept, made-entries}
+use Rattle.check_types.specs.Laws.Cells.{made-copyable}
 use Rattle.check_types.specs.NewCell.{withCell}
 use Rattle.check_types.specs.Laws.NewCell.{length-withCell, word-above-cell, agree-withCell, two-parts-written}
 use Rattle.check_types.specs.Laws.NewCell.{one-part-written, wire-written}
-use Rattle.check_types.specs.Load.{pick, firstBehind, secondBehind, entrySize, loadEntry, loadCodes, codesOf}
+use Rattle.check_types.specs.Load.{pick, firstBehind, secondBehind, entrySize, entryWord, loadEntry, loadCodes, codesOf}
 use Rattle.check_types.specs.Load.{TypesLoaded}
 
 -- The codes f have the type A in preorder at position p.
@@ -52,34 +55,35 @@ size-of-two w n kind h f =
     ap (λ b. pick b (1 + s) (1 + s + t)) (sym (ne-eqb kind reusable-kind f))
     ∙ ap (λ b. pick b 1 (pick (eqb kind reusable-kind) (1 + s) (1 + s + t))) (sym (le-ltb kind 2 h))
 
--- A cell with these parts and this size, however they were computed, is the entry loaded.
-pub entry-loaded : (w w′ : List ℕ) (n kind first second size t : ℕ)
+-- A cell with these parts and this fourth word, however they were computed, is the entry loaded.
+pub entry-loaded : (w w′ : List ℕ) (n kind first second size word t : ℕ)
     → first ≡ n - 1
     → t ≡ cellSize w first
     → second ≡ first - t
     → size ≡ entrySize w n kind
-    → w′ ≡ withCell w n kind first second size
+    → word ≡ marked (copyableFrom w kind first second) size
+    → w′ ≡ withCell w n kind first second word
     → w′ ≡ loadEntry w n kind
 unfolding loadEntry
-entry-loaded w w′ n kind first second size t f e g s r =
+entry-loaded w w′ n kind first second size word t f e g s m r =
     let second-cell : second ≡ secondBehind w n = g ∙ ap₂ (λ i j. i - j) f (e ∙ ap (cellSize w) f) in
     r
-    ∙ ap₂ (λ i j. withCell w n kind i j size) f second-cell
-    ∙ ap (λ z. withCell w n kind (firstBehind n) (secondBehind w n) z) s
+    ∙ ap (λ z. withCell w n kind first second z) (m ∙ ap (marked (copyableFrom w kind first second)) s)
+    ∙ ap₂ (λ i j. withCell w n kind i j (marked (copyableFrom w kind i j) (entrySize w n kind))) f second-cell
 
 -- What loading one entry keeps.
 pub length-loadEntry : (w : List ℕ) (n kind : ℕ) → length (loadEntry w n kind) ≡ length w
 unfolding loadEntry
-length-loadEntry w n kind = length-withCell w n kind (firstBehind n) (secondBehind w n) (entrySize w n kind)
+length-loadEntry w n kind = length-withCell w n kind (firstBehind n) (secondBehind w n) (entryWord w n kind)
 
 pub agree-loadEntry : (w : List ℕ) (n kind : ℕ) → Agree w (loadEntry w n kind) n
 unfolding loadEntry
-agree-loadEntry w n kind = agree-withCell w n kind (firstBehind n) (secondBehind w n) (entrySize w n kind)
+agree-loadEntry w n kind = agree-withCell w n kind (firstBehind n) (secondBehind w n) (entryWord w n kind)
 
 pub above-loadEntry : (w : List ℕ) (n kind k : ℕ) → 4 * n + 4 ≤ k → getD (loadEntry w n kind) k 0 ≡ getD w k 0
 unfolding loadEntry
 above-loadEntry w n kind k h =
-    word-above-cell w n kind (firstBehind n) (secondBehind w n) (entrySize w n kind) k h
+    word-above-cell w n kind (firstBehind n) (secondBehind w n) (entryWord w n kind) k h
 
 -- The entry that was loaded, by the number of its parts.
 pub entry-wire : (w : List ℕ) (n : ℕ) (α : Wire) → 4 * n + 4 ≤ length w → Denotes (loadEntry w n (wireCode α)) (n + 1) n (wire α)
@@ -92,12 +96,13 @@ entry-one : (w : List ℕ) (n : ℕ) {A : Ty} → Room w n → Denotes w n (n - 
 unfolding loadEntry entrySize
 entry-one w n room d h =
     let s = cell-of d .size in
-    one-part-written w n (firstBehind n) (secondBehind w n) (1 + cellSize w (firstBehind n)) room d (omega arith) h
+    one-part-written w n (firstBehind n) (secondBehind w n) (entryWord w n 4) room d (omega arith) h
 
-two-sizes : (w : List ℕ) (n a b : ℕ) {k : ℕ} {A B C : Ty}
+two-words : (w : List ℕ) (n a b : ℕ) {k : ℕ} {A B C : Ty}
     → Made k A B C → Denotes w n a A → Denotes w n b B
-    → 1 + cellSize w a + cellSize w b ≡ entries C
-two-sizes w n a b m d e = omega (arith, cell-of d .size, cell-of e .size, made-entries m)
+    → marked (copyableFrom w k a b) (1 + cellSize w a + cellSize w b) ≡ marked (copyable C) (entries C)
+two-words w n a b m d e =
+    ap₂ marked (made-copyable m d e) (omega (arith, cell-of d .size, cell-of e .size, made-entries m))
 
 entry-made : (w : List ℕ) (n : ℕ) {k : ℕ} {A B C : Ty}
     → Made k A B C → Room w n → Denotes w n (firstBehind n) A → Denotes w n (secondBehind w n) B
@@ -107,15 +112,15 @@ unfolding loadEntry entrySize
 entry-made w n made-pair room d e h =
     let a = firstBehind n in
     let b = secondBehind w n in
-    two-parts-written w n 2 a b (1 + cellSize w a + cellSize w b) made-pair room d e (two-sizes w n a b made-pair d e) h
+    two-parts-written w n 2 a b (entryWord w n 2) made-pair room d e (two-words w n a b made-pair d e) h
 entry-made w n made-function room d e h =
     let a = firstBehind n in
     let b = secondBehind w n in
-    two-parts-written w n 3 a b (1 + cellSize w a + cellSize w b) made-function room d e (two-sizes w n a b made-function d e) h
+    two-parts-written w n 3 a b (entryWord w n 3) made-function room d e (two-words w n a b made-function d e) h
 entry-made w n made-circuit room d e h =
     let a = firstBehind n in
     let b = secondBehind w n in
-    two-parts-written w n 5 a b (1 + cellSize w a + cellSize w b) made-circuit room d e (two-sizes w n a b made-circuit d e) h
+    two-parts-written w n 5 a b (entryWord w n 5) made-circuit room d e (two-words w n a b made-circuit d e) h
 
 entry-two : (w : List ℕ) (n : ℕ) {k : ℕ} {A B C : Ty}
     → Made k A B C → Room w n → Denotes w n (n - 1) A → Denotes w n (n - 1 - entries A) B → entries C ≤ most-entries

@@ -1,7 +1,7 @@
 -- Laws of specs/Rules.antt.
 use Prim.Native.Nat.{ℕ, _+_, _≤_, _<_}
 use native.Mathlib.Omega.{arith}
-use mathlib.Core.Path.{_≡_, refl, sym, _∙_, subst, subst₂}
+use mathlib.Core.Path.{_≡_, refl, sym, _∙_, ap₂, subst, subst₂}
 use mathlib.Core.Bool.{Bool, true, false, _&&_}
 use mathlib.Core.List.{List}
 use mathlib.Core.Option.{Option, none, some}
@@ -15,10 +15,11 @@ use Rattle.check_types.specs.declared.Ruled.{Ruled}
 use Rattle.check_types.specs.declared.Ruled.the-variants.{Gives, Fails}
 use Rattle.check_types.specs.declared.Parts.{Parts}
 use Rattle.check_types.specs.declared.Parts.the-variants.{Both, Neither}
-use Rattle.check_types.specs.Cells.{cellKind, cellFirst, cellSecond, cellSize, Denotes, Given, Gave, Failed, MeetsOne}
+use Rattle.check_types.specs.Cells.{marked, cellKind, cellFirst, cellSecond, cellSize, copyableFrom, Denotes, Given, Gave}
+use Rattle.check_types.specs.Cells.{Failed, MeetsOne}
 use Rattle.check_types.specs.Cells.{MeetsTwo, PartsGiven, Made, made-pair, made-function, made-circuit}
 use Rattle.check_types.specs.Laws.Cells.{cell-of, agree-refl, made-entries, View, no-part, two-parts, one-part, view}
-use Rattle.check_types.specs.Laws.Cells.{made-not-reusable}
+use Rattle.check_types.specs.Laws.Cells.{made-not-reusable, made-copyable}
 use Rattle.check_types.specs.NewCell.{withCell}
 use Rattle.check_types.specs.Laws.NewCell.{length-withCell, word-above-cell, agree-withCell, two-parts-written}
 use Rattle.check_types.specs.Laws.NewCell.{one-part-written}
@@ -210,17 +211,19 @@ module _ (w : List ℕ) (n kind a b x y : ℕ) (p : x ≡ cellSize w a) (q : y �
       let l : leb (entries C) most-entries ≡ false = lt-leb (entries C) most-entries (omega (arith, made-size m d e)) in
       subst (λ t. Given w w n (if-true t C) Fails) (sym l) (fails w)
 
-  pub makes-cell : (w′ : List ℕ)
+  pub makes-cell : (w′ : List ℕ) (word : ℕ)
       → 1 + x + y ≤ most-entries
-      → w′ ≡ withCell w n kind a b (1 + x + y)
+      → word ≡ marked (copyableFrom w kind a b) (1 + x + y)
+      → w′ ≡ withCell w n kind a b word
       → MakesTwo kind w w′ n a b (Gives n (n + 1))
-  makes-cell w′ h r A B C m room d e =
+  makes-cell w′ word h z r A B C m room d e =
       let small : entries C ≤ most-entries = omega (arith, made-size m d e) in
       subst₂
       (λ v t. Given w v n (if-true t C) (Gives n (n + 1)))
       (sym r)
       (sym (le-leb (entries C) most-entries small))
-      (new w n kind a b (1 + x + y) C (two-parts-written w n kind a b (1 + x + y) m room d e (made-size m d e) small))
+      (new w n kind a b word C
+      (two-parts-written w n kind a b word m room d e (z ∙ ap₂ marked (made-copyable m d e) (made-size m d e)) small))
 
 -- Lift.
 module _ (w : List ℕ) (n a x : ℕ) (p : x ≡ cellSize w a) where
@@ -232,7 +235,7 @@ module _ (w : List ℕ) (n a x : ℕ) (p : x ≡ cellSize w a) where
 
   pub makes-lift : (w′ : List ℕ) (b : ℕ)
       → 1 + x ≤ most-entries
-      → w′ ≡ withCell w n 4 a b (1 + x)
+      → w′ ≡ withCell w n 4 a b (marked true (1 + x))
       → MeetsOne liftType w w′ n a (Gives n (n + 1))
   makes-lift w′ b h r room A d =
       let s : cellSize w a ≡ entries A = cell-of d .size in
@@ -241,7 +244,7 @@ module _ (w : List ℕ) (n a x : ℕ) (p : x ≡ cellSize w a) where
       (λ v t. Given w v n (if-true t (! A)) (Gives n (n + 1)))
       (sym r)
       (sym (le-leb (entries (! A)) most-entries small))
-      (new w n 4 a b (1 + x) (! A) (one-part-written w n a b (1 + x) room d (omega arith) small))
+      (new w n 4 a b (marked true (1 + x)) (! A) (one-part-written w n a b (marked true (1 + x)) room d (omega arith) small))
 
 -- What the rule says of the function's parts.
 abbrev boxResult : Ty → Ty × Ty → Option Ty
