@@ -24,10 +24,12 @@ cellFirst w i = getD w (4 * i + 1) 0
 abbrev pub cellSecond : List ℕ → ℕ → ℕ
 cellSecond w i = getD w (4 * i + 2) 0
 
--- The mark: how much more the fourth word is than the number of entries.
+-- The mark: how much more the fourth word is than the number of entries if the type may be copied and dropped. No type has so
+-- many entries, so both are read back from the sum.
 abbrev pub copyable-mark : ℕ
 copyable-mark = 1024
 
+-- The fourth word of a cell whose type may be copied or not, and has so many entries.
 abbrev pub marked : Bool → ℕ → ℕ
 marked true size = size + copyable-mark
 marked false size = size
@@ -38,7 +40,8 @@ cellSize w i = getD w (4 * i + 3) 0 % copyable-mark
 abbrev pub cellCopyable : List ℕ → ℕ → Bool
 cellCopyable w i = leb copyable-mark (getD w (4 * i + 3) 0)
 
--- May the type of this kind, whose parts are the types of cells a and b, be copied and dropped?
+-- May the type of this kind, whose parts are the types of cells a and b, be copied and dropped? By its kind (01: "the reusable
+-- kind and Circ"); a pair by both halves (02, ticket 2).
 abbrev pub copyableFrom : List ℕ → ℕ → ℕ → ℕ → Bool
 copyableFrom w kind a b = cond (eqb kind pair-type-kind) (cellCopyable w a && cellCopyable w b) (leb reusable-kind kind)
 
@@ -55,7 +58,7 @@ pub record Cell (w : List ℕ) (n i : ℕ) (A : Ty) : Type 0 where
   pub below : i < n
   pub kind : cellKind w i ≡ kindOf A
   pub size : cellSize w i ≡ entries A
-  pub copies : cellCopyable w i ≡ copyable A
+  pub may-be-copied : cellCopyable w i ≡ copyable A
   pub bounded : entries A ≤ most-entries
 
 -- Cell i, among the first n cells, is the type A: its quadword is A's, and the cells of its parts are the parts of A.

@@ -47,8 +47,8 @@ pub enum Parts {
 // Cell numbers are words.
 const MOST_CELLS: usize = 65536;
 
-// How much more the fourth word of a cell is than the number of entries if the type may be copied and dropped. It is noted there
-// when the cell is made, so that a use of a variable takes the same time however deep the pairs of its type are.
+// How much more the fourth word of a cell is than the number of entries if the type may be copied and dropped. It is noted when
+// the cell is made, so that a use of a variable takes the same time however deep the pairs of its type are.
 const COPYABLE_MARK: usize = 1024;
 
 // What stands in a column of a cell's quadword.

@@ -9,7 +9,7 @@ cell-copyable-requires : tie.Need-cell-copyable-requires
 cell-copyable-requires c κs = search needs
 
 returns : tie.Need-returns
-returns c = λ n A d. c .cell-copyable .ensures ∙ cell-of d .copies
+returns c = λ n A d. c .cell-copyable .ensures ∙ cell-of d .may-be-copied
 
 pub is-copyable-spec : {M : Type 1} → statement M
 is-copyable-spec = tie.close (tie.spec cell-copyable-requires returns)

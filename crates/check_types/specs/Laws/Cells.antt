@@ -40,7 +40,7 @@ cell-kept {i = i} a h r =
       below = omega arith;
       kind = a .words-same (4 * i) (omega arith) ∙ r .kind;
       size = ap (λ x. x % copyable-mark) (a .words-same (4 * i + 3) (omega arith)) ∙ r .size;
-      copies = ap (leb copyable-mark) (a .words-same (4 * i + 3) (omega arith)) ∙ r .copies;
+      may-be-copied = ap (leb copyable-mark) (a .words-same (4 * i + 3) (omega arith)) ∙ r .may-be-copied;
       bounded = r .bounded;
     }
 
@@ -86,7 +86,7 @@ copyable-by-halves w kind a b e = ap (λ k. copyableFrom w k a b) (sym e)
 
 pub made-copyable : {w : List ℕ} {n a b k : ℕ} {A B C : Ty}
     → Made k A B C → Denotes w n a A → Denotes w n b B → copyableFrom w k a b ≡ copyable C
-made-copyable made-pair d e = ap₂ _&&_ (cell-of d .copies) (cell-of e .copies)
+made-copyable made-pair d e = ap₂ _&&_ (cell-of d .may-be-copied) (cell-of e .may-be-copied)
 made-copyable made-function d e = refl
 made-copyable made-circuit d e = refl
 

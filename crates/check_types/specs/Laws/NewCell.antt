@@ -47,9 +47,9 @@ marked-size : (c : Bool) (m : ℕ) → m ≤ most-entries → marked c m % copya
 marked-size true m h = omega arith
 marked-size false m h = omega arith
 
-marked-copies : (c : Bool) (m : ℕ) → m ≤ most-entries → leb copyable-mark (marked c m) ≡ c
-marked-copies true m h = le-leb copyable-mark (m + copyable-mark) (omega arith)
-marked-copies false m h = lt-leb copyable-mark m (omega arith)
+marked-copyable : (c : Bool) (m : ℕ) → m ≤ most-entries → leb copyable-mark (marked c m) ≡ c
+marked-copyable true m h = le-leb copyable-mark (m + copyable-mark) (omega arith)
+marked-copyable false m h = lt-leb copyable-mark m (omega arith)
 
 module _ (w : List ℕ) (n kind first second word : ℕ) where
   pub length-withCell : length (withCell w n kind first second word) ≡ length w
@@ -143,7 +143,7 @@ module _ (w : List ℕ) (n kind first second word : ℕ) where
           below = omega arith;
           kind = kind-written (kind-fits A k) ∙ k;
           size = ap (λ x. x % copyable-mark) fourth ∙ marked-size (copyable A) (entries A) b;
-          copies = ap (leb copyable-mark) fourth ∙ marked-copies (copyable A) (entries A) b;
+          may-be-copied = ap (leb copyable-mark) fourth ∙ marked-copyable (copyable A) (entries A) b;
           bounded = b;
         }
       where
