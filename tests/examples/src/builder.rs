@@ -44,6 +44,12 @@ pub fn three() -> Rc<Type> {
     types::pair(qubit(), two())
 }
 
+/// The type of two circuits on a Qubit.
+pub fn two_circuits() -> Rc<Type> {
+    let circuit = types::circuit(qubit(), qubit());
+    types::pair(circuit.clone(), circuit)
+}
+
 /// An input of the program.
 pub fn input(number: usize) -> Named {
     Named::Label(number)

@@ -2,8 +2,8 @@
 
 use crate::builder::Action::{Measure, On, OnThree, OnTwo};
 use crate::builder::{
-    apply, boxed_one, boxed_three, boxed_two, define, halves, input, name, pair, qubit, then,
-    three, two, Named, BX, BZ, CNOT, H, S, T, X, Z,
+    apply, bind, boxed_one, boxed_three, boxed_two, define, halves, input, name, pair, qubit,
+    then, three, two, two_circuits, Named, BX, BZ, CNOT, H, S, T, X, Z,
 };
 
 /// The name of each file, the number of Qubits that are its inputs, and the
@@ -14,6 +14,7 @@ pub fn all() -> Vec<(&'static str, usize, Named)> {
         ("teleportation", 3, teleportation()),
         ("grover", 2, grover()),
         ("adder", 4, adder()),
+        ("basis", 2, basis()),
     ]
 }
 
@@ -129,6 +130,25 @@ fn toffoli() -> Named {
     ];
     let result = pair(name("a"), pair(name("b"), name("t")));
     boxed_three(["a", "b", "t"], then(actions, result))
+}
+
+/// An X on each of two Qubits between a change of basis and the way back: S and
+/// its inverse, which are passed as a pair. The pair is used inside a box and
+/// outside of it.
+fn basis() -> Named {
+    let s_inverse = boxed_one("q", apply(S, apply(Z, name("q"))));
+    let between = |wire| {
+        let changed = apply(X, apply(name("change"), wire));
+        let back = apply(name("back"), changed);
+        halves(["change", "back"], name("changes"), back)
+    };
+    let boxed = boxed_one("q", between(name("q")));
+    bind(
+        "changes",
+        two_circuits(),
+        pair(S, s_inverse),
+        pair(apply(boxed, input(0)), between(input(1))),
+    )
 }
 
 /// Adds input 0, input 1 and the carry in input 2. Input 3 is 0; the outputs
