@@ -2,8 +2,8 @@
 
 use crate::builder::Action::{Measure, On, OnThree, OnTwo};
 use crate::builder::{
-    apply, bind, boxed_one, boxed_three, boxed_two, define, halves, input, name, pair, qubit,
-    then, three, two, two_circuits, Named, BX, BZ, CNOT, H, S, T, X, Z,
+    apply, bind, boxed_one, boxed_three, boxed_two, define, halves, input, name, pair, qubit, then,
+    three, two, two_circuits, Named, BX, BZ, CNOT, H, S, T, X, Z,
 };
 
 /// The name of each file, the number of Qubits that are its inputs, and the
