@@ -8,7 +8,7 @@ use comparing::Known;
 use program_files::kinds::*;
 
 /// Accepted programs, with their types.
-const ACCEPTED: [(&[u8], Written); 25] = [
+const ACCEPTED: [(&[u8], Written); 35] = [
     // The gates.
     (&[CIRCUIT, QUBIT, QUBIT], (&[], &[], &[(GATE, 0)])),
     (&[CIRCUIT, QUBIT, QUBIT], (&[], &[], &[(GATE, 1)])),
@@ -169,7 +169,7 @@ const ACCEPTED: [(&[u8], Written); 25] = [
             &[(ABS, 0), (PAIR, 0), (LABEL, 0), (VAR, 0)],
         ),
     ),
-    // A pair is linear, and let gives halves that may be dropped.
+    // Let gives halves that may be dropped, and so may the pair itself.
     (
         &[FUN, PAIR_TYPE, REU, BIT, REU, BIT, REU, BIT],
         (
@@ -178,10 +178,150 @@ const ACCEPTED: [(&[u8], Written); 25] = [
             &[(ABS, 0), (LET, 0), (VAR, 0), (VAR, 1)],
         ),
     ),
+    // Pairs of which both halves may be copied: dropped, copied, used inside a
+    // lift.
+    (
+        &[
+            FUN, PAIR_TYPE, CIRCUIT, BIT, BIT, REU, BIT, CIRCUIT, QUBIT, QUBIT,
+        ],
+        (
+            &[],
+            &[PAIR_TYPE, CIRCUIT, BIT, BIT, REU, BIT, BIT],
+            &[(ABS, 0), (GATE, 0)],
+        ),
+    ),
+    (
+        &[
+            FUN, PAIR_TYPE, REU, BIT, REU, BIT, PAIR_TYPE, PAIR_TYPE, REU, BIT, REU, BIT,
+            PAIR_TYPE, REU, BIT, REU, BIT,
+        ],
+        (
+            &[],
+            &[PAIR_TYPE, REU, BIT, REU, BIT],
+            &[(ABS, 0), (PAIR, 0), (VAR, 0), (VAR, 0)],
+        ),
+    ),
+    (
+        &[
+            FUN, PAIR_TYPE, REU, BIT, REU, BIT, REU, PAIR_TYPE, REU, BIT, REU, BIT,
+        ],
+        (
+            &[],
+            &[PAIR_TYPE, REU, BIT, REU, BIT],
+            &[(ABS, 0), (LIFT, 0), (VAR, 0)],
+        ),
+    ),
+    (
+        &[
+            FUN, PAIR_TYPE, REU, BIT, REU, BIT, PAIR_TYPE, REU, PAIR_TYPE, REU, BIT, REU, BIT,
+            PAIR_TYPE, REU, BIT, REU, BIT,
+        ],
+        (
+            &[],
+            &[PAIR_TYPE, REU, BIT, REU, BIT],
+            &[(ABS, 0), (PAIR, 0), (LIFT, 0), (VAR, 0), (VAR, 0)],
+        ),
+    ),
+    // The same of a pair in a pair, the last one inside two lifts.
+    (
+        &[
+            FUN, PAIR_TYPE, PAIR_TYPE, REU, BIT, CIRCUIT, BIT, BIT, REU, QUBIT, CIRCUIT, QUBIT, BIT,
+        ],
+        (
+            &[],
+            &[
+                PAIR_TYPE, PAIR_TYPE, REU, BIT, CIRCUIT, BIT, BIT, REU, QUBIT,
+            ],
+            &[(ABS, 0), (GATE, 6)],
+        ),
+    ),
+    (
+        &[
+            FUN, PAIR_TYPE, PAIR_TYPE, REU, BIT, CIRCUIT, BIT, BIT, REU, QUBIT, PAIR_TYPE,
+            PAIR_TYPE, PAIR_TYPE, REU, BIT, CIRCUIT, BIT, BIT, REU, QUBIT, PAIR_TYPE, PAIR_TYPE,
+            REU, BIT, CIRCUIT, BIT, BIT, REU, QUBIT,
+        ],
+        (
+            &[],
+            &[
+                PAIR_TYPE, PAIR_TYPE, REU, BIT, CIRCUIT, BIT, BIT, REU, QUBIT,
+            ],
+            &[(ABS, 0), (PAIR, 0), (VAR, 0), (VAR, 0)],
+        ),
+    ),
+    (
+        &[
+            FUN, PAIR_TYPE, PAIR_TYPE, REU, BIT, CIRCUIT, BIT, BIT, REU, QUBIT, REU, REU,
+            PAIR_TYPE, PAIR_TYPE, REU, BIT, CIRCUIT, BIT, BIT, REU, QUBIT,
+        ],
+        (
+            &[],
+            &[
+                PAIR_TYPE, PAIR_TYPE, REU, BIT, CIRCUIT, BIT, BIT, REU, QUBIT,
+            ],
+            &[(ABS, 0), (LIFT, 0), (LIFT, 0), (VAR, 0)],
+        ),
+    ),
+    // A pair bound by a let: the inner pair is dropped, copied, used inside a
+    // lift.
+    (
+        &[CIRCUIT, QUBIT, QUBIT],
+        (
+            &[],
+            &[],
+            &[
+                (LET, 0),
+                (PAIR, 0),
+                (PAIR, 0),
+                (GATE, 0),
+                (GATE, 6),
+                (GATE, 0),
+                (VAR, 0),
+            ],
+        ),
+    ),
+    (
+        &[
+            PAIR_TYPE, PAIR_TYPE, CIRCUIT, QUBIT, QUBIT, CIRCUIT, QUBIT, BIT, PAIR_TYPE, CIRCUIT,
+            QUBIT, QUBIT, CIRCUIT, QUBIT, BIT,
+        ],
+        (
+            &[],
+            &[],
+            &[
+                (LET, 0),
+                (PAIR, 0),
+                (PAIR, 0),
+                (GATE, 0),
+                (GATE, 6),
+                (GATE, 0),
+                (PAIR, 0),
+                (VAR, 1),
+                (VAR, 1),
+            ],
+        ),
+    ),
+    (
+        &[REU, PAIR_TYPE, CIRCUIT, QUBIT, QUBIT, CIRCUIT, QUBIT, BIT],
+        (
+            &[],
+            &[],
+            &[
+                (LET, 0),
+                (PAIR, 0),
+                (PAIR, 0),
+                (GATE, 0),
+                (GATE, 6),
+                (GATE, 0),
+                (LIFT, 0),
+                (VAR, 1),
+            ],
+        ),
+    ),
 ];
 
 /// Refused programs: the number and the place.
-const REFUSED: [(u8, usize, Written); 52] = [
+const REFUSED: [(u8, usize, Written); 53] = [
     // 16, each rule.
     (16, 0, (&[], &[], &[(FORCE, 0), (GATE, 0)])),
     (16, 0, (&[], &[], &[(APP, 0), (GATE, 0), (GATE, 0)])),
@@ -373,24 +513,6 @@ const REFUSED: [(u8, usize, Written); 52] = [
     (17, 3, (&[], &[FUN, BIT, BIT], &[(ABS, 0), (GATE, 0)])),
     (
         17,
-        7,
-        (
-            &[],
-            &[PAIR_TYPE, CIRCUIT, BIT, BIT, REU, BIT, BIT],
-            &[(ABS, 0), (GATE, 0)],
-        ),
-    ),
-    (
-        17,
-        5,
-        (
-            &[],
-            &[PAIR_TYPE, REU, BIT, REU, BIT],
-            &[(ABS, 0), (PAIR, 0), (VAR, 0), (VAR, 0)],
-        ),
-    ),
-    (
-        17,
         3,
         (
             &[],
@@ -431,6 +553,43 @@ const REFUSED: [(u8, usize, Written); 52] = [
                 (VAR, 0),
                 (PAIR, 0),
                 (VAR, 1),
+                (VAR, 0),
+            ],
+        ),
+    ),
+    // 17, a let's half that is a pair with a wire: dropped, used twice.
+    (
+        17,
+        1,
+        (
+            &[QUBIT],
+            &[],
+            &[
+                (LET, 0),
+                (PAIR, 0),
+                (PAIR, 0),
+                (GATE, 0),
+                (LABEL, 0),
+                (GATE, 0),
+                (VAR, 0),
+            ],
+        ),
+    ),
+    (
+        17,
+        1,
+        (
+            &[QUBIT],
+            &[],
+            &[
+                (LET, 0),
+                (PAIR, 0),
+                (GATE, 0),
+                (PAIR, 0),
+                (LABEL, 0),
+                (GATE, 0),
+                (PAIR, 0),
+                (VAR, 0),
                 (VAR, 0),
             ],
         ),
@@ -522,6 +681,25 @@ const REFUSED: [(u8, usize, Written); 52] = [
             ],
         ),
     ),
+    // 18, a let's half that is a pair with a wire.
+    (
+        18,
+        8,
+        (
+            &[QUBIT],
+            &[],
+            &[
+                (LET, 0),
+                (PAIR, 0),
+                (GATE, 0),
+                (PAIR, 0),
+                (LABEL, 0),
+                (GATE, 0),
+                (LIFT, 0),
+                (VAR, 0),
+            ],
+        ),
+    ),
     // An abstraction that holds a wire, lifted and boxed.
     (
         18,
@@ -541,6 +719,32 @@ const REFUSED: [(u8, usize, Written); 52] = [
     ),
 ];
 
+/// Pairs with a half that may be neither copied nor dropped, a wire or a
+/// function: the first half, the second, and one of a pair inside the pair.
+const LINEAR_PAIRS: [&[u8]; 9] = [
+    &[PAIR_TYPE, QUBIT, REU, BIT],
+    &[PAIR_TYPE, CIRCUIT, QUBIT, QUBIT, BIT],
+    &[PAIR_TYPE, FUN, BIT, BIT, REU, BIT],
+    &[PAIR_TYPE, REU, QUBIT, FUN, REU, BIT, REU, BIT],
+    &[PAIR_TYPE, PAIR_TYPE, BIT, REU, BIT, REU, BIT],
+    &[PAIR_TYPE, PAIR_TYPE, REU, BIT, QUBIT, CIRCUIT, BIT, BIT],
+    &[PAIR_TYPE, REU, BIT, PAIR_TYPE, QUBIT, REU, BIT],
+    &[PAIR_TYPE, REU, BIT, PAIR_TYPE, REU, BIT, FUN, BIT, BIT],
+    &[PAIR_TYPE, PAIR_TYPE, FUN, BIT, BIT, REU, BIT, REU, BIT],
+];
+
+/// Terms with a variable of such a type: the number, and how far the place is
+/// behind the abstraction.
+const LINEAR_USES: [(u8, usize, &[(u8, u16)]); 7] = [
+    (17, 0, &[(ABS, 0), (GATE, 0)]),
+    (17, 0, &[(ABS, 0), (LIFT, 0), (GATE, 0)]),
+    (17, 0, &[(ABS, 0), (PAIR, 0), (VAR, 0), (VAR, 0)]),
+    (17, 0, &[(ABS, 0), (PAIR, 0), (LIFT, 0), (VAR, 0), (VAR, 0)]),
+    (17, 0, &[(ABS, 0), (LIFT, 0), (PAIR, 0), (VAR, 0), (VAR, 0)]),
+    (18, 2, &[(ABS, 0), (LIFT, 0), (VAR, 0)]),
+    (18, 3, &[(ABS, 0), (LIFT, 0), (LIFT, 0), (VAR, 0)]),
+];
+
 pub fn compare(comparison: &mut Comparison) {
     comparison.listed_group("written by hand");
     for case in cases::all() {
@@ -552,5 +756,11 @@ pub fn compare(comparison: &mut Comparison) {
     for (number, place, written) in REFUSED {
         let known = Known::Refused(number, place);
         comparison.program(&file(written), &known);
+    }
+    for types in LINEAR_PAIRS {
+        for (number, further, terms) in LINEAR_USES {
+            let known = Known::Refused(number, types.len() + further);
+            comparison.program(&file((&[], types, terms)), &known);
+        }
     }
 }

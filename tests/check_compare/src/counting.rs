@@ -57,7 +57,10 @@ pub const PLANTED: [(&str, Wrong); 49] = [
     ("the first half of a pair decides", Wrong::FirstHalfOnly),
     ("the second half of a pair decides", Wrong::SecondHalfOnly),
     ("outer pair only, inner ones never", Wrong::InnerPairsLinear),
-    ("outer pair only, inner ones always", Wrong::InnerPairsCopyable),
+    (
+        "outer pair only, inner ones always",
+        Wrong::InnerPairsCopyable,
+    ),
     ("a reusable is linear", Wrong::ReusableLinear),
     ("a circuit is linear", Wrong::CircuitLinear),
     ("bound 511", Wrong::Bound511),
