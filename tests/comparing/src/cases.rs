@@ -2,11 +2,13 @@
 //! 02, as one table: of each its file, and what the reading, the check and runs
 //! answer.
 
+use crate::copied_pairs::{self, Copied};
 use crate::first_faults::{self, Faulty};
 use crate::known::Known;
 use crate::written::{entries, type_of, Written, ABS, APP, FUN, VAR};
 use program_files::kinds::*;
-use program_files::{encode, Entries, Positions, Program, Refusal, Sizes, Wire};
+use program_files::{encode, Entries, Positions, Program, Refusal, Sizes, Term, Wire};
+use std::rc::Rc;
 
 pub struct Case {
     pub name: String,
@@ -31,12 +33,12 @@ pub struct Listing {
     pub gates: usize,
     pub bytes: &'static [u8],
     /// As `wirelist` prints it.
-    lines: &'static str,
+    pub lines: &'static str,
 }
 
 /// The limits with which each case is run: those around the steps of each, and
 /// that of `wirelist`.
-pub const LIMITS: [u32; 8] = [0, 1, 2, 3, 4, 5, 9, 1_000_000];
+pub const LIMITS: [u32; 10] = [0, 1, 2, 3, 4, 5, 6, 8, 9, 1_000_000];
 
 /// The table.
 pub fn all() -> Vec<Case> {
@@ -58,15 +60,28 @@ pub fn all() -> Vec<Case> {
         not_read("sizes 1, 0, 0 alone", &[1, 0, 0, 0, 0, 0], 2),
     ];
     all.extend(first_faults::all().into_iter().map(faulty));
+    all.extend(copied_pairs::accepted().into_iter().map(copied));
+    all.extend(copied_pairs::refused().into_iter().map(faulty));
     all
 }
 
-/// Each type is written anew, as in the proved table.
 fn faulty(of: Faulty) -> Case {
-    let program = Program::new(vec![Wire::Qubit; of.labels], of.term);
-    let entries = encode(&program, Positions::Fresh).expect("a file");
     let refusal = refusal(of.number, of.place);
+    let entries = of_qubits(of.labels, of.term);
     read(&of.name, &entries, Err(refusal), Err(refusal))
+}
+
+fn copied(of: Copied) -> Case {
+    let Copied { steps, listing, .. } = of;
+    let run = Ok(Finished { steps, listing });
+    read(of.name, &of_qubits(1, of.term), Ok(&[QUBIT]), run)
+}
+
+/// The program of a term with so many labels, all Qubits. Each type is written
+/// anew, as in the proved table.
+fn of_qubits(labels: usize, term: Rc<Term>) -> Entries {
+    let program = Program::new(vec![Wire::Qubit; labels], term);
+    encode(&program, Positions::Fresh).expect("a file")
 }
 
 fn finished(
@@ -152,7 +167,7 @@ pub fn lines(run: &Run) -> String {
 }
 
 /// The listing of c1 and c12.
-const ONE_WIRE: Listing = Listing {
+pub const ONE_WIRE: Listing = Listing {
     gates: 0,
     bytes: &[1, 0, 0, 0, 1, 0, 0x81, 255, 255, 255, 255, 0, 0],
     lines: "in 0 Qubit\nout 0\n",

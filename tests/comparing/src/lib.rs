@@ -4,6 +4,7 @@
 //! which all this is done.
 
 pub mod cases;
+pub mod copied_pairs;
 pub mod counts;
 pub mod files;
 pub mod first_faults;
