@@ -5,6 +5,7 @@ mod compare;
 mod families;
 mod lending;
 mod memory;
+mod pairs;
 mod seen;
 mod stack;
 mod two_faults;
@@ -20,6 +21,7 @@ fn compare_all() {
     let mut comparison = Comparison::new();
     by_hand::compare(&mut comparison);
     two_faults::compare(&mut comparison);
+    pairs::compare(&mut comparison);
     families::compare(&mut comparison);
     lending::compare(&mut comparison);
     comparison.report();

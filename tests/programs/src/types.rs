@@ -38,6 +38,15 @@ pub fn circuit(from: Rc<Type>, to: Rc<Type>) -> Rc<Type> {
     Rc::new(Type::Circuit(from, to))
 }
 
+/// How many pairs stand in each other, from the outermost on. Those inside
+/// another type do not count.
+pub fn pairs_deep(of: &Type) -> usize {
+    match of {
+        Type::Pair(first, second) => 1 + pairs_deep(first).max(pairs_deep(second)),
+        _ => 0,
+    }
+}
+
 /// A wire type with these wires, left to right.
 pub fn wire_type(random: &mut Random, wires: &[Wire]) -> Rc<Type> {
     if let [only] = wires {
