@@ -37,6 +37,9 @@ pub struct Comparison {
     every_sharing: usize,
     planted: Planted<Wrong>,
     memory: Planted<Check>,
+    /// Whether the programs that follow are not made to have pairs that may be
+    /// copied, and those that they have are counted.
+    pub counts_pairs: bool,
     /// By number, and by what stands at the place.
     places: BTreeMap<(u8, &'static str), usize>,
     accepted: Seen,
@@ -57,6 +60,7 @@ impl Comparison {
             every_sharing: 0,
             planted: Planted::new(LEAST_FOUND, PLANTED),
             memory: Planted::new(LEAST_FOUND, MEMORY),
+            counts_pairs: true,
             places: BTreeMap::new(),
             accepted: Seen::default(),
         }
@@ -154,7 +158,12 @@ impl Comparison {
     /// Counts what the program has, or what stands at the place.
     fn look(&mut self, read: &Accepted, survey: &Survey, answer: &Answer) {
         match answer {
-            Ok(of) => self.accepted.look(read, survey, of),
+            Ok(of) => {
+                self.accepted.look(read, survey, of);
+                if self.counts_pairs {
+                    self.accepted.look_at_pairs(survey);
+                }
+            }
             Err(refusal) => {
                 let node = refusal.place.checked_sub(read.sizes.first_term());
                 let name = match node {

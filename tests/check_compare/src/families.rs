@@ -162,6 +162,14 @@ fn one_rule(comparison: &mut Comparison) {
     planned(comparison, &mut random, 1_000, |random| {
         Plan::of_wires(random, 6, 80).with_copies()
     });
+    // The same of pairs in pairs.
+    planned(comparison, &mut random, 1_200, |random| {
+        let plan = match random.below(2) {
+            0 => Plan::of_wires(random, 4, 140),
+            _ => Plan::any(random, 4, 140),
+        };
+        plan.with_pairs(10)
+    });
 }
 
 fn nested_boxes(comparison: &mut Comparison) {

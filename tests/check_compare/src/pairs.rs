@@ -308,6 +308,7 @@ struct Made {
 type Counted = (usize, Sort, bool);
 
 pub fn compare(comparison: &mut Comparison) {
+    comparison.counts_pairs = false;
     comparison.group("pairs at every depth");
     let mut random = Random::new(13);
     let mut seen = BTreeMap::new();
@@ -330,6 +331,7 @@ pub fn compare(comparison: &mut Comparison) {
             several(comparison, &mut random, &all[..3], depth, &mut seen);
         }
     }
+    comparison.counts_pairs = true;
     let deep = (1..=DEEPEST).map(|depth| (depth, LEAST));
     let very_deep = VERY_DEEP.map(|depth| (depth, LEAST_VERY_DEEP));
     for (depth, least) in deep.chain(very_deep) {

@@ -2,8 +2,16 @@
 
 use program_files::entries::LONGEST;
 use program_files::{kinds, Accepted, Type};
-use programs::rules::MOST_ENTRIES;
+use programs::rules::{copyable, MOST_ENTRIES};
 use programs::survey::Survey;
+use programs::types::pairs_deep;
+
+/// Pairs in pairs, counted up to so many.
+const DEEPEST: usize = 8;
+
+/// The least number of variables, at each depth, of a pair type that may be
+/// copied: dropped, copied, used inside a lift.
+const LEAST_PAIRS: [usize; 3] = [250, 35, 20];
 
 #[derive(Default)]
 pub struct Seen {
@@ -20,6 +28,10 @@ pub struct Seen {
     kinds: [usize; 11],
     /// Variables by the kind of their type, and by uses: none, one, more.
     uses: [[usize; 3]; 6],
+    /// Variables of a pair type that may be copied, by the depth of the pairs:
+    /// those dropped, those copied, those used inside a lift with the binder
+    /// outside of it.
+    pairs: [[usize; 3]; DEEPEST],
 }
 
 impl Seen {
@@ -51,6 +63,28 @@ impl Seen {
         self.with_largest += usize::from(largest);
     }
 
+    /// Counts the variables of pair types that may be copied.
+    pub fn look_at_pairs(&mut self, survey: &Survey) {
+        let mut uses = vec![[0, 0]; survey.binders.len()];
+        for (at, node) in survey.nodes.iter().enumerate() {
+            if let Some(binder) = survey.binder(at) {
+                let [all, in_lift] = &mut uses[binder];
+                *all += 1;
+                *in_lift += usize::from(node.lifts > survey.binders[binder].lifts);
+            }
+        }
+        for (binder, [all, in_lift]) in survey.binders.iter().zip(uses) {
+            let of = binder.of.as_ref().expect("a type");
+            let depth = pairs_deep(of).min(DEEPEST);
+            if depth > 0 && copyable(of) {
+                let [dropped, copied, lifted] = &mut self.pairs[depth - 1];
+                *dropped += usize::from(all == 0);
+                *copied += usize::from(all > 1);
+                *lifted += usize::from(in_lift > 0);
+            }
+        }
+    }
+
     pub fn report(&self) {
         let [labels, types, terms] = self.most_sizes;
         println!("most of accepted programs: L {labels}, P {types}, N {terms}");
@@ -77,6 +111,14 @@ impl Seen {
             let [none, one, more] = self.uses[usize::from(kind)];
             println!("variables of kind {name}: {none} not used, {one} once, {more} more often");
         }
+        for (at, [dropped, copied, in_lift]) in self.pairs.iter().enumerate() {
+            let depth = at + 1;
+            let more = if depth == DEEPEST { " or more" } else { "" };
+            println!(
+                "pairs that may be copied, {depth}{more} deep: {dropped} dropped, {copied} copied, \
+                 {in_lift} used inside a lift"
+            );
+        }
     }
 
     /// Fails if too little has been seen.
@@ -102,6 +144,13 @@ impl Seen {
         for kind in [kinds::REUSABLE, kinds::CIRCUIT] {
             let uses = self.uses[usize::from(kind)];
             assert!(uses.iter().all(|&uses| uses >= 1_000), "too few copies");
+        }
+        for (at, pairs) in self.pairs.iter().enumerate() {
+            let enough = pairs
+                .iter()
+                .zip(LEAST_PAIRS)
+                .all(|(&seen, least)| seen >= least);
+            assert!(enough, "too few pairs {} deep: {pairs:?}", at + 1);
         }
     }
 }

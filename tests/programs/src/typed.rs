@@ -7,8 +7,8 @@ use crate::rules::MOST_ENTRIES;
 use crate::sequent::{is_function, is_pair, Held, Name, Sequent};
 use crate::terms;
 use crate::types::{
-    any_type, any_wires, changed_wires, circuit, function, made_of, open_type, pair, pieces,
-    reusable, shuffle, wire_type,
+    any_type, any_wires, changed_wires, circuit, function, made_of, open_type, pair,
+    parameter_type, pieces, reusable, shuffle, wire_type,
 };
 use program_files::{Lean, Program, Random, Term, Type, Wire, GATES};
 use std::collections::HashSet;
@@ -71,6 +71,9 @@ pub struct Plan {
     pub type_size: usize,
     /// At most so many boxes inside each other.
     pub boxes: usize,
+    /// Pairs that may be copied are chosen on the way at most so deep, and
+    /// seldom if it is 0.
+    pub pairs: usize,
     /// Which of two parts gets the entries.
     pub lean: Lean,
     /// How often each rule is tried, in the order of `RULES`.
@@ -87,6 +90,7 @@ impl Plan {
             types: 512,
             type_size: 12,
             boxes: 8,
+            pairs: 0,
             lean: Lean::Any,
             weights: [2, 2, 2, 1, 2, 2, 2, 8, 2],
         }
@@ -159,6 +163,15 @@ impl Plan {
         self.type_size = 4;
         self.lean = Lean::First;
         self.weights = [10, 10, 1, 0, 0, 2, 2, 30, 4];
+        self
+    }
+
+    /// Pairs of such, at most so deep.
+    pub fn with_pairs(mut self, depth: usize) -> Plan {
+        self = self.with_copies();
+        self.pairs = depth;
+        self.lean = Lean::Any;
+        self.weights = [20, 10, 2, 10, 20, 2, 2, 30, 4];
         self
     }
 }
@@ -440,6 +453,14 @@ impl Generator<'_> {
             return any_type(self.random, size);
         }
         let parts: Vec<Rc<Type>> = given.iter().flat_map(|held| pieces(&held.of)).collect();
+        if parts.is_empty() && self.plan.pairs > 0 && self.random.one_in(2) {
+            let known: Vec<&Held> = pairs_of(&sequent.copyable).collect();
+            if !known.is_empty() && self.random.one_in(2) {
+                return known[self.random.below(known.len())].of.clone();
+            }
+            let depth = self.random.between(1, self.plan.pairs);
+            return self.pairs_to_use(sequent, depth);
+        }
         if parts.is_empty() && !self.random.one_in(4) {
             if let Some(of) = self.type_to_use(sequent) {
                 return of;
@@ -448,9 +469,41 @@ impl Generator<'_> {
         made_of(self.random, &parts, room)
     }
 
+    /// Pairs of exactly this depth that may be copied, some of them to be used
+    /// with the wires in hand.
+    fn pairs_to_use(&mut self, sequent: &Sequent, depth: usize) -> Rc<Type> {
+        if depth == 0 {
+            let size = self.random.between(3, 4);
+            let to_use = self.one_to_use(sequent).filter(|of| of.size() <= 8);
+            return to_use.unwrap_or_else(|| parameter_type(self.random, size));
+        }
+        let deep = self.pairs_to_use(sequent, depth - 1);
+        let other = match self.random.below(4) {
+            0 => self.random.below(depth.min(2)),
+            _ => 0,
+        };
+        let other = self.pairs_to_use(sequent, other);
+        match self.random.below(2) {
+            0 => pair(deep, other),
+            _ => pair(other, deep),
+        }
+    }
+
     /// A circuit or reusable function for some of the wires in hand, or pairs
     /// of such.
     fn type_to_use(&mut self, sequent: &Sequent) -> Option<Rc<Type>> {
+        let of = self.one_to_use(sequent)?;
+        if of.size() > self.plan.type_size || !self.random.one_in(3) {
+            return Some(of);
+        }
+        let other = self.type_to_use(sequent)?;
+        Some(match self.random.below(2) {
+            0 => pair(of, other),
+            _ => pair(other, of),
+        })
+    }
+
+    fn one_to_use(&mut self, sequent: &Sequent) -> Option<Rc<Type>> {
         let in_hand = sequent.linear.iter().flat_map(|held| pieces(&held.of));
         let mut wires: Vec<Wire> = in_hand
             .filter_map(|piece| match *piece {
@@ -467,18 +520,10 @@ impl Generator<'_> {
         let from = wire_type(self.random, &wires);
         let wires = changed_wires(self.random, &wires, 8);
         let to = wire_type(self.random, &wires);
-        let of = match self.random.below(4) {
+        Some(match self.random.below(4) {
             0 => reusable(function(from, to)),
             1 => reusable(circuit(from, to)),
             _ => circuit(from, to),
-        };
-        if of.size() > self.plan.type_size || !self.random.one_in(3) {
-            return Some(of);
-        }
-        let other = self.type_to_use(sequent)?;
-        Some(match self.random.below(2) {
-            0 => pair(of, other),
-            _ => pair(other, of),
         })
     }
 
@@ -602,6 +647,9 @@ impl Generator<'_> {
     fn use_variable(&mut self, sequent: &Sequent, size: usize) -> Option<Rc<Term>> {
         let mut variables = sequent.copyable.clone();
         shuffle(self.random, &mut variables);
+        if self.plan.pairs > 0 && self.random.one_in(2) {
+            variables.sort_by_key(|held| !is_pair(&held.of));
+        }
         variables.truncate(TRIES);
         variables
             .iter()
@@ -689,6 +737,10 @@ impl Generator<'_> {
             false => terms::application(step.head.clone(), argument),
         }
     }
+}
+
+fn pairs_of(held: &[Held]) -> impl Iterator<Item = &Held> {
+    held.iter().filter(|held| is_pair(&held.of))
 }
 
 /// The same program with exactly so many term entries: forced lifts around
