@@ -5,6 +5,7 @@ use crate::compare::Comparison;
 use comparing::files::{entries, ComparePrograms};
 use comparing::Known;
 use program_files::{Program, Random, Term, Type, Wire, GATES};
+use programs::nested::{taken_out, Nesting, Side, Tree, Way};
 use programs::rules::MOST_ENTRIES;
 use programs::terms::{abstraction, application, force, gate, label, let_in, lift, pair, variable};
 use programs::types::{self, any_type, any_wire, function, pairs_deep, reusable};
@@ -22,19 +23,6 @@ const VERY_DEEP: [usize; 2] = [60, 120];
 /// So many programs of each sort at each depth, and at each very deep one.
 const LEAST: usize = 40;
 const LEAST_VERY_DEEP: usize = 12;
-
-/// How pairs stand in each other.
-#[derive(Clone, Copy, PartialEq, Eq)]
-enum Nesting {
-    Left,
-    Right,
-    /// To the left or to the right, at each pair anew.
-    Either,
-    /// Both halves are of one depth.
-    Even,
-    /// One half has the depth, the other any small one.
-    Any,
-}
 
 /// The leaves of even pairs are as many as fit up to this depth.
 const DEEPEST_EVEN: usize = 5;
@@ -158,89 +146,18 @@ impl Use {
     }
 }
 
-#[derive(Clone, Copy, PartialEq, Eq)]
-enum Side {
-    First,
-    Second,
-}
-
-impl Side {
-    /// The argument of this half's variable in a let's second part.
-    fn argument(self) -> usize {
-        match self {
-            Side::First => 1,
-            Side::Second => 0,
-        }
-    }
-}
-
-/// From a pair to a part of it.
-type Way = Vec<Side>;
-
-enum Tree {
-    Leaf,
-    Pair(Box<Tree>, Box<Tree>),
-}
-
-impl Tree {
-    fn any(random: &mut Random, nesting: Nesting, depth: usize) -> Tree {
-        let Some(less) = depth.checked_sub(1) else {
-            return Tree::Leaf;
-        };
-        let deep = Box::new(Tree::any(random, nesting, less));
-        let other = Box::new(match nesting {
-            Nesting::Left | Nesting::Right | Nesting::Either => Tree::Leaf,
-            Nesting::Even => Tree::any(random, nesting, less),
-            Nesting::Any => {
-                let other = random.below(depth.min(3));
-                Tree::any(random, nesting, other)
-            }
-        });
-        let left = match nesting {
-            Nesting::Left => true,
-            Nesting::Right => false,
-            _ => random.one_in(2),
-        };
-        match left {
-            true => Tree::Pair(deep, other),
-            false => Tree::Pair(other, deep),
-        }
-    }
-
-    /// The ways to the leaves, left to right.
-    fn leaves(&self) -> Vec<Way> {
-        let Tree::Pair(first, second) = self else {
-            return vec![Way::new()];
-        };
-        let mut ways = Vec::new();
-        for (side, half) in [(Side::First, first), (Side::Second, second)] {
-            for way in half.leaves() {
-                ways.push([vec![side], way].concat());
-            }
-        }
-        ways
-    }
-
-    /// The pair with these leaves, left to right.
-    fn filled(&self, leaves: &mut impl Iterator<Item = Part>) -> Part {
-        let Tree::Pair(first, second) = self else {
-            return leaves.next().expect("a part for each leaf");
-        };
-        let (first, second) = (first.filled(leaves), second.filled(leaves));
-        Part {
-            of: types::pair(first.of, second.of),
-            value: first
-                .value
-                .zip(second.value)
-                .map(|(one, two)| pair(one, two)),
-        }
-    }
-}
-
 /// A type, and a term of it.
 struct Part {
     of: Rc<Type>,
     value: Option<Rc<Term>>,
+}
+
+fn pair_of(first: Part, second: Part) -> Part {
+    let values = first.value.zip(second.value);
+    Part {
+        of: types::pair(first.of, second.of),
+        value: values.map(|(first, second)| pair(first, second)),
+    }
 }
 
 /// A gate, a lifted gate or a lifted function; where no term is wanted, any
@@ -408,10 +325,10 @@ fn made(random: &mut Random, plan: &Plan) -> Option<Made> {
             copyable_leaf(random, plan.depth > DEEPEST, with_term)
         });
     }
-    let whole = tree.filled(&mut leaves.into_iter());
+    let whole = tree.filled(&mut leaves.into_iter(), pair_of);
     let to_linear = linear.map(|at| &ways[at]);
     let bound = bound(plan.binder, whole);
-    let way = taken_out(random, &ways, to_linear);
+    let way = some_way(random, &ways, to_linear);
     let taken = Taken {
         in_lift: !way.is_empty() && random.one_in(4),
         way,
@@ -422,7 +339,7 @@ fn made(random: &mut Random, plan: &Plan) -> Option<Made> {
 
 /// The way to the part that is taken out by lets: none at most times, else the
 /// start of one to the linear leaf or to any leaf.
-fn taken_out(random: &mut Random, ways: &[Way], to_linear: Option<&Way>) -> Way {
+fn some_way(random: &mut Random, ways: &[Way], to_linear: Option<&Way>) -> Way {
     if !random.one_in(4) {
         return Way::new();
     }
@@ -505,14 +422,7 @@ fn finished(
     if of.size().max(2 + part.size()) + usize::from(*in_lift) > MOST_ENTRIES {
         return None;
     }
-    // The arguments of the variables that the lets take apart, and of the last
-    // one, which is used.
-    let mut arguments = vec![bound.argument];
-    arguments.extend(way.iter().map(|side| side.argument()));
-    let mut body = uses.term(arguments[way.len()]);
-    for &argument in arguments[..way.len()].iter().rev() {
-        body = let_in(variable(argument), body);
-    }
+    let mut body = taken_out(bound.argument, way, |argument| uses.term(argument));
     if *in_lift {
         body = lift(body);
         of = reusable(of);

@@ -182,7 +182,9 @@ impl Builder<'_> {
                 _ => self.use_held(&mut hand),
             };
             if let Some(made) = made {
-                return self.bind(made, hand, actions - 1);
+                // Pairs that may be copied take no action away from the wires.
+                let is_free = matches!(*made.1, Type::Pair(..)) && copyable(&made.1);
+                return self.bind(made, hand, actions - usize::from(!is_free));
             }
         }
         self.all_wires(&hand)

@@ -7,6 +7,7 @@ pub mod broken;
 pub mod check;
 pub mod edit;
 pub mod extremes;
+pub mod nested;
 pub mod plain;
 pub mod rules;
 pub mod search;

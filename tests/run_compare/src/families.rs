@@ -80,6 +80,10 @@ fn copies(comparison: &mut Comparison) {
     planned(comparison, &mut random, 6_000, |random| {
         Plan::of_wires(random, 6, 100).with_copies()
     });
+    comparison.group("of a wire type, pairs of such used several times");
+    planned(comparison, &mut random, 1_000, |random| {
+        Plan::of_wires(random, 4, 140).with_pairs(8)
+    });
 }
 
 /// Programs of many kinds that are small. They tell most planted faults apart.

@@ -6,6 +6,7 @@ mod families;
 mod lending;
 mod limits;
 mod memory;
+mod pairs;
 mod seen;
 mod sound;
 mod stack;
@@ -24,6 +25,7 @@ fn compare_all() {
     compare::set_panic_hook();
     let second = process::thread(|| {
         let mut comparison = Comparison::new();
+        pairs::compare(&mut comparison);
         families::of_one_form(&mut comparison);
         comparison.counted
     });

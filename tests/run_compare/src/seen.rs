@@ -22,6 +22,16 @@ const STEPS: [&str; 7] = [
 /// Boxes open at once, counted up to so many.
 const DEEPEST: usize = 10;
 
+/// Pairs in pairs, counted up to so many.
+const DEEPEST_PAIRS: usize = 4;
+
+/// The least number of pairs that may be copied, at each depth: dropped, used
+/// once, copied.
+const LEAST_PAIRS: [usize; 3] = [800, 800, 200];
+
+/// Values that are pairs, by their depth and by the uses of their variable.
+type Pairs = [[usize; 3]; DEEPEST_PAIRS];
+
 #[derive(Default)]
 pub struct Seen {
     /// Steps by their kind.
@@ -42,6 +52,8 @@ pub struct Seen {
     crossing: usize,
     /// Values by the uses of their variable: none, one, more.
     uses: [usize; 3],
+    /// The same of those that are pairs and may be copied.
+    pairs: Pairs,
     /// Gates of finished runs.
     gates: [usize; GATES.len()],
 }
@@ -59,6 +71,7 @@ pub struct Run {
     passing: usize,
     crossing: usize,
     uses: [usize; 3],
+    pairs: Pairs,
 }
 
 impl Run {
@@ -85,15 +98,17 @@ impl Run {
     /// The kind of the step that a redex is about to take.
     fn look_at(&mut self, redex: &Form, frame: usize) -> usize {
         match redex {
-            Form::Application(function, _) => {
+            Form::Application(function, argument) => {
                 if let Form::Abstraction(body) = &function.form {
-                    self.uses[uses(body, 0).min(2)] += 1;
+                    self.look_at_value(argument, uses(body, 0));
                 }
                 0
             }
-            Form::Let(_, body) => {
-                self.uses[uses(body, 0).min(2)] += 1;
-                self.uses[uses(body, 1).min(2)] += 1;
+            Form::Let(pair, body) => {
+                if let Form::Pair(first, second) = &pair.form {
+                    self.look_at_value(second, uses(body, 0));
+                    self.look_at_value(first, uses(body, 1));
+                }
                 1
             }
             Form::Force(_) => 2,
@@ -108,6 +123,13 @@ impl Run {
         }
     }
 
+    fn look_at_value(&mut self, value: &Term, uses: usize) {
+        self.uses[uses.min(2)] += 1;
+        if let Some(depth @ 1..) = copyable_pairs(value) {
+            self.pairs[depth.min(DEEPEST_PAIRS) - 1][uses.min(2)] += 1;
+        }
+    }
+
     fn look_at_circuit(&mut self, constant: &Rc<Boxed>, frame: usize) {
         let (times, first) = self
             .applied
@@ -119,6 +141,19 @@ impl Run {
         let passes = result.iter().any(|wire| constant.inputs.contains(wire));
         self.passing += usize::from(passes);
         self.crossing += usize::from(!result.is_sorted());
+    }
+}
+
+/// How many pairs stand in each other, from the outermost on, in a value that
+/// may be copied; none for another value.
+fn copyable_pairs(value: &Term) -> Option<usize> {
+    match &value.form {
+        Form::Gate(_) | Form::Constant(_) | Form::Lift(_) => Some(0),
+        Form::Pair(first, second) => {
+            let (first, second) = (copyable_pairs(first)?, copyable_pairs(second)?);
+            Some(1 + first.max(second))
+        }
+        _ => None,
     }
 }
 
@@ -140,6 +175,7 @@ impl Seen {
     pub fn count(&mut self, run: &Run, answer: &Answer) {
         add(&mut self.steps, &run.steps);
         add(&mut self.uses, &run.uses);
+        add_pairs(&mut self.pairs, &run.pairs);
         for (most, size) in self.most.iter_mut().zip(run.most) {
             *most = (*most).max(size);
         }
@@ -175,6 +211,7 @@ impl Seen {
         self.passing += other.passing;
         self.crossing += other.crossing;
         add(&mut self.uses, &other.uses);
+        add_pairs(&mut self.pairs, &other.pairs);
         add(&mut self.gates, &other.gates);
     }
 
@@ -202,6 +239,18 @@ impl Seen {
         println!("circuits applied whose result crosses: {}", self.crossing);
         let [none, one, more] = self.uses;
         println!("values: {none} dropped, {one} used once, {more} copied");
+        for (at, [none, one, more]) in self.pairs.iter().enumerate() {
+            let depth = at + 1;
+            let deeper = if depth == DEEPEST_PAIRS {
+                " or more"
+            } else {
+                ""
+            };
+            println!(
+                "pairs that may be copied, {depth}{deeper} deep: {none} dropped, {one} used once, \
+                 {more} copied"
+            );
+        }
         println!("gates of finished runs by number: {:?}", self.gates);
     }
 
@@ -224,10 +273,23 @@ impl Seen {
         assert!(self.passing >= 20_000, "too few wires that pass through");
         assert!(self.crossing >= 20_000, "too few wires that cross");
         assert!(self.uses.iter().all(|&uses| uses >= 50_000), "too few uses");
+        for (at, pairs) in self.pairs.iter().enumerate() {
+            let enough = pairs
+                .iter()
+                .zip(LEAST_PAIRS)
+                .all(|(&seen, least)| seen >= least);
+            assert!(enough, "too few pairs {} deep: {pairs:?}", at + 1);
+        }
         assert!(
             self.gates.iter().all(|&gates| gates >= 5_000),
             "too few gates"
         );
+    }
+}
+
+fn add_pairs(to: &mut Pairs, more: &Pairs) {
+    for (pairs, more) in to.iter_mut().zip(more) {
+        add(pairs, more);
     }
 }
 

@@ -4,6 +4,7 @@ use crate::families::bound_gate;
 use comparing::{one_kind, stack};
 use program_files::{Program, Wire};
 use programs::extremes;
+use programs::rules::MOST_ENTRIES;
 use programs::terms::{abstraction, application, force, label, let_in, lift, pair, variable};
 use programs::typed::Typed;
 use programs::types::reusable;
@@ -27,8 +28,9 @@ fn deepest() -> Vec<(String, Vec<u8>)> {
         files.push((name, typed.program.bytes()));
     }
     for (name, typed) in extremes::all(GROWN) {
-        let program = grown(&typed);
-        files.push((format!("{name}, substituted"), program.bytes()));
+        if let Some(program) = grown(&typed) {
+            files.push((format!("{name}, substituted"), program.bytes()));
+        }
     }
     for (name, program) in one_kind::programs() {
         files.push((name, program.bytes()));
@@ -37,18 +39,22 @@ fn deepest() -> Vec<(String, Vec<u8>)> {
 }
 
 /// The program in a lift that is bound and used twice, if it has no label, so
-/// that it grows to twice its nodes; else a gate of it bound.
-fn grown(typed: &Typed) -> Program {
+/// that it grows to twice its nodes; else a gate of it bound. None if there is
+/// no pair of two of its type.
+fn grown(typed: &Typed) -> Option<Program> {
     if !typed.program.labels.is_empty() {
         let bound = bound_gate(typed, 0).expect("room for three nodes");
-        return bound.program;
+        return Some(bound.program);
+    }
+    if 1 + 2 * typed.of.size() > MOST_ENTRIES {
+        return None;
     }
     let both = pair(force(variable(0)), force(variable(0)));
     let copied = abstraction(reusable(typed.of.clone()), let_in(both, label(0)));
-    Program::new(
+    Some(Program::new(
         vec![Wire::Qubit],
         application(copied, lift(typed.program.term.clone())),
-    )
+    ))
 }
 
 /// The run under test with buffers of the least lengths.
