@@ -733,9 +733,11 @@ const LINEAR_PAIRS: [&[u8]; 9] = [
     &[PAIR_TYPE, PAIR_TYPE, FUN, BIT, BIT, REU, BIT, REU, BIT],
 ];
 
-/// Terms with a variable of such a type: the number, and how far the place is
-/// behind the abstraction.
-const LINEAR_USES: [(u8, usize, &[(u8, u16)]); 7] = [
+/// A number, how far its place is behind the abstraction, and the term.
+type LinearUse = (u8, usize, &'static [(u8, u16)]);
+
+/// Terms with a variable of such a type.
+const LINEAR_USES: [LinearUse; 7] = [
     (17, 0, &[(ABS, 0), (GATE, 0)]),
     (17, 0, &[(ABS, 0), (LIFT, 0), (GATE, 0)]),
     (17, 0, &[(ABS, 0), (PAIR, 0), (VAR, 0), (VAR, 0)]),

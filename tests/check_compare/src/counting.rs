@@ -10,12 +10,12 @@ pub enum Wrong {
     Nothing,
     CountEndsAtLift,
     FunctionCopyable,
-    PairsLinear,
+    /// Pairs inside so many others are never copied, or always.
+    PairsLinear(usize),
+    PairsCopyable(usize),
     OneHalfEnough,
     FirstHalfOnly,
     SecondHalfOnly,
-    InnerPairsLinear,
-    InnerPairsCopyable,
     ReusableLinear,
     CircuitLinear,
     Bound511,
@@ -49,18 +49,18 @@ pub enum Wrong {
     MeasToQubit,
 }
 
-pub const PLANTED: [(&str, Wrong); 49] = [
+pub const PLANTED: [(&str, Wrong); 52] = [
     ("counting stops at a lift", Wrong::CountEndsAtLift),
     ("a function may be copied", Wrong::FunctionCopyable),
-    ("pairs never copied", Wrong::PairsLinear),
+    ("pairs never copied", Wrong::PairsLinear(0)),
+    ("pairs in a pair never copied", Wrong::PairsLinear(1)),
+    ("pairs in 8 others never copied", Wrong::PairsLinear(8)),
+    ("any pair copied", Wrong::PairsCopyable(0)),
+    ("any pair in a pair copied", Wrong::PairsCopyable(1)),
+    ("any pair in 8 others copied", Wrong::PairsCopyable(8)),
     ("one half of a pair is enough", Wrong::OneHalfEnough),
     ("the first half of a pair decides", Wrong::FirstHalfOnly),
     ("the second half of a pair decides", Wrong::SecondHalfOnly),
-    ("outer pair only, inner ones never", Wrong::InnerPairsLinear),
-    (
-        "outer pair only, inner ones always",
-        Wrong::InnerPairsCopyable,
-    ),
     ("a reusable is linear", Wrong::ReusableLinear),
     ("a circuit is linear", Wrong::CircuitLinear),
     ("bound 511", Wrong::Bound511),
@@ -225,21 +225,21 @@ impl Counting<'_> {
     }
 
     fn is_copyable(&self, of: &Type) -> bool {
+        self.is_copyable_inside(of, 0)
+    }
+
+    /// Whether a type inside so many pairs may be copied.
+    fn is_copyable_inside(&self, of: &Type, pairs: usize) -> bool {
+        let half = |half: &Type| self.is_copyable_inside(half, pairs + 1);
         match of {
             Type::Bit | Type::Qubit => false,
             Type::Pair(first, second) => match self.wrong {
-                Wrong::PairsLinear => false,
-                Wrong::OneHalfEnough => self.is_copyable(first) || self.is_copyable(second),
-                Wrong::FirstHalfOnly => self.is_copyable(first),
-                Wrong::SecondHalfOnly => self.is_copyable(second),
-                Wrong::InnerPairsLinear | Wrong::InnerPairsCopyable => {
-                    let always = self.wrong == Wrong::InnerPairsCopyable;
-                    [first, second].into_iter().all(|half| match **half {
-                        Type::Pair(..) => always,
-                        _ => self.is_copyable(half),
-                    })
-                }
-                _ => self.is_copyable(first) && self.is_copyable(second),
+                Wrong::PairsLinear(from) if pairs >= from => false,
+                Wrong::PairsCopyable(from) if pairs >= from => true,
+                Wrong::OneHalfEnough => half(first) || half(second),
+                Wrong::FirstHalfOnly => half(first),
+                Wrong::SecondHalfOnly => half(second),
+                _ => half(first) && half(second),
             },
             Type::Function(..) => self.wrong == Wrong::FunctionCopyable,
             Type::Reusable(_) => self.wrong != Wrong::ReusableLinear,
