@@ -37,8 +37,8 @@ pub struct Comparison {
     every_sharing: usize,
     planted: Planted<Wrong>,
     memory: Planted<Check>,
-    /// Whether the programs that follow are not made to have pairs that may be
-    /// copied, and those that they have are counted.
+    /// Whether pairs that may be copied are counted in the programs that follow:
+    /// not where each is made to have one.
     pub counts_pairs: bool,
     /// By number, and by what stands at the place.
     places: BTreeMap<(u8, &'static str), usize>,

@@ -24,7 +24,7 @@ const VERY_DEEP: [usize; 2] = [60, 120];
 const LEAST: usize = 40;
 const LEAST_VERY_DEEP: usize = 12;
 
-/// The leaves of even pairs are as many as fit up to this depth.
+/// Deeper than this, pairs whose halves are of one depth have too many leaves.
 const DEEPEST_EVEN: usize = 5;
 
 /// What binds the variable.
