@@ -1,16 +1,15 @@
 //! What accepted programs had.
 
+use comparing::Pairs;
 use program_files::entries::LONGEST;
 use program_files::{kinds, Accepted, Type};
 use programs::rules::{copyable, MOST_ENTRIES};
 use programs::survey::Survey;
 use programs::types::pairs_deep;
 
-/// Pairs in pairs, counted up to so many.
-const DEEPEST: usize = 8;
-
-/// The least number of variables, at each depth, of a pair type that may be
-/// copied: dropped, copied, used inside a lift.
+/// The uses of variables of a pair type that may be copied, in a lift with the
+/// binder outside of it, and the least number of each at each depth.
+const USES_OF_PAIRS: [&str; 3] = ["dropped", "copied", "used inside a lift"];
 const LEAST_PAIRS: [usize; 3] = [250, 35, 20];
 
 #[derive(Default)]
@@ -28,10 +27,8 @@ pub struct Seen {
     kinds: [usize; 11],
     /// Variables by the kind of their type, and by uses: none, one, more.
     uses: [[usize; 3]; 6],
-    /// Variables of a pair type that may be copied, by the depth of the pairs:
-    /// those dropped, those copied, those used inside a lift with the binder
-    /// outside of it.
-    pairs: [[usize; 3]; DEEPEST],
+    /// Variables of a pair type that may be copied.
+    pairs: Pairs<8>,
 }
 
 impl Seen {
@@ -75,12 +72,13 @@ impl Seen {
         }
         for (binder, [all, in_lift]) in survey.binders.iter().zip(uses) {
             let of = binder.of.as_ref().expect("a type");
-            let depth = pairs_deep(of).min(DEEPEST);
+            let depth = pairs_deep(of);
             if depth > 0 && copyable(of) {
-                let [dropped, copied, lifted] = &mut self.pairs[depth - 1];
-                *dropped += usize::from(all == 0);
-                *copied += usize::from(all > 1);
-                *lifted += usize::from(in_lift > 0);
+                for (to, is_so) in [all == 0, all > 1, in_lift > 0].into_iter().enumerate() {
+                    if is_so {
+                        self.pairs.count(depth, to);
+                    }
+                }
             }
         }
     }
@@ -111,14 +109,7 @@ impl Seen {
             let [none, one, more] = self.uses[usize::from(kind)];
             println!("variables of kind {name}: {none} not used, {one} once, {more} more often");
         }
-        for (at, [dropped, copied, in_lift]) in self.pairs.iter().enumerate() {
-            let depth = at + 1;
-            let more = if depth == DEEPEST { " or more" } else { "" };
-            println!(
-                "pairs that may be copied, {depth}{more} deep: {dropped} dropped, {copied} copied, \
-                 {in_lift} used inside a lift"
-            );
-        }
+        self.pairs.report(USES_OF_PAIRS);
     }
 
     /// Fails if too little has been seen.
@@ -145,13 +136,7 @@ impl Seen {
             let uses = self.uses[usize::from(kind)];
             assert!(uses.iter().all(|&uses| uses >= 1_000), "too few copies");
         }
-        for (at, pairs) in self.pairs.iter().enumerate() {
-            let enough = pairs
-                .iter()
-                .zip(LEAST_PAIRS)
-                .all(|(&seen, least)| seen >= least);
-            assert!(enough, "too few pairs {} deep: {pairs:?}", at + 1);
-        }
+        self.pairs.assert(LEAST_PAIRS);
     }
 }
 

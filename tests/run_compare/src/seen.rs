@@ -1,5 +1,6 @@
 //! What the runs had.
 
+use comparing::Pairs;
 use evaluator::circuits::Boxed;
 use evaluator::configurations::{MOST_BOXES, MOST_GATES, MOST_NODES};
 use evaluator::contexts::redex;
@@ -22,15 +23,10 @@ const STEPS: [&str; 7] = [
 /// Boxes open at once, counted up to so many.
 const DEEPEST: usize = 10;
 
-/// Pairs in pairs, counted up to so many.
-const DEEPEST_PAIRS: usize = 4;
-
-/// The least number of pairs that may be copied, at each depth: dropped, used
-/// once, copied.
+/// The uses of values that are pairs and may be copied, and the least number of
+/// each at each depth.
+const USES_OF_PAIRS: [&str; 3] = ["dropped", "used once", "copied"];
 const LEAST_PAIRS: [usize; 3] = [800, 800, 200];
-
-/// Values that are pairs, by their depth and by the uses of their variable.
-type Pairs = [[usize; 3]; DEEPEST_PAIRS];
 
 #[derive(Default)]
 pub struct Seen {
@@ -53,7 +49,7 @@ pub struct Seen {
     /// Values by the uses of their variable: none, one, more.
     uses: [usize; 3],
     /// The same of those that are pairs and may be copied.
-    pairs: Pairs,
+    pairs: Pairs<4>,
     /// Gates of finished runs.
     gates: [usize; GATES.len()],
 }
@@ -71,7 +67,7 @@ pub struct Run {
     passing: usize,
     crossing: usize,
     uses: [usize; 3],
-    pairs: Pairs,
+    pairs: Pairs<4>,
 }
 
 impl Run {
@@ -126,7 +122,7 @@ impl Run {
     fn look_at_value(&mut self, value: &Term, uses: usize) {
         self.uses[uses.min(2)] += 1;
         if let Some(depth @ 1..) = copyable_pairs(value) {
-            self.pairs[depth.min(DEEPEST_PAIRS) - 1][uses.min(2)] += 1;
+            self.pairs.count(depth, uses.min(2));
         }
     }
 
@@ -175,7 +171,7 @@ impl Seen {
     pub fn count(&mut self, run: &Run, answer: &Answer) {
         add(&mut self.steps, &run.steps);
         add(&mut self.uses, &run.uses);
-        add_pairs(&mut self.pairs, &run.pairs);
+        self.pairs.add(&run.pairs);
         for (most, size) in self.most.iter_mut().zip(run.most) {
             *most = (*most).max(size);
         }
@@ -211,7 +207,7 @@ impl Seen {
         self.passing += other.passing;
         self.crossing += other.crossing;
         add(&mut self.uses, &other.uses);
-        add_pairs(&mut self.pairs, &other.pairs);
+        self.pairs.add(&other.pairs);
         add(&mut self.gates, &other.gates);
     }
 
@@ -239,18 +235,7 @@ impl Seen {
         println!("circuits applied whose result crosses: {}", self.crossing);
         let [none, one, more] = self.uses;
         println!("values: {none} dropped, {one} used once, {more} copied");
-        for (at, [none, one, more]) in self.pairs.iter().enumerate() {
-            let depth = at + 1;
-            let deeper = if depth == DEEPEST_PAIRS {
-                " or more"
-            } else {
-                ""
-            };
-            println!(
-                "pairs that may be copied, {depth}{deeper} deep: {none} dropped, {one} used once, \
-                 {more} copied"
-            );
-        }
+        self.pairs.report(USES_OF_PAIRS);
         println!("gates of finished runs by number: {:?}", self.gates);
     }
 
@@ -273,23 +258,11 @@ impl Seen {
         assert!(self.passing >= 20_000, "too few wires that pass through");
         assert!(self.crossing >= 20_000, "too few wires that cross");
         assert!(self.uses.iter().all(|&uses| uses >= 50_000), "too few uses");
-        for (at, pairs) in self.pairs.iter().enumerate() {
-            let enough = pairs
-                .iter()
-                .zip(LEAST_PAIRS)
-                .all(|(&seen, least)| seen >= least);
-            assert!(enough, "too few pairs {} deep: {pairs:?}", at + 1);
-        }
+        self.pairs.assert(LEAST_PAIRS);
         assert!(
             self.gates.iter().all(|&gates| gates >= 5_000),
             "too few gates"
         );
-    }
-}
-
-fn add_pairs(to: &mut Pairs, more: &Pairs) {
-    for (pairs, more) in to.iter_mut().zip(more) {
-        add(pairs, more);
     }
 }
 
