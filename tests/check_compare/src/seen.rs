@@ -7,8 +7,8 @@ use programs::rules::{copyable, MOST_ENTRIES};
 use programs::survey::Survey;
 use programs::types::pairs_deep;
 
-/// The uses of variables of a pair type that may be copied, in a lift with the
-/// binder outside of it, and the least number of each at each depth.
+/// The uses of variables of a pair type that may be copied, the last with the
+/// binder outside the lift, and the least number of each at each depth.
 const USES_OF_PAIRS: [&str; 3] = ["dropped", "copied", "used inside a lift"];
 const LEAST_PAIRS: [usize; 3] = [250, 35, 20];
 
