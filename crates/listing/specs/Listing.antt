@@ -44,8 +44,8 @@ abbrev pub oldestFirst : List Gate → List Gate
 oldestFirst gs = reverse gs
 
 -- "Sizes first, 16-bit: L, gates G, outputs O".
-abbrev pub sizes : List Wire → List Gate → Tuple → List ℕ
-sizes I gs r = length I ∷ length gs ∷ length (labels r) ∷ []
+abbrev pub sizes : List Wire → List Gate → List ℕ → List ℕ
+sizes I gs outs = length I ∷ length gs ∷ length outs ∷ []
 
 -- "Then L+G kind bytes": the inputs, then the gates.
 abbrev pub kinds : List Wire → List Gate → List ℕ
@@ -55,11 +55,16 @@ kinds I gs = map inputKind I ++ map gateKind (oldestFirst gs)
 abbrev pub allSlots : List Wire → List Gate → List ℕ
 allSlots I gs = flatMap inputSlots I ++ flatMap gateSlots (oldestFirst gs)
 
--- The whole listing; at its end "the O output wires, left to right, 16 bits each".
-unfoldable pub listing : Circuit → Tuple → List ℕ
-listing (circuit I gs) r =
-    flatMap bytesOf (sizes I gs r)
-    ++ (kinds I gs ++ (flatMap bytesOf (allSlots I gs) ++ flatMap bytesOf (labels r)))
+-- The whole listing of inputs, gates and output wires; at its end "the O output wires, left to right, 16 bits each". A listing
+-- that was made elsewhere (02, ticket 3) may have no output, and no type says how its outputs are paired.
+unfoldable pub listingBytes : List Wire → List Gate → List ℕ → List ℕ
+listingBytes I gs outs =
+    flatMap bytesOf (sizes I gs outs)
+    ++ (kinds I gs ++ (flatMap bytesOf (allSlots I gs) ++ flatMap bytesOf outs))
+
+-- The listing of a circuit with its result: the outputs are the labels of the tuple.
+abbrev pub listing : Circuit → Tuple → List ℕ
+listing (circuit I gs) r = listingBytes I gs (labels r)
 
 -- "Length: 6 + 5(L+G) + 2O".
 abbrev pub listingLength : ℕ → ℕ → ℕ → ℕ

@@ -9,8 +9,7 @@ use mathlib.Core.Option.{Option, none, some}
 use lib.Dec.{T as IsTrue, leb, ltb, leb→le, leb·zero, leb·suc-zero, leb·suc-suc}
 use lib.ListN.{length, getD, List·getD-eq-default}
 use Rattle.rules.specs.Gates.{GateType, _to_, nth, gateTable, gateType, isSome, isGate}
-use Rattle.rules.specs.GateCodes.{codeAt, circCodes, typeEntries, typeCode, filled}
-use Rattle.rules.specs.Laws.GateCodes.{most-type}
+use Rattle.rules.specs.GateCodes.{codeAt, circCodes, typeEntries, filled}
 use Rattle.rules.specs.Types.{typeCodes}
 use Rattle.rules.specs.Laws.Booleans.{and-left, and-right}
 
@@ -46,29 +45,25 @@ filled-at (suc k) [] (suc i) h = filled-at k [] i (omega arith)
 filled-at (suc k) (c ∷ codes) zero h = refl
 filled-at (suc k) (c ∷ codes) (suc i) h = filled-at k codes i (omega arith)
 
--- The rows of the types in preorder.
-abbrev rowOf : Option GateType → List ℕ
-rowOf g = filled most-type (circCodes g)
+-- A table with a row of codes for each gate, filled up to a width that none of them exceeds: at a gate and a place of the row, and
+-- what there is elsewhere.
+module _ (wide : ℕ) (codes : Option GateType → List ℕ) (fits : IsTrue (tests (λ g. leb (length (codes g)) wide) gateTable))
+    (n i : ℕ) where
+  pub code-inside : n < length gateTable
+      → i < wide
+      → getD (getD (map (λ g. filled wide (codes (some g))) gateTable) n []) i 0 ≡ codeAt (codes (gateType n)) i
+  code-inside h k =
+      ap (λ r. getD r i 0) (entry-at (λ g. filled wide (codes g)) [] gateTable n h)
+      ∙ filled-at wide (codes (gateType n)) i k
 
--- The code's table at a gate and a place, and what there is elsewhere.
-pub code-inside : (n i : ℕ)
-    → n < length gateTable
-    → i < most-type
-    → getD (getD (map (λ g. rowOf (some g)) gateTable) n []) i 0 ≡ typeCode n i
-unfolding typeCode
-code-inside n i h k =
-    ap (λ r. getD r i 0) (entry-at rowOf [] gateTable n h) ∙ filled-at most-type (circCodes (gateType n)) i k
+  pub no-such-gate : codes none ≡ [] → length gateTable ≤ n → 255 ≡ codeAt (codes (gateType n)) i
+  no-such-gate no-code h = of-no-gate (λ g. 255 ≡ codeAt (codes g) i) gateTable (ap (λ l. codeAt l i) (sym no-code)) n h
 
-pub no-such-gate : (n i : ℕ) → length gateTable ≤ n → 255 ≡ typeCode n i
-unfolding typeCode
-no-such-gate n i h = of-no-gate (λ g. 255 ≡ codeAt (circCodes g) i) gateTable refl n h
-
-pub no-such-entry : (n i : ℕ) → most-type ≤ i → 255 ≡ typeCode n i
-unfolding typeCode
-no-such-entry n i h =
-    let short : length (circCodes (gateType n)) ≤ most-type
-    = leb→le _ most-type (at-each (λ g. leb (length (circCodes g)) most-type) gateTable tt n) in
-    sym (List·getD-eq-default (circCodes (gateType n)) 255 (omega arith))
+  pub no-such-entry : wide ≤ i → 255 ≡ codeAt (codes (gateType n)) i
+  no-such-entry h =
+      let short : length (codes (gateType n)) ≤ wide
+      = leb→le (length (codes (gateType n))) wide (at-each (λ g. leb (length (codes g)) wide) gateTable fits n) in
+      sym (List·getD-eq-default (codes (gateType n)) 255 (omega arith))
 
 -- The gates are the numbers whose type has entries.
 pub gate-has-entries : (n : ℕ) → ltb 0 (typeEntries n) ≡ isGate n

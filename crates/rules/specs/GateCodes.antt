@@ -1,10 +1,10 @@
 -- The gates in numbers, as the code has them (01, "Forms for specific places": "a constant table of arity and type codes,
 -- looked up by reader, check and apply"). Everything is stated over `gateTable`.
 use Prim.Native.Nat.{ℕ, zero, suc}
-use mathlib.Core.List.{List, [], _∷_}
+use mathlib.Core.List.{List, [], _∷_, map}
 use mathlib.Core.Option.{Option, none, some}
 use lib.ListN.{length, getD}
-use Rattle.rules.specs.Types.{Wire, Circ, wires, typeCodes}
+use Rattle.rules.specs.Types.{Wire, Circ, wires, wireCode, typeCodes}
 use Rattle.rules.specs.Gates.{GateType, _to_, gateType, outputWires}
 use Rattle.rules.specs.Terms.{Gate, _on_}
 
@@ -29,6 +29,13 @@ wiresIn n = length (inputWires (gateType n))
 -- How many wires a gate makes.
 unfoldable pub wiresOut : ℕ → ℕ
 wiresOut n = length (outputWires (gateType n))
+
+-- The type of the wire that a gate takes at a place, counted from the left, and of the wire that it makes.
+unfoldable pub wireIn : ℕ → ℕ → ℕ
+wireIn n k = codeAt (map wireCode (inputWires (gateType n))) k
+
+unfoldable pub wireOut : ℕ → ℕ → ℕ
+wireOut n k = codeAt (map wireCode (outputWires (gateType n))) k
 
 -- How many entries the type of a gate has.
 unfoldable pub typeEntries : ℕ → ℕ

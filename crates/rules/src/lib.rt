@@ -7,13 +7,16 @@ pub mod kinds;
 pub mod sizes;
 
 ghost use mathlib.Core.Path.{_≡_};
-ghost use Rattle.rules.specs.GateCodes.{wiresIn, wiresOut, typeEntries, typeCode};
+ghost use Rattle.rules.specs.GateCodes.{wiresIn, wiresOut, wireIn, wireOut, typeEntries, typeCode};
 ghost use Rattle.rules.specs.Gates.{isGate};
 
 // How many gates there are, and the most entries of a gate's type.
 pub const GATES: usize = 9;
 
 const MOST_TYPE: usize = 7;
+
+// The most wires that a gate may take or make.
+const SLOTS: usize = 3;
 
 // The code where there is no entry or no gate.
 const NONE: u8 = 255;
@@ -25,6 +28,31 @@ const WIRES_IN: [u8; GATES] = [1, 1, 1, 1, 1, 2, 1, 2, 2];
 const WIRES_OUT: [u8; GATES] = [1, 1, 1, 1, 1, 2, 1, 2, 2];
 
 const TYPE_ENTRIES: [u8; GATES] = [3, 3, 3, 3, 3, 7, 3, 7, 7];
+
+// The types of the wires that each gate takes and makes, left to right: 0 Bit, 1 Qubit.
+const TYPES_IN: [[u8; SLOTS]; GATES] = [
+    [1, NONE, NONE],
+    [1, NONE, NONE],
+    [1, NONE, NONE],
+    [1, NONE, NONE],
+    [1, NONE, NONE],
+    [1, 1, NONE],
+    [1, NONE, NONE],
+    [0, 1, NONE],
+    [0, 1, NONE],
+];
+
+const TYPES_OUT: [[u8; SLOTS]; GATES] = [
+    [1, NONE, NONE],
+    [1, NONE, NONE],
+    [1, NONE, NONE],
+    [1, NONE, NONE],
+    [1, NONE, NONE],
+    [1, 1, NONE],
+    [0, NONE, NONE],
+    [0, 1, NONE],
+    [0, 1, NONE],
+];
 
 // The type of each gate in preorder, by 01's type section: 0 Bit, 1 Qubit, 2 pair, 5 circuit.
 const TYPE_CODES: [[u8; MOST_TYPE]; GATES] = [
@@ -67,6 +95,28 @@ pub fn wires_out(n: usize) -> usize
     ensures { λ r. ⌜ r ≡ wiresOut n ⌝ }
 {
     if n < GATES { wide(WIRES_OUT[n]) } else { 0 }
+}
+
+// The type of a wire that the gate takes, counted from the left; NONE where there is no such wire.
+pub fn wire_in(n: usize, k: usize) -> u8
+    ensures { λ r. ⌜ r ≡ wireIn n k ⌝ }
+{
+    if n < GATES && k < SLOTS {
+        TYPES_IN[n][k]
+    } else {
+        NONE
+    }
+}
+
+// The type of a wire that the gate makes, counted from the left; NONE where there is no such wire.
+pub fn wire_out(n: usize, k: usize) -> u8
+    ensures { λ r. ⌜ r ≡ wireOut n k ⌝ }
+{
+    if n < GATES && k < SLOTS {
+        TYPES_OUT[n][k]
+    } else {
+        NONE
+    }
 }
 
 // How many entries the gate's type has, Circ from its input to its output; 0 where there is no such gate.

@@ -6,7 +6,8 @@ use Rattle.wirelist_lines.specs.Lines.{gateName, inputLine, gateLine, ou
 use Rattle.rules.specs.GateCodes.{wiresIn, wiresOut}
 use Rattle.rules.specs.Circuits.{numbers}
 use Rattle.listing.specs.Pieces.{pieces}
-use Rattle.listing.specs.Reading.{wordsAt, inputCount, gateCount, outputCount, kindAt, slotsFrom, outputsFrom, inputType}
+use Rattle.words.specs.Numbers.{wordsAt}
+use Rattle.listing.specs.Reading.{inputCount, gateCount, outputCount, kindAt, slotsFrom, outputsFrom, inputType}
 use Rattle.listing.specs.Reading.{madeBefore}
 
 -- What stands in the line of a gate before the colon.

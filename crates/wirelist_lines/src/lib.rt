@@ -27,7 +27,8 @@ ghost use Rattle.wirelist_lines.specs.Lines.{gateLine, stepsLine, refuse
 ghost use Rattle.wirelist_lines.specs.Least.{least-text};
 ghost use Rattle.text.specs.Written.{Written};
 ghost use Rattle.text.specs.Writing.{Puts};
-ghost use Rattle.listing.specs.Reading.{wordsAt, inputCount, gateCount, slotsFrom};
+ghost use Rattle.words.specs.Numbers.{wordsAt};
+ghost use Rattle.listing.specs.Reading.{inputCount, gateCount, slotsFrom};
 ghost use Rattle.wirelist_lines.specs.LinesAt.{inputLineAt, gateLineAt, outLineAt, textAt, takenPart};
 
 // The least length of a buffer that holds every text.

@@ -4,7 +4,7 @@ use words::word_at;
 ghost use Prim.Native.Nat.{_+_, _<_};
 ghost use mathlib.Core.List.{map};
 ghost use Rattle.rules.specs.Circuits.{numbers};
-ghost use Rattle.listing.specs.Reading.{wordsAt};
+ghost use Rattle.words.specs.Numbers.{wordsAt};
 ghost use Rattle.text.specs.Text.{decimal, spaced};
 ghost use Rattle.text.specs.Writing.{Puts};
 

@@ -44,10 +44,10 @@ pub fn word_at(bytes: &[u8], i: usize) -> usize
     ensures { λ r. ⌜ r ≡ wordAt (now (bytes .entry)) i ⌝ }
     ensures { λ r. ⌜ r < 65536 ⌝ }
 {
-    if bytes.len() <= i {
-        return 0;
+    if runs_past(bytes.len(), i, 2) {
+        return byte_at(bytes, i) as usize;
     }
-    byte_at(bytes, i) as usize + 256 * (byte_at(bytes, i + 1) as usize)
+    bytes[i] as usize + 256 * (bytes[i + 1] as usize)
 }
 
 // Word i; 0 past the end.

@@ -14,7 +14,7 @@ use Rattle.check_program.specs.Answers.{Judged, accepts, refuses, checkOf, chec
 use Rattle.check_program.specs.Answers.{outTo as judgedOut}
 use Rattle.check_program.specs.Lengths.{check-lengths}
 use Rattle.check_program.specs.Laws.Opened.{opened as check-opened}
-use Rattle.listing.specs.Listing.{listing}
+use Rattle.listing.specs.Listing.{listingBytes}
 use Rattle.run_answers.specs.declared.RunAnswer.the-variants.{Refused as RunRefused}
 use Rattle.run_answers.specs.Lengths.{run-lengths}
 use Rattle.run_answers.specs.Answers.{Ran, runOf, answerTo, outTo, runAnswer, runBytes}
@@ -27,7 +27,7 @@ use Rattle.cases.specs.Answers.{checkAnswerTo, checkOutTo, RunsAnswer, A
 
 -- `runOf` with every definition of the reader, the check and the run open: a line `unfolding opened` below opens them all.
 opened : List ℕ → ℕ → Ran
-unfolding check-opened listing flatMap runOf encode programKinds programArguments
+unfolding check-opened listingBytes flatMap runOf encode programKinds programArguments
 opened f n = runOf f n
 
 -- Every case of the table holds: those of 01; those of ticket 1, whose nodes have faults in their parts, behind one of a later

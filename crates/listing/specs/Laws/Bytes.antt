@@ -7,7 +7,7 @@ use lib.ListN.{length, getD, List·getD-append}
 use lib.Seq.{getD-append-add}
 use Rattle.listing.specs.Listing.{bytesOf, slots}
 use Rattle.words.specs.Numbers.{wordAt}
-use Rattle.listing.specs.Reading.{wordsAt}
+use Rattle.words.specs.Numbers.{wordsAt}
 
 -- A number that stands as two bytes is read back.
 first-word : (ws s : List ℕ) (m : ℕ) → m < length ws → wordAt (flatMap bytesOf ws ++ s) (2 * m) ≡ getD ws m 0

@@ -7,10 +7,10 @@ use mathlib.Core.List.{List, [], _∷_, _++_, map, flatMap}
 use lib.ListN.{length, length-append, length-map, length-reverse}
 use Rattle.rules.specs.Types.{Wire}
 use Rattle.rules.specs.Gates.{gateTable}
-use Rattle.rules.specs.Terms.{Tuple, labels, Gate, _on_}
-use Rattle.rules.specs.Circuits.{circuit, TakesEarlier, no-gate, next-gate}
+use Rattle.rules.specs.Terms.{Gate, _on_}
+use Rattle.rules.specs.Circuits.{TakesEarlier, no-gate, next-gate}
 use Rattle.listing.specs.Listing.{bytesOf, inputKind, gateKind, entry-slots, slots, inputSlots, gateSlots, oldestFirst}
-use Rattle.listing.specs.Listing.{sizes, kinds, allSlots, listing, listingLength, most-bytes, most-outputs}
+use Rattle.listing.specs.Listing.{sizes, kinds, allSlots, listingBytes, listingLength, most-bytes, most-outputs}
 use Rattle.listing.specs.Lengths.{KindsFit}
 use Rattle.rules.specs.Sizes.{most-labels, most-gates}
 use Rattle.rules.specs.Laws.Wires.{nth-some-within}
@@ -58,34 +58,33 @@ length-all-slots I gs =
     )
 
 -- 01: "Length: 6 + 5(L+G) + 2O".
-pub length-listing : (I : List Wire) (gs : List Gate) (r : Tuple)
-    → length (listing (circuit I gs) r) ≡ listingLength (length I) (length gs) (length (labels r))
-unfolding listing
-length-listing I gs r =
-    let S = flatMap bytesOf (sizes I gs r) in
+pub length-listing : (I : List Wire) (gs : List Gate) (outs : List ℕ)
+    → length (listingBytes I gs outs) ≡ listingLength (length I) (length gs) (length outs)
+unfolding listingBytes
+length-listing I gs outs =
+    let S = flatMap bytesOf (sizes I gs outs) in
     let E = flatMap bytesOf (allSlots I gs) in
-    let O = flatMap bytesOf (labels r) in
+    let O = flatMap bytesOf outs in
     omega (
       arith,
       length-append S (kinds I gs ++ (E ++ O)),
       length-append (kinds I gs) (E ++ O),
       length-append E O,
-      length-bytes (sizes I gs r),
+      length-bytes (sizes I gs outs),
       length-kinds I gs,
       length-bytes (allSlots I gs),
       length-all-slots I gs,
-      length-bytes (labels r),
+      length-bytes outs,
     )
 
 -- 01: "at most 11,078".
-pub listing-fits : (I : List Wire) (gs : List Gate) (r : Tuple)
+pub listing-fits : (I : List Wire) (gs : List Gate) (outs : List ℕ)
     → length I ≤ most-labels
     → length gs ≤ most-gates
-    → length (labels r) ≤ most-outputs
-    → length (listing (circuit I gs) r) ≤ most-bytes
-listing-fits I gs r few-inputs few-gates few-outputs = omega (arith, length-listing I gs r)
+    → length outs ≤ most-outputs
+    → length (listingBytes I gs outs) ≤ most-bytes
+listing-fits I gs outs few-inputs few-gates few-outputs = omega (arith, length-listing I gs outs)
 
--- A number at which a list has an element is below its length.
 -- The gates of a sound circuit are those of the table, whose numbers are bytes.
 pub kinds-fit : {I : List Wire} {gs : List Gate} → TakesEarlier I gs → KindsFit gs
 kinds-fit no-gate = tt

@@ -12,15 +12,16 @@ use lib.Seq.{getD-append-add, getD-at}
 use Rattle.rules.specs.Types.{Wire, Bit, Qubit, Ty, wires}
 use Rattle.rules.specs.Gates.{GateType, _to_, gateTable, gateType}
 use Rattle.rules.specs.GateCodes.{inputWires, wiresIn, wiresOf}
-use Rattle.rules.specs.Terms.{Tuple, labels, Gate, _on_}
-use Rattle.rules.specs.Circuits.{circuit, OfTypes, wires-end, next-wire, TakesEarlier, no-gate, next-gate}
+use Rattle.rules.specs.Terms.{Gate, _on_}
+use Rattle.rules.specs.Circuits.{OfTypes, wires-end, next-wire, TakesEarlier, no-gate, next-gate}
 use Rattle.rules.specs.Laws.Wires.{every-nth}
 use Rattle.listing.specs.Listing.{bytesOf, inputKind, gateKind, entry-slots, inputSlots, gateSlots, oldestFirst, sizes}
-use Rattle.listing.specs.Listing.{kinds, allSlots, listing}
+use Rattle.listing.specs.Listing.{kinds, allSlots, listingBytes}
 use Rattle.listing.specs.Laws.Lengths.{length-flat, length-bytes, length-slots, length-gate-slots, length-kinds}
 use Rattle.listing.specs.Laws.Lengths.{length-all-slots, length-oldest}
 use Rattle.words.specs.Numbers.{wordAt}
-use Rattle.listing.specs.Reading.{wordsAt, inputCount, gateCount, outputCount, entryCount, kindAt, slotsFrom}
+use Rattle.words.specs.Numbers.{wordsAt}
+use Rattle.listing.specs.Reading.{inputCount, gateCount, outputCount, entryCount, kindAt, slotsFrom}
 use Rattle.listing.specs.Reading.{outputsFrom, inputType}
 use Rattle.listing.specs.Laws.Bytes.{word-behind, words-are, mapped-at, part-at, slot-at}
 
@@ -83,17 +84,17 @@ counted-at ((n on ws) ∷ gs) (next-gate {T = T} {U = U} e o t) j below =
         (one-counted n ws T U e o)
 
 -- The parts of a listing, and how long they are.
-abbrev sizeBytes : List Wire → List Gate → Tuple → List ℕ
-sizeBytes I gs r = flatMap bytesOf (sizes I gs r)
+abbrev sizeBytes : List Wire → List Gate → List ℕ → List ℕ
+sizeBytes I gs outs = flatMap bytesOf (sizes I gs outs)
 
 abbrev slotBytes : List Wire → List Gate → List ℕ
 slotBytes I gs = flatMap bytesOf (allSlots I gs)
 
-abbrev outputBytes : Tuple → List ℕ
-outputBytes r = flatMap bytesOf (labels r)
+abbrev outputBytes : List ℕ → List ℕ
+outputBytes outs = flatMap bytesOf outs
 
-size-bytes : (I : List Wire) (gs : List Gate) (r : Tuple) → length (sizeBytes I gs r) ≡ 6
-size-bytes I gs r = length-bytes (sizes I gs r)
+size-bytes : (I : List Wire) (gs : List Gate) (outs : List ℕ) → length (sizeBytes I gs outs) ≡ 6
+size-bytes I gs outs = length-bytes (sizes I gs outs)
 
 slot-bytes : (I : List Wire) (gs : List Gate) → length (slotBytes I gs) ≡ 2 * entry-slots * (length I + length gs)
 slot-bytes I gs = omega (arith, length-bytes (allSlots I gs), length-all-slots I gs)
@@ -114,17 +115,17 @@ type-of-kind : (α : Wire) → inputType (inputKind α) ≡ α
 type-of-kind Bit = refl
 type-of-kind Qubit = refl
 
-module _ (I : List Wire) (gs : List Gate) (r : Tuple) (rest b : List ℕ) (same : b ≡ listing (circuit I gs) r ++ rest)
+module _ (I : List Wire) (gs : List Gate) (outs : List ℕ) (rest b : List ℕ) (same : b ≡ listingBytes I gs outs ++ rest)
   where
-    parts : b ≡ sizeBytes I gs r ++ (kinds I gs ++ (slotBytes I gs ++ (outputBytes r ++ rest)))
-    unfolding listing
+    parts : b ≡ sizeBytes I gs outs ++ (kinds I gs ++ (slotBytes I gs ++ (outputBytes outs ++ rest)))
+    unfolding listingBytes
     parts = same ∙ simp append-assoc
 
     -- The sizes.
-    size-at : (at m : ℕ) → at ≡ 2 * m → m < 3 → wordAt b at ≡ getD (sizes I gs r) m 0
+    size-at : (at m : ℕ) → at ≡ 2 * m → m < 3 → wordAt b at ≡ getD (sizes I gs outs) m 0
     size-at at m here below =
         ap (λ c. wordAt c at) parts
-        ∙ word-behind [] (sizes I gs r) (kinds I gs ++ (slotBytes I gs ++ (outputBytes r ++ rest))) at m (omega arith) below
+        ∙ word-behind [] (sizes I gs outs) (kinds I gs ++ (slotBytes I gs ++ (outputBytes outs ++ rest))) at m (omega arith) below
 
     pub inputs-are : inputCount b ≡ length I
     inputs-are = size-at 0 0 refl (omega arith)
@@ -132,7 +133,7 @@ module _ (I : List Wire) (gs : List Gate) (r : Tuple) (rest b : List ℕ) (same 
     pub gates-are : gateCount b ≡ length gs
     gates-are = size-at 2 1 refl (omega arith)
 
-    pub outputs-are : outputCount b ≡ length (labels r)
+    pub outputs-are : outputCount b ≡ length outs
     outputs-are = size-at 4 2 refl (omega arith)
 
     pub entries-are : entryCount b ≡ length I + length gs
@@ -142,11 +143,11 @@ module _ (I : List Wire) (gs : List Gate) (r : Tuple) (rest b : List ℕ) (same 
     kind-is : (i : ℕ) → i < length I + length gs → kindAt b i ≡ getD (kinds I gs) i 0
     unfolding kindAt
     kind-is i below =
-        let more = kinds I gs ++ (slotBytes I gs ++ (outputBytes r ++ rest)) in
-        let here : 6 + i ≡ length (sizeBytes I gs r) + i = omega (arith, size-bytes I gs r) in
+        let more = kinds I gs ++ (slotBytes I gs ++ (outputBytes outs ++ rest)) in
+        let here : 6 + i ≡ length (sizeBytes I gs outs) + i = omega (arith, size-bytes I gs outs) in
         ap₂ (λ c k. getD c k 0) parts here
-        ∙ getD-append-add (sizeBytes I gs r) more i 0
-        ∙ List·getD-append (kinds I gs) (slotBytes I gs ++ (outputBytes r ++ rest)) 0 i (omega (arith, length-kinds I gs))
+        ∙ getD-append-add (sizeBytes I gs outs) more i 0
+        ∙ List·getD-append (kinds I gs) (slotBytes I gs ++ (outputBytes outs ++ rest)) 0 i (omega (arith, length-kinds I gs))
 
     pub input-is : (i : ℕ) → i < length I → inputType (kindAt b i) ≡ getD I i Bit
     input-is i below =
@@ -172,19 +173,19 @@ module _ (I : List Wire) (gs : List Gate) (r : Tuple) (rest b : List ℕ) (same 
         → k < entry-slots
         → wordAt b (slotsFrom b (inputCount b + j) + 2 * k) ≡ getD (gateSlots (gateAt gs j)) k 0
     slot-is j k below inside =
-        let before = sizeBytes I gs r ++ kinds I gs in
+        let before = sizeBytes I gs outs ++ kinds I gs in
         let m = entry-slots * (length I + j) + k in
         let long : length before ≡ 6 + (length I + length gs)
-        = length-append (sizeBytes I gs r) (kinds I gs) ∙ omega (arith, size-bytes I gs r, length-kinds I gs) in
+        = length-append (sizeBytes I gs outs) (kinds I gs) ∙ omega (arith, size-bytes I gs outs, length-kinds I gs) in
         let here : slotsFrom b (inputCount b + j) + 2 * k ≡ length before + 2 * m
         = omega (arith, long, inputs-are, entries-are) in
         let unused : length (flatMap inputSlots I) ≡ length I * entry-slots
         = length-flat inputSlots entry-slots I (λ α. length-slots entry-slots []) in
         let there : m ≡ length (flatMap inputSlots I) + (entry-slots * j + k) = omega (arith, unused) in
         ap (λ c. wordAt c (slotsFrom b (inputCount b + j) + 2 * k)) (
-        parts ∙ sym (append-assoc (sizeBytes I gs r) (kinds I gs) (slotBytes I gs ++ (outputBytes r ++ rest)))
+        parts ∙ sym (append-assoc (sizeBytes I gs outs) (kinds I gs) (slotBytes I gs ++ (outputBytes outs ++ rest)))
         )
-        ∙ word-behind before (allSlots I gs) (outputBytes r ++ rest) (slotsFrom b (inputCount b + j) + 2 * k) m here
+        ∙ word-behind before (allSlots I gs) (outputBytes outs ++ rest) (slotsFrom b (inputCount b + j) + 2 * k) m here
         (omega (arith, length-all-slots I gs))
         ∙ ap (λ n. getD (allSlots I gs) n 0) there
         ∙ getD-append-add (flatMap inputSlots I) (flatMap gateSlots (oldestFirst gs)) (entry-slots * j + k) 0
@@ -201,23 +202,23 @@ module _ (I : List Wire) (gs : List Gate) (r : Tuple) (rest b : List ℕ) (same 
         ∙ taken-from (gateAt gs j) b (slotsFrom b (inputCount b + j)) counted (λ k inside. slot-is j k below inside)
 
     -- The output wires.
-    pub listed-are : wordsAt b (outputsFrom b) (outputCount b) ≡ labels r
+    pub listed-are : wordsAt b (outputsFrom b) (outputCount b) ≡ outs
     listed-are =
-        let before = (sizeBytes I gs r ++ kinds I gs) ++ slotBytes I gs in
-        let all : b ≡ before ++ (outputBytes r ++ rest)
+        let before = (sizeBytes I gs outs ++ kinds I gs) ++ slotBytes I gs in
+        let all : b ≡ before ++ (outputBytes outs ++ rest)
         = parts
-        ∙ sym (append-assoc (sizeBytes I gs r) (kinds I gs) (slotBytes I gs ++ (outputBytes r ++ rest)))
-        ∙ sym (append-assoc (sizeBytes I gs r ++ kinds I gs) (slotBytes I gs) (outputBytes r ++ rest)) in
+        ∙ sym (append-assoc (sizeBytes I gs outs) (kinds I gs) (slotBytes I gs ++ (outputBytes outs ++ rest)))
+        ∙ sym (append-assoc (sizeBytes I gs outs ++ kinds I gs) (slotBytes I gs) (outputBytes outs ++ rest)) in
         let long : length before ≡ 6 + (1 + 2 * entry-slots) * (length I + length gs)
-        = length-append (sizeBytes I gs r ++ kinds I gs) (slotBytes I gs)
+        = length-append (sizeBytes I gs outs ++ kinds I gs) (slotBytes I gs)
         ∙ omega (
           arith,
-          length-append (sizeBytes I gs r) (kinds I gs),
-          size-bytes I gs r,
+          length-append (sizeBytes I gs outs) (kinds I gs),
+          size-bytes I gs outs,
           length-kinds I gs,
           slot-bytes I gs,
         ) in
         ap (wordsAt b (outputsFrom b)) outputs-are
-        ∙ words-are b (outputsFrom b) (labels r) λ m below.
+        ∙ words-are b (outputsFrom b) outs λ m below.
         ap (λ c. wordAt c (outputsFrom b + 2 * m)) all
-        ∙ word-behind before (labels r) rest (outputsFrom b + 2 * m) m (omega (arith, long, entries-are)) below
+        ∙ word-behind before outs rest (outputsFrom b + 2 * m) m (omega (arith, long, entries-are)) below

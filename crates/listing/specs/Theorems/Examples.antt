@@ -5,18 +5,18 @@ use Rattle.rules.specs.Types.{Bit, Qubit}
 use Rattle.rules.specs.Terms.{single, both, _on_}
 use Rattle.rules.specs.Circuits.{circuit}
 use Rattle.rules.specs.CaseTerms.{one-label, two-labels, H, CNOT, Meas}
-use Rattle.listing.specs.Listing.{listing, most-bytes}
+use Rattle.listing.specs.Listing.{listing, listingBytes, most-bytes}
 
 -- c1: "output wire 0".
 pub c1-listing : listing (circuit one-label []) (single 0)
     ≡ 1 ∷ 0 ∷ 0 ∷ 0 ∷ 1 ∷ 0 ∷ 129 ∷ 255 ∷ 255 ∷ 255 ∷ 255 ∷ 0 ∷ 0 ∷ []
-unfolding listing flatMap
+unfolding listingBytes flatMap
 c1-listing = refl
 
 -- c2: "listing (hex) 01 00 01 00 01 00 81 00 FF FF FF FF 00 00 FF FF 01 00".
 pub c2-listing : listing (circuit one-label ((H on 0 ∷ []) ∷ [])) (single 1)
     ≡ 1 ∷ 0 ∷ 1 ∷ 0 ∷ 1 ∷ 0 ∷ 129 ∷ 0 ∷ 255 ∷ 255 ∷ 255 ∷ 255 ∷ 0 ∷ 0 ∷ 255 ∷ 255 ∷ 1 ∷ 0 ∷ []
-unfolding listing flatMap
+unfolding listingBytes flatMap
 c2-listing = refl
 
 -- c3: CNOT takes wires 0 and 1; the outputs are 3 and 2.
@@ -25,7 +25,7 @@ pub c3-listing : listing (circuit two-labels ((CNOT on 0 ∷ 1 ∷ []) ∷ [])) 
     ∷ 129 ∷ 129 ∷ 5
     ∷ 255 ∷ 255 ∷ 255 ∷ 255 ∷ 255 ∷ 255 ∷ 255 ∷ 255 ∷ 0 ∷ 0 ∷ 1 ∷ 0
     ∷ 3 ∷ 0 ∷ 2 ∷ 0 ∷ []
-unfolding listing flatMap
+unfolding listingBytes flatMap
 c3-listing = refl
 
 -- c10: two gates, the older one on wire 0 first.
@@ -34,7 +34,7 @@ pub c10-listing : listing (circuit one-label ((H on 1 ∷ []) ∷ (H on 0 ∷ []
     ∷ 129 ∷ 0 ∷ 0
     ∷ 255 ∷ 255 ∷ 255 ∷ 255 ∷ 0 ∷ 0 ∷ 255 ∷ 255 ∷ 1 ∷ 0 ∷ 255 ∷ 255
     ∷ 2 ∷ 0 ∷ []
-unfolding listing flatMap
+unfolding listingBytes flatMap
 c10-listing = refl
 
 -- Inputs Bit and Qubit: BX, gate 7, takes both, then Meas takes the Qubit that BX makes, wire 3.
@@ -44,7 +44,7 @@ pub bit-listing
     ∷ 128 ∷ 129 ∷ 7 ∷ 6
     ∷ 255 ∷ 255 ∷ 255 ∷ 255 ∷ 255 ∷ 255 ∷ 255 ∷ 255 ∷ 0 ∷ 0 ∷ 1 ∷ 0 ∷ 3 ∷ 0 ∷ 255 ∷ 255
     ∷ 2 ∷ 0 ∷ 4 ∷ 0 ∷ []
-unfolding listing flatMap
+unfolding listingBytes flatMap
 bit-listing = refl
 
 -- "Length: 6 + 5(L+G) + 2O, at most 11,078."

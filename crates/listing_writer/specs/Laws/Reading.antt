@@ -23,7 +23,7 @@ use Rattle.machine_circuits.specs.Laws.Gates.{length-gates, slot-used, slot-unu
 use Rattle.machine_circuits.specs.Tuples.{labelNumbers}
 use Rattle.machine_circuits.specs.Laws.Tuples.{labels-tree}
 use Rattle.listing.specs.Listing.{bytesOf, inputKind, gateKind, entry-slots, slots, inputSlots, gateSlots, oldestFirst}
-use Rattle.listing.specs.Listing.{sizes, allSlots, listing}
+use Rattle.listing.specs.Listing.{sizes, allSlots, listing, listingBytes}
 use Rattle.listing.specs.Lengths.{KindsFit}
 use Rattle.listing.specs.Laws.Lengths.{length-slots}
 use Rattle.listing.specs.Pieces.{pieces}
@@ -183,7 +183,7 @@ pub listing-read : (I : List Wire) (v : Tree) (k : Tuple) (ws : List ℕ) (rs : 
     → Stands ns 0 (preorder v)
     → size ≡ length (preorder v)
     → listingRead ws (length I) rs G ns size ≡ listing (circuit I (gatesIn rs 0 G)) k
-unfolding listing
+unfolding listingBytes
 listing-read I v k ws rs G ns size inputs fits e stands whole =
     let out : outputsRead ns size ≡ labels k = outputs-read v k ns size e stands whole in
     ap₂
@@ -193,6 +193,6 @@ listing-read I v k ws rs G ns size inputs fits e stands whole =
     (sym (length-gates rs 0 G))
     out
     ∙ ap₂
-    (λ a b. flatMap bytesOf (sizes I (gatesIn rs 0 G) k) ++ (a ++ (b ++ flatMap bytesOf (labels k))))
+    (λ a b. flatMap bytesOf (sizes I (gatesIn rs 0 G) (labels k)) ++ (a ++ (b ++ flatMap bytesOf (labels k))))
     (ap₂ _++_ (inputs-read I ws inputs) (kinds-read rs G fits))
     (all-slots-read I rs G)

@@ -213,7 +213,7 @@ pub sizes-read : (I : List Wire) (gs : List Gate) (v : Tree) (k : Tuple) (rs : L
 sizes-read I gs v k rs L G ns size found many held e stands whole outputs =
     let labelled : found ≡ length (labels k) = outputs ∙ ap length (outputs-read v k ns size e stands whole) in
     let counted : G ≡ length gs = sym (length-gates rs 0 G) ∙ ap length held in
-    (labelled, omega (arith, length-listing I gs k))
+    (labelled, omega (arith, length-listing I gs (labels k)))
 
 -- The whole listing is written.
 pub listing-written : (I : List Wire) (gs : List Gate) (v : Tree) (k : Tuple) (ws : List ℕ) (rs : List Quadword) (L G : ℕ)

@@ -313,7 +313,7 @@ run-bounds f limit = of (runOf f limit) (run-as f limit)
           a .in-time,
           omega arith,
           subst (λ l. length l ≤ most-bytes) (sym (a .bytes-are))
-              (listing-fits (labelsOf f) (facts .gates) (facts .outputs) (facts .few-inputs) few (facts .few-outputs)),
+              (listing-fits (labelsOf f) (facts .gates) (labels (facts .outputs)) (facts .few-inputs) few (facts .few-outputs)),
         )
     of (declines x) a = declined x a
 

@@ -162,7 +162,7 @@ module _ (types : ℕ → Ty) (positions : ℕ) (A : Ty) (allowance : ℕ) (m : 
         let l =
         listed-from types positions allowance A m (a .numbers) s L gs k [] (facts .closed) (held .ready) stopped
         (facts .finish-is) in
-        let fits = listing-fits L gs k (facts .few-inputs) (facts .few-gates) (facts .few-outputs) in
+        let fits = listing-fits L gs (labels k) (facts .few-inputs) (facts .few-gates) (facts .few-outputs) in
         let w =
         writes L gs (l .value-tree) k (held .inputs-held) (l .inputs-are) (l .gates-are) (kinds-fit (facts .takes-earlier))
         (l .value-is)

@@ -4,7 +4,7 @@ use mathlib.Core.Path.{_≡_, refl}
 use mathlib.Core.List.{List, [], flatMap}
 use Rattle.program.specs.CaseFiles.{c3-file, c7-file}
 use Rattle.check_program.specs.Laws.Opened.{opened as check-opened}
-use Rattle.listing.specs.Listing.{listing}
+use Rattle.listing.specs.Listing.{listingBytes}
 use Rattle.text.specs.Text.{ascii, decimal}
 use Rattle.wirelist_lines.specs.Lines.{gateName}
 use Rattle.run_answers.specs.Answers.{runOf}
@@ -12,7 +12,7 @@ use Rattle.wirelist_io.specs.Printing.{printed}
 
 -- `printed` with every definition that it rests on open: a line `unfolding opened` below opens them all.
 opened : List ℕ → List ℕ
-unfolding check-opened listing flatMap runOf decimal gateName printed
+unfolding check-opened listingBytes flatMap runOf decimal gateName printed
 opened f = printed f
 
 -- 01: "For case c3, whole".

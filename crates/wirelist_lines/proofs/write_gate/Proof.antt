@@ -6,7 +6,8 @@ use Rattle.rules.specs.GateCodes.{wiresIn, wiresOut}
 use Rattle.rules.specs.Circuits.{numbers}
 use Rattle.machine_circuits.specs.Laws.Gates.{few-out}
 use Rattle.text.specs.Text.{decimal, spaced}
-use Rattle.listing.specs.Reading.{wordsAt, slotsFrom}
+use Rattle.words.specs.Numbers.{wordsAt}
+use Rattle.listing.specs.Reading.{slotsFrom}
 use Rattle.text.specs.Laws.Writing.{puts-same}
 use Rattle.wirelist_lines.specs.Laws.Lines.{puts-gate}
 use borrow.Author.Needs.{needs}

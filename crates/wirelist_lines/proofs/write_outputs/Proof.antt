@@ -3,7 +3,8 @@ use mathlib.Core.Path.{ap₂}
 use mathlib.Core.List.{map}
 use borrow.Author.Needs.{needs}
 use Rattle.text.specs.Text.{ascii, decimal, spaced}
-use Rattle.listing.specs.Reading.{wordsAt, outputsFrom, outputCount}
+use Rattle.words.specs.Numbers.{wordsAt}
+use Rattle.listing.specs.Reading.{outputsFrom, outputCount}
 use Rattle.wirelist_lines.specs.LinesAt.{outLineAt}
 use Rattle.text.specs.Laws.Writing.{puts-same}
 use Rattle.wirelist_lines.specs.Laws.Lines.{puts-line}

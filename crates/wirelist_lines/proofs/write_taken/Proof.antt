@@ -6,7 +6,8 @@ use borrow.Author.Needs.{needs}
 use Rattle.rules.specs.GateCodes.{wiresIn}
 use Rattle.machine_circuits.specs.Laws.Gates.{few-in}
 use Rattle.text.specs.Text.{decimal, spaced}
-use Rattle.listing.specs.Reading.{wordsAt, slotsFrom}
+use Rattle.words.specs.Numbers.{wordsAt}
+use Rattle.listing.specs.Reading.{slotsFrom}
 use Rattle.text.specs.Laws.Writing.{puts-same}
 use Rattle.wirelist_lines.specs.Laws.Lines.{puts-taken}
 use Rattle.wirelist_lines.proofs.write_taken.Statement.{statement}

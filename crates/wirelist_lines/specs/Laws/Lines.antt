@@ -14,7 +14,8 @@ use Rattle.wirelist_lines.specs.Lines.{gateName, wireName, inputLine, ga
 use Rattle.text.specs.Written.{Written}
 use Rattle.text.specs.Writing.{Puts}
 use Rattle.text.specs.Laws.Writing.{puts-none, puts-both, puts-same, puts-first}
-use Rattle.listing.specs.Reading.{wordsAt, inputCount, gateCount, kindAt, slotsFrom, madeBefore}
+use Rattle.words.specs.Numbers.{wordsAt}
+use Rattle.listing.specs.Reading.{inputCount, gateCount, kindAt, slotsFrom, madeBefore}
 use Rattle.wirelist_lines.specs.LinesAt.{inputLineAt, gateLineAt, outLineAt, textAt, takenPart}
 use Rattle.text.specs.Laws.Words.{spaced-append}
 

@@ -9,7 +9,8 @@ use Rattle.text.specs.Text.{decimal, spaced}
 use Rattle.text.specs.Writing.{Puts}
 use Rattle.text.specs.Laws.Writing.{puts-both, puts-same}
 use Rattle.words.specs.Numbers.{wordAt}
-use Rattle.listing.specs.Reading.{wordsAt, kindAt, inputCount, madeBefore}
+use Rattle.words.specs.Numbers.{wordsAt}
+use Rattle.listing.specs.Reading.{kindAt, inputCount, madeBefore}
 use Rattle.text.specs.Laws.Words.{one-more-number}
 use Rattle.rules.specs.Circuits.{numbers}
 use Rattle.rules.specs.Laws.Wires.{numbers-append}

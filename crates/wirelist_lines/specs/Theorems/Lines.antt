@@ -16,7 +16,8 @@ use Rattle.listing.specs.Pieces.{pieces}
 use Rattle.listing.specs.Laws.Pieces.{pieces-list}
 use Rattle.wirelist_lines.specs.Lines.{inputLine, gateLine, outLine, stepsLine, inputLines, gateLines, lines}
 use Rattle.text.specs.Text.{joined}
-use Rattle.listing.specs.Reading.{wordsAt, inputCount, gateCount, kindAt, slotsFrom, madeBefore}
+use Rattle.words.specs.Numbers.{wordsAt}
+use Rattle.listing.specs.Reading.{inputCount, gateCount, kindAt, slotsFrom, madeBefore}
 use Rattle.wirelist_lines.specs.LinesAt.{inputLineAt, gateLineAt, outLineAt, textAt}
 use Rattle.listing.specs.Laws.ReadBack.{gateAt, newest-at, older-at, counted-at, inputs-are, gates-are, input-is, gate-is}
 use Rattle.listing.specs.Laws.ReadBack.{taken-is, listed-are}
@@ -132,30 +133,30 @@ module _ (I : List Wire) (gs : List Gate) (r : Tuple) (rest b : List ℕ) (same 
   inputs-printed : pieces (inputLineAt b) (inputCount b) ≡ joined (inputLines 0 I)
   unfolding inputLineAt
   inputs-printed =
-      ap (pieces (inputLineAt b)) (inputs-are I gs r rest b same ∙ sym (length-inputs 0 I))
+      ap (pieces (inputLineAt b)) (inputs-are I gs (labels r) rest b same ∙ sym (length-inputs 0 I))
       ∙ pieces-joined (inputLines 0 I) (inputLineAt b) λ i below.
       let inside : i < length I = omega (arith, length-inputs 0 I) in
       let e : i ≡ 0 + i = omega arith in
-      ap₂ inputLine e (input-is I gs r rest b same i inside) ∙ sym (input-line 0 I i inside)
+      ap₂ inputLine e (input-is I gs (labels r) rest b same i inside) ∙ sym (input-line 0 I i inside)
 
   gates-printed : TakesEarlier I gs → pieces (gateLineAt b) (gateCount b) ≡ joined (gateLines I gs)
   unfolding gateLineAt
   gates-printed sound =
-      ap (pieces (gateLineAt b)) (gates-are I gs r rest b same ∙ sym (length-gate-lines I gs))
+      ap (pieces (gateLineAt b)) (gates-are I gs (labels r) rest b same ∙ sym (length-gate-lines I gs))
       ∙ pieces-joined (gateLines I gs) (gateLineAt b) λ j below.
       gate-line I (λ k. kindAt b (inputCount b + k)) (madeBefore b)
       (λ k. wordsAt b (slotsFrom b (inputCount b + k)) (wiresIn (kindAt b (inputCount b + k))))
-      (inputs-are I gs r rest b same)
+      (inputs-are I gs (labels r) rest b same)
       (λ k. refl)
       gs
-      (gate-is I gs r rest b same)
-      (λ k inside. taken-is I gs r rest b same k inside (counted-at gs sound k inside))
+      (gate-is I gs (labels r) rest b same)
+      (λ k inside. taken-is I gs (labels r) rest b same k inside (counted-at gs sound k inside))
       j
       (omega (arith, length-gate-lines I gs))
 
   outputs-printed : outLineAt b ≡ outLine (labels r)
   unfolding outLineAt
-  outputs-printed = ap outLine (listed-are I gs r rest b same)
+  outputs-printed = ap outLine (listed-are I gs (labels r) rest b same)
 
   -- What is written of the listing's bytes is all that is printed of the circuit, its outputs and the steps, in order.
   pub in-order : TakesEarlier I gs → textAt b steps ≡ lines (circuit I gs) r steps

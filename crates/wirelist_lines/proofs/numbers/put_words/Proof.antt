@@ -7,7 +7,7 @@ use mathlib.Core.List.{[], _∷_, map}
 use lib.ListN.{length}
 use borrow.Author.Needs.{needs}
 use Rattle.text.specs.Text.{decimal, spaced}
-use Rattle.listing.specs.Reading.{wordsAt}
+use Rattle.words.specs.Numbers.{wordsAt}
 use Rattle.text.specs.Writing.{Puts}
 use Rattle.text.specs.Laws.Writing.{puts-none, puts-same}
 use Rattle.wirelist_lines.specs.Laws.Read.{puts-read}
