@@ -6,3 +6,4 @@ pub mod Labels
 pub mod Substitution
 pub mod Wires
 pub mod Appending
+pub mod KnownGates

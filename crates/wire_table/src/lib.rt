@@ -1,0 +1,1 @@
+// The table of a circuit's wires in lent memory.
