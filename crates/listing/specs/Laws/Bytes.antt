@@ -1,10 +1,11 @@
 -- Laws of reading back what stands in a list of bytes.
-use Prim.Native.Nat.{ℕ, zero, suc, _+_, _*_, _<_}
+use Prim.Native.Nat.{ℕ, zero, suc, _+_, _*_, _≤_, _<_}
 use native.Mathlib.Omega.{arith}
 use mathlib.Core.Path.{_≡_, refl, _∙_, ap, ap₂}
 use mathlib.Core.List.{List, [], _∷_, _++_, map, flatMap}
 use lib.ListN.{length, getD, List·getD-append}
 use lib.Seq.{getD-append-add}
+use Rattle.rules.specs.Slots.{no-wire}
 use Rattle.listing.specs.Listing.{bytesOf, slots}
 use Rattle.words.specs.Numbers.{wordAt}
 use Rattle.words.specs.Numbers.{wordsAt}
@@ -81,3 +82,11 @@ slot-at zero ws k h h′ = absurd (omega arith)
 slot-at (suc n) [] k h h′ = absurd (omega arith)
 slot-at (suc n) (w ∷ ws) zero h h′ = refl
 slot-at (suc n) (w ∷ ws) (suc k) h h′ = slot-at n ws k (omega arith) (omega arith)
+
+-- A slot behind the wires has none.
+pub unused-at : (n : ℕ) (ws : List ℕ) (k : ℕ) → length ws ≤ k → k < n → getD (slots n ws) k 0 ≡ no-wire
+unused-at zero ws k h h′ = absurd (omega arith)
+unused-at (suc n) [] zero h h′ = refl
+unused-at (suc n) [] (suc k) h h′ = unused-at n [] k (omega arith) (omega arith)
+unused-at (suc n) (w ∷ ws) zero h h′ = absurd (omega arith)
+unused-at (suc n) (w ∷ ws) (suc k) h h′ = unused-at n ws k (omega arith) (omega arith)

@@ -5,7 +5,7 @@ use native.Mathlib.Decide.{decLt}
 use mathlib.Core.Path.{_≡_, refl, sym, _∙_, ap, ap₂, subst}
 use mathlib.Core.Bool.{Bool}
 use mathlib.Core.List.{List, [], _∷_, _++_, map, flatMap, append-assoc, reverse-cons}
-use mathlib.Core.Option.{some}
+use mathlib.Core.Option.{Option, none, some}
 use lib.Dec.{T as IsTrue, leb, leb→le}
 use lib.ListN.{length, getD, length-append, length-map, List·getD-append}
 use lib.Seq.{getD-append-add, getD-at}
@@ -13,6 +13,7 @@ use Rattle.rules.specs.Types.{Wire, Bit, Qubit, Ty, wires}
 use Rattle.rules.specs.Gates.{GateType, _to_, gateTable, gateType}
 use Rattle.rules.specs.GateCodes.{inputWires, wiresIn, wiresOf}
 use Rattle.rules.specs.Terms.{Gate, _on_}
+use Rattle.rules.specs.Slots.{no-wire}
 use Rattle.rules.specs.Circuits.{OfTypes, wires-end, next-wire, TakesEarlier, no-gate, next-gate}
 use Rattle.rules.specs.Laws.Wires.{every-nth}
 use Rattle.listing.specs.Listing.{bytesOf, inputKind, gateKind, entry-slots, inputSlots, gateSlots, oldestFirst, sizes}
@@ -21,9 +22,9 @@ use Rattle.listing.specs.Laws.Lengths.{length-flat, length-bytes, length
 use Rattle.listing.specs.Laws.Lengths.{length-all-slots, length-oldest}
 use Rattle.words.specs.Numbers.{wordAt}
 use Rattle.words.specs.Numbers.{wordsAt}
-use Rattle.listing.specs.Reading.{inputCount, gateCount, outputCount, entryCount, kindAt, slotsFrom}
+use Rattle.listing.specs.Reading.{inputCount, gateCount, outputCount, entryCount, kindAt, slotsFrom, slotAt}
 use Rattle.listing.specs.Reading.{outputsFrom, inputType}
-use Rattle.listing.specs.Laws.Bytes.{word-behind, words-are, mapped-at, part-at, slot-at}
+use Rattle.listing.specs.Laws.Bytes.{word-behind, words-are, mapped-at, part-at, slot-at, unused-at}
 
 -- What stands for a gate where there is none.
 abbrev pub no-gate-at : Gate
@@ -52,6 +53,14 @@ Counted (n on ws) = (length ws ≡ wiresIn n) × (length ws ≤ entry-slots)
 abbrev has-slots : GateType → Bool
 has-slots (T to U) = leb (length (wires T)) entry-slots
 
+pub wires-fit : (n : ℕ) → wiresIn n ≤ entry-slots
+unfolding wiresIn
+wires-fit n = of (gateType n) refl
+  where
+    of : (g : Option GateType) → gateType n ≡ g → length (inputWires g) ≤ entry-slots
+    of none e = omega arith
+    of (some (T to U)) e = leb→le (length (wires T)) entry-slots (every-nth has-slots gateTable n e tt)
+
 types-counted : {types : List Wire} {ws : List ℕ} {αs : List Wire} → OfTypes types ws αs → length ws ≡ length αs
 types-counted wires-end = refl
 types-counted (next-wire e o) = ap suc (types-counted o)
@@ -63,11 +72,8 @@ pub one-counted : {types : List Wire} (n : ℕ) (ws : List ℕ) (T U : Ty)
     → Counted (n on ws)
 unfolding wiresIn
 one-counted n ws T U e o =
-    let many : length ws ≡ length (wires T) = types-counted o in
-    let few : IsTrue (has-slots (T to U)) = every-nth has-slots gateTable n e tt in (
-      many ∙ ap (λ g. length (inputWires g)) (sym e),
-      omega (arith, leb→le (length (wires T)) entry-slots few),
-    )
+    let many : length ws ≡ wiresIn n = types-counted o ∙ ap (λ g. length (inputWires g)) (sym e) in
+    (many, subst (λ k. k ≤ entry-slots) (sym many) (wires-fit n))
 
 pub counted-at : {I : List Wire} (gs : List Gate) → TakesEarlier I gs → (j : ℕ) → j < length gs → Counted (gateAt gs j)
 counted-at [] no-gate j below = absurd (omega arith)
@@ -149,14 +155,14 @@ module _ (I : List Wire) (gs : List Gate) (outs : List ℕ) (rest b : List ℕ) 
         ∙ getD-append-add (sizeBytes I gs outs) more i 0
         ∙ List·getD-append (kinds I gs) (slotBytes I gs ++ (outputBytes outs ++ rest)) 0 i (omega (arith, length-kinds I gs))
 
-    pub input-is : (i : ℕ) → i < length I → inputType (kindAt b i) ≡ getD I i Bit
-    input-is i below =
-        ap inputType (
+    pub input-kind-is : (i : ℕ) → i < length I → kindAt b i ≡ inputKind (getD I i Bit)
+    input-kind-is i below =
         kind-is i (omega arith)
         ∙ List·getD-append (map inputKind I) (map gateKind (oldestFirst gs)) 0 i (omega (arith, length-map I inputKind))
         ∙ mapped-at inputKind Bit I i below
-        )
-        ∙ type-of-kind (getD I i Bit)
+
+    pub input-is : (i : ℕ) → i < length I → inputType (kindAt b i) ≡ getD I i Bit
+    input-is i below = ap inputType (input-kind-is i below) ∙ type-of-kind (getD I i Bit)
 
     pub gate-is : (j : ℕ) → j < length gs → kindAt b (inputCount b + j) ≡ gateKind (gateAt gs j)
     gate-is j below =
@@ -168,25 +174,42 @@ module _ (I : List Wire) (gs : List Gate) (outs : List ℕ) (rest b : List ℕ) 
         ∙ mapped-at gateKind no-gate-at (oldestFirst gs) j (omega (arith, length-oldest gs))
 
     -- The slots.
-    slot-is : (j k : ℕ)
-        → j < length gs
+    entry-slot-is : (i k : ℕ)
+        → i < length I + length gs
         → k < entry-slots
-        → wordAt b (slotsFrom b (inputCount b + j) + 2 * k) ≡ getD (gateSlots (gateAt gs j)) k 0
-    slot-is j k below inside =
+        → slotAt b i k ≡ getD (allSlots I gs) (entry-slots * i + k) 0
+    entry-slot-is i k below inside =
         let before = sizeBytes I gs outs ++ kinds I gs in
-        let m = entry-slots * (length I + j) + k in
+        let m = entry-slots * i + k in
         let long : length before ≡ 6 + (length I + length gs)
         = length-append (sizeBytes I gs outs) (kinds I gs) ∙ omega (arith, size-bytes I gs outs, length-kinds I gs) in
-        let here : slotsFrom b (inputCount b + j) + 2 * k ≡ length before + 2 * m
-        = omega (arith, long, inputs-are, entries-are) in
-        let unused : length (flatMap inputSlots I) ≡ length I * entry-slots
-        = length-flat inputSlots entry-slots I (λ α. length-slots entry-slots []) in
-        let there : m ≡ length (flatMap inputSlots I) + (entry-slots * j + k) = omega (arith, unused) in
-        ap (λ c. wordAt c (slotsFrom b (inputCount b + j) + 2 * k)) (
+        let here : slotsFrom b i + 2 * k ≡ length before + 2 * m = omega (arith, long, entries-are) in
+        ap (λ c. wordAt c (slotsFrom b i + 2 * k)) (
         parts ∙ sym (append-assoc (sizeBytes I gs outs) (kinds I gs) (slotBytes I gs ++ (outputBytes outs ++ rest)))
         )
-        ∙ word-behind before (allSlots I gs) (outputBytes outs ++ rest) (slotsFrom b (inputCount b + j) + 2 * k) m here
+        ∙ word-behind before (allSlots I gs) (outputBytes outs ++ rest) (slotsFrom b i + 2 * k) m here
         (omega (arith, length-all-slots I gs))
+
+    unused : length (flatMap inputSlots I) ≡ length I * entry-slots
+    unused = length-flat inputSlots entry-slots I (λ α. length-slots entry-slots [])
+
+    pub input-slot-is : (i k : ℕ) → i < length I → k < entry-slots → slotAt b i k ≡ no-wire
+    input-slot-is i k below inside =
+        entry-slot-is i k (omega arith) inside
+        ∙ List·getD-append (flatMap inputSlots I) (flatMap gateSlots (oldestFirst gs)) 0 (entry-slots * i + k)
+        (omega (arith, unused))
+        ∙ part-at inputSlots entry-slots Bit I i k (λ α. length-slots entry-slots []) below inside
+        ∙ unused-at entry-slots [] k (omega arith) inside
+
+    pub slot-is : (j k : ℕ)
+        → j < length gs
+        → k < entry-slots
+        → slotAt b (inputCount b + j) k ≡ getD (gateSlots (gateAt gs j)) k 0
+    slot-is j k below inside =
+        let there : entry-slots * (length I + j) + k ≡ length (flatMap inputSlots I) + (entry-slots * j + k)
+        = omega (arith, unused) in
+        ap (λ n. slotAt b (n + j) k) inputs-are
+        ∙ entry-slot-is (length I + j) k (omega arith) inside
         ∙ ap (λ n. getD (allSlots I gs) n 0) there
         ∙ getD-append-add (flatMap inputSlots I) (flatMap gateSlots (oldestFirst gs)) (entry-slots * j + k) 0
         ∙ part-at gateSlots entry-slots no-gate-at (oldestFirst gs) j k length-gate-slots (omega (arith, length-oldest gs))
