@@ -131,3 +131,160 @@ slots-are (suc k) (suc n) b from few each =
     ap (λ xs. wordAt b from ∷ xs) (slots-are k n b (from + 2) (omega arith) (λ m least below.
     let e′ : from + 2 + 2 * m ≡ from + 2 * suc m = omega arith in
     ap (wordAt b) e′ ∙ each (suc m) (omega arith) (omega arith)))
+
+-- Parts of equal length, one for each input that is read, and one for each gate.
+module _ (b : List ℕ) (from n : ℕ) where
+  inputs-between : (f : Wire → List ℕ) (all : ℕ)
+      → ((i : ℕ) → i < all → Between b (from + n * i) (from + n * suc i) (f (inputType (kindAt b i))))
+      → (k i : ℕ)
+      → i + k ≤ all
+      → Between b (from + n * i) (from + n * (i + k)) (flatMap f (inputsFrom b i k))
+  unfolding flatMap
+  inputs-between f all each zero i few = none-between b (from + n * i) (from + n * (i + 0)) (omega arith)
+  inputs-between f all each (suc k) i few =
+      let e : suc i + k ≡ i + suc k = omega arith in
+      joined b (from + n * i) (from + n * suc i) (from + n * (i + suc k)) (f (inputType (kindAt b i)))
+      (flatMap f (inputsFrom b (suc i) k))
+      (each i (omega arith))
+      (inputs-between f all each k (suc i) (omega arith)
+      ∙ ap (λ m. flatMap f (inputsFrom b (suc i) k) ++ drop (from + n * m) b) e)
+
+  gates-between : (f : Gate → List ℕ) (all : ℕ)
+      → ((j : ℕ) → j < all → Between b (from + n * j) (from + n * suc j) (f (gateOfEntry b (inputCount b + j))))
+      → (j : ℕ)
+      → j ≤ all
+      → Between b from (from + n * j) (flatMap f (oldestFirst (firstGates b j)))
+  unfolding flatMap
+  gates-between f all each zero few = none-between b from (from + n * 0) (omega arith)
+  gates-between f all each (suc j) few =
+      let g = gateOfEntry b (inputCount b + j) in
+      let gs = firstGates b j in
+      let last : flatMap f (oldestFirst (g ∷ gs)) ≡ flatMap f (oldestFirst gs) ++ f g
+      = ap (flatMap f) (reverse-cons g gs)
+      ∙ flat-append f (oldestFirst gs) (g ∷ [])
+      ∙ ap (λ l. flatMap f (oldestFirst gs) ++ l) (append-nil (f g)) in
+      subst
+      (Between b from (from + n * suc j))
+      (sym last)
+      (joined b from (from + n * j) (from + n * suc j) (flatMap f (oldestFirst gs)) (f g)
+      (gates-between f all each j (omega arith))
+      (each j (omega arith)))
+
+-- A list of one number for each element, and parts that are made of parts.
+map-flat : {A : Type 0} (f : A → ℕ) (xs : List A) → flatMap (λ x. f x ∷ []) xs ≡ map f xs
+unfolding flatMap
+map-flat f [] = refl
+map-flat f (x ∷ xs) = ap (λ l. f x ∷ l) (map-flat f xs)
+
+flat-flat : {A : Type 0} (g : ℕ → List ℕ) (f : A → List ℕ) (xs : List A)
+    → flatMap (λ x. flatMap g (f x)) xs ≡ flatMap g (flatMap f xs)
+unfolding flatMap
+flat-flat g f [] = refl
+flat-flat g f (x ∷ xs) = ap (λ l. flatMap g (f x) ++ l) (flat-flat g f xs) ∙ sym (flat-append g (f x) (flatMap f xs))
+
+-- The kind of an input by its type.
+kind-of-type : (kind : ℕ) → (kind ≡ 128) ⊎ (kind ≡ 129) → inputKind (inputType kind) ≡ kind
+kind-of-type kind (inl e) = ap (λ k. inputKind (inputType k)) e ∙ sym e
+kind-of-type kind (inr e) = ap (λ k. inputKind (inputType k)) e ∙ sym e
+
+module _ (b : List ℕ) (small : (i : ℕ) → getD b i 0 < 256) (form : InForm b) where
+  sizes-between : Between b 0 6 (flatMap bytesOf (sizes (inputsOf b) (gatesOf b) (outputsOf b)))
+  sizes-between =
+      let e : wordsAt b 0 3 ≡ sizes (inputsOf b) (gatesOf b) (outputsOf b)
+      = sym (
+      ap₂
+      (λ l m. l ∷ m ∷ length (outputsOf b) ∷ [])
+      (length-inputs b 0 (inputCount b))
+      (length-first b (gateCount b))
+      ∙ ap (λ m. inputCount b ∷ gateCount b ∷ m ∷ []) (length-words b (outputsFrom b) (outputCount b))
+      ) in
+      subst (λ l. Between b 0 6 (flatMap bytesOf l)) e (words-between b small 3 0 6 (omega arith) (omega (arith, form .whole)))
+
+  kind-between : (i to : ℕ) → to ≡ 6 + suc i → i < entryCount b → Between b (6 + i) to (kindAt b i ∷ [])
+  unfolding kindAt
+  kind-between i to e below = one-between b (6 + i) to (omega arith) (omega (arith, form .whole))
+
+  kinds-between : Between b 6 (6 + entryCount b) (kinds (inputsOf b) (gatesOf b))
+  kinds-between =
+      let L = inputCount b in
+      let G = gateCount b in
+      let inputs : Between b (6 + 1 * 0) (6 + 1 * (0 + L)) (flatMap (λ α. inputKind α ∷ []) (inputsOf b))
+      = inputs-between b 6 1 (λ α. inputKind α ∷ []) L (λ i below.
+      let here : 6 + i ≡ 6 + 1 * i = omega arith in
+      subst (λ k. Between b (6 + 1 * i) (6 + 1 * suc i) (k ∷ [])) (sym (kind-of-type (kindAt b i) (form .input-kinds i below)))
+      (subst
+      (λ m. Between b m (6 + 1 * suc i) (kindAt b i ∷ []))
+      here
+      (kind-between i (6 + 1 * suc i) (omega arith) (omega arith)))) L 0 (omega arith) in
+      let gates : Between b (6 + L) (6 + L + 1 * G) (flatMap (λ g. gateKind g ∷ []) (oldestFirst (gatesOf b)))
+      = gates-between b (6 + L) 1 (λ g. gateKind g ∷ []) G (λ j below.
+      let here : 6 + (L + j) ≡ 6 + L + 1 * j = omega arith in
+      subst
+      (λ m. Between b m (6 + L + 1 * suc j) (kindAt b (L + j) ∷ []))
+      here
+      (kind-between (L + j) (6 + L + 1 * suc j) (omega arith) (omega arith))) G (omega arith) in
+      let middle : 6 + 1 * (0 + L) ≡ 6 + L = omega arith in
+      let end : 6 + L + 1 * G ≡ 6 + (L + G) = omega arith in
+      joined b 6 (6 + L) (6 + (L + G)) (map inputKind (inputsOf b)) (map gateKind (oldestFirst (gatesOf b)))
+      (inputs ∙ ap₂ (λ xs m. xs ++ drop m b) (map-flat inputKind (inputsOf b)) middle)
+      (gates ∙ ap₂ (λ xs m. xs ++ drop m b) (map-flat gateKind (oldestFirst (gatesOf b))) end)
+
+  -- The slots of an entry.
+  entry-between : (i to : ℕ) (ws : List ℕ)
+      → to ≡ slotsFrom b i + 2 * entry-slots
+      → i < entryCount b
+      → ws ≡ wordsAt b (slotsFrom b i) entry-slots
+      → Between b (slotsFrom b i) to (flatMap bytesOf ws)
+  entry-between i to ws e below same =
+      subst (λ l. Between b (slotsFrom b i) to (flatMap bytesOf l)) (sym same)
+      (words-between b small entry-slots (slotsFrom b i) to e (omega (arith, form .whole)))
+
+  slots-between : Between b (6 + entryCount b) (outputsFrom b) (flatMap bytesOf (allSlots (inputsOf b) (gatesOf b)))
+  slots-between =
+      let L = inputCount b in
+      let G = gateCount b in
+      let E = 6 + entryCount b in
+      let w = 2 * entry-slots in
+      let inputs : Between b (E + w * 0) (E + w * (0 + L)) (flatMap (λ α. flatMap bytesOf (inputSlots α)) (inputsOf b))
+      = inputs-between b E w (λ α. flatMap bytesOf (inputSlots α)) L (λ i below.
+      entry-between i (E + w * suc i) (slots entry-slots []) (omega arith) (omega arith)
+      (slots-are entry-slots 0 b (slotsFrom b i) (omega arith) (λ k least inside. form .input-slots i k below inside))) L 0
+      (omega arith) in
+      let gates : Between b (E + w * L) (E + w * L + w * G) (flatMap (λ g. flatMap bytesOf (gateSlots g)) (oldestFirst (gatesOf b)))
+      = gates-between b (E + w * L) w (λ g. flatMap bytesOf (gateSlots g)) G (λ j below.
+      let here : slotsFrom b (L + j) ≡ E + w * L + w * j = omega arith in
+      let n = wiresIn (kindAt b (L + j)) in
+      subst
+      (λ m. Between b m (E + w * L + w * suc j) (flatMap bytesOf (gateSlots (gateOfEntry b (L + j)))))
+      here
+      (entry-between (L + j) (E + w * L + w * suc j) (gateSlots (gateOfEntry b (L + j))) (omega arith) (omega arith)
+      (slots-are entry-slots n b (slotsFrom b (L + j)) (wires-fit (kindAt b (L + j)))
+      (λ k least inside. form .unused-slots j k below least inside)))) G (omega arith) in
+      let middle : E + w * (0 + L) ≡ E + w * L = omega arith in
+      let start : 6 + entryCount b ≡ E + w * 0 = omega arith in
+      let end : E + w * L + w * G ≡ outputsFrom b = omega arith in
+      let xs = flatMap inputSlots (inputsOf b) in
+      let ys = flatMap gateSlots (oldestFirst (gatesOf b)) in
+      subst (Between b E (outputsFrom b)) (sym (flat-append bytesOf xs ys))
+      (joined b E (E + w * L) (outputsFrom b) (flatMap bytesOf xs) (flatMap bytesOf ys)
+      (ap (λ m. drop m b) start ∙ inputs ∙ ap₂ (λ l m. l ++ drop m b) (flat-flat bytesOf inputSlots (inputsOf b)) middle)
+      (gates ∙ ap₂ (λ l m. l ++ drop m b) (flat-flat bytesOf gateSlots (oldestFirst (gatesOf b))) end))
+
+  -- Bytes in the form of a listing are the listing of what is read from them.
+  pub decoded : b ≡ listingBytes (inputsOf b) (gatesOf b) (outputsOf b)
+  unfolding listingBytes
+  decoded =
+      let I = inputsOf b in
+      let gs = gatesOf b in
+      let outs = outputsOf b in
+      let S = flatMap bytesOf (sizes I gs outs) in
+      let K = kinds I gs in
+      let E = flatMap bytesOf (allSlots I gs) in
+      let O = flatMap bytesOf outs in
+      let outputs : Between b (outputsFrom b) (length b) O
+      = words-between b small (outputCount b) (outputsFrom b) (length b) (omega (arith, form .whole)) (omega arith) in
+      let all : Between b 0 (length b) (S ++ (K ++ (E ++ O)))
+      = joined b 0 6 (length b) S (K ++ (E ++ O)) sizes-between
+      (joined b 6 (6 + entryCount b) (length b) K (E ++ O) kinds-between
+      (joined b (6 + entryCount b) (outputsFrom b) (length b) E O slots-between outputs)) in
+      all ∙ ap (λ l. (S ++ (K ++ (E ++ O))) ++ l) (drop-length b) ∙ append-nil (S ++ (K ++ (E ++ O)))
