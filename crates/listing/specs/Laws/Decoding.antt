@@ -21,7 +21,7 @@ use Rattle.listing.specs.Reading.{inputType, inputsFrom, inputsOf, gateO
 use Rattle.listing.specs.Laws.Lengths.{length-listing}
 use Rattle.listing.specs.Laws.Pieces.{flat-append}
 use Rattle.listing.specs.Laws.Bytes.{unused-at}
-use Rattle.listing.specs.Laws.ReadBack.{gateAt, newest-at, older-at, Counted, wires-fit, inputs-are, gates-are, outputs-are}
+use Rattle.listing.specs.Laws.ReadBack.{gateAt, newest-at, older-at, with-newest, Counted, wires-fit, inputs-are, gates-are, outputs-are}
 use Rattle.listing.specs.Laws.ReadBack.{input-kind-is, input-is, gate-is, input-slot-is, slot-is, taken-is, listed-are}
 
 -- The bytes have the form of a listing: as many as the sizes say, each kind one of an input or a gate, and no wire in the slots of an
@@ -288,3 +288,111 @@ module _ (b : List ℕ) (small : (i : ℕ) → getD b i 0 < 256) (form : InForm 
       (joined b 6 (6 + entryCount b) (length b) K (E ++ O) kinds-between
       (joined b (6 + entryCount b) (outputsFrom b) (length b) E O slots-between outputs)) in
       all ∙ ap (λ l. (S ++ (K ++ (E ++ O))) ++ l) (drop-length b) ∙ append-nil (S ++ (K ++ (E ++ O)))
+
+-- A known gate.
+abbrev pub Known : Gate → Type 0
+Known (n on ws) = IsTrue (isGate n) × (length ws ≡ wiresIn n)
+
+-- Each of known gates is known.
+pub known-at : (gs : List Gate) → KnownGates gs → (j : ℕ) → j < length gs → Known (gateAt gs j)
+known-at [] known j below = absurd (omega arith)
+known-at ((n on ws) ∷ gs) known j below =
+    with-newest Known (n on ws) gs (known .0, known .1) (known-at gs (known .2)) j below
+
+-- A known gate takes no more wires than an entry has slots, and the slots behind its wires have none.
+known-counted : (g : Gate) → Known g → Counted g
+known-counted (n on ws) known = (known .1, subst (λ k. k ≤ entry-slots) (sym (known .1)) (wires-fit n))
+
+known-kind : (g : Gate) → Known g → IsTrue (isGate (gateKind g))
+known-kind (n on ws) known = known .0
+
+known-unused : (g : Gate) (k : ℕ) → Known g → wiresIn (gateKind g) ≤ k → k < entry-slots → getD (gateSlots g) k 0 ≡ no-wire
+known-unused (n on ws) k known least inside = unused-at entry-slots ws k (omega (arith, known .1)) inside
+
+gate-of-parts : (g : Gate) → (gateKind g on wiresOf g) ≡ g
+gate-of-parts (n on ws) = refl
+
+input-kind-known : (α : Wire) → (inputKind α ≡ 128) ⊎ (inputKind α ≡ 129)
+input-kind-known Bit = inl refl
+input-kind-known Qubit = inr refl
+
+-- Inputs and gates that are read one by one.
+inputs-read : (b : List ℕ) (I : List Wire) (i : ℕ)
+    → ((m : ℕ) → m < length I → inputType (kindAt b (i + m)) ≡ getD I m Bit)
+    → inputsFrom b i (length I) ≡ I
+inputs-read b [] i each = refl
+inputs-read b (α ∷ I) i each =
+    let e : i ≡ i + 0 = omega arith in
+    ap₂
+    (λ β J. β ∷ J)
+    (ap (λ m. inputType (kindAt b m)) e ∙ each 0 (omega arith))
+    (inputs-read b I (suc i) λ m below.
+    let e′ : suc i + m ≡ i + suc m = omega arith in
+    ap (λ j. inputType (kindAt b j)) e′ ∙ each (suc m) (omega arith))
+
+gates-read : (b : List ℕ) (gs : List Gate)
+    → ((j : ℕ) → j < length gs → gateOfEntry b (inputCount b + j) ≡ gateAt gs j)
+    → firstGates b (length gs) ≡ gs
+gates-read b [] each = refl
+gates-read b (g ∷ gs) each =
+    ap₂
+    (λ h hs. h ∷ hs)
+    (each (length gs) (omega arith) ∙ newest-at g gs)
+    (gates-read b gs (λ j below. each j (omega arith) ∙ older-at g gs j below))
+
+module _ (I : List Wire) (gs : List Gate) (outs b : List ℕ) (same : b ≡ listingBytes I gs outs) where
+  nothing-behind : b ≡ listingBytes I gs outs ++ []
+  nothing-behind = same ∙ sym (append-nil (listingBytes I gs outs))
+
+  inputs : inputCount b ≡ length I
+  inputs = inputs-are I gs outs [] b nothing-behind
+
+  gates : gateCount b ≡ length gs
+  gates = gates-are I gs outs [] b nothing-behind
+
+  outputs : outputCount b ≡ length outs
+  outputs = outputs-are I gs outs [] b nothing-behind
+
+  kind-of-gate : (j : ℕ) → j < length gs → kindAt b (inputCount b + j) ≡ gateKind (gateAt gs j)
+  kind-of-gate = gate-is I gs outs [] b nothing-behind
+
+  -- The listing of known gates is in form.
+  pub in-form : KnownGates gs → InForm b
+  in-form known =
+      record {
+        whole = ap length same
+        ∙ length-listing I gs outs
+        ∙ ap₂ (λ l m. listingLength l m (length outs)) (sym inputs) (sym gates)
+        ∙ ap (listingLength (inputCount b) (gateCount b)) (sym outputs);
+        input-kinds = λ i below.
+        subst (λ k. (k ≡ 128) ⊎ (k ≡ 129)) (sym (input-kind-is I gs outs [] b nothing-behind i (omega (arith, inputs))))
+        (input-kind-known (getD I i Bit));
+        input-slots = λ i k below inside. input-slot-is I gs outs [] b nothing-behind i k (omega (arith, inputs)) inside;
+        gate-kinds = λ j below.
+        let there : j < length gs = omega (arith, gates) in
+        subst (λ n. IsTrue (isGate n)) (sym (kind-of-gate j there)) (known-kind (gateAt gs j) (known-at gs known j there));
+        unused-slots = λ j k below least inside.
+        let there : j < length gs = omega (arith, gates) in
+        slot-is I gs outs [] b nothing-behind j k there inside
+        ∙ known-unused (gateAt gs j) k (known-at gs known j there) (subst (λ n. wiresIn n ≤ k) (kind-of-gate j there) least) inside
+      }
+
+  -- The inputs, known gates and outputs of a listing are read back.
+  pub inputs-back : inputsOf b ≡ I
+  inputs-back =
+      ap (inputsFrom b 0) inputs
+      ∙ inputs-read b I 0 λ m below.
+      let e : 0 + m ≡ m = omega arith in
+      ap (λ i. inputType (kindAt b i)) e ∙ input-is I gs outs [] b nothing-behind m below
+
+  pub gates-back : KnownGates gs → gatesOf b ≡ gs
+  gates-back known =
+      ap (firstGates b) gates
+      ∙ gates-read b gs λ j below.
+      ap₂ (λ n ws. n on ws) (kind-of-gate j below) (
+      taken-is I gs outs [] b nothing-behind j below (known-counted (gateAt gs j) (known-at gs known j below))
+      )
+      ∙ gate-of-parts (gateAt gs j)
+
+  pub outputs-back : outputsOf b ≡ outs
+  outputs-back = listed-are I gs outs [] b nothing-behind

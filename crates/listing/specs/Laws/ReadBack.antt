@@ -45,6 +45,21 @@ older-at g gs j below =
     ap (λ hs. getD hs j no-gate-at) (reverse-cons g gs)
     ∙ List·getD-append (oldestFirst gs) (g ∷ []) no-gate-at j (omega (arith, length-oldest gs))
 
+-- What holds of the newest gate and of the others holds of each.
+pub with-newest : (P : Gate → Type 0) (g : Gate) (gs : List Gate)
+    → P g
+    → ((j : ℕ) → j < length gs → P (gateAt gs j))
+    → (j : ℕ)
+    → j < suc (length gs)
+    → P (gateAt (g ∷ gs) j)
+with-newest P g gs p earlier j below = of (decLt j (length gs))
+  where
+    of : Dec (j < length gs) → P (gateAt (g ∷ gs) j)
+    of (yes older) = subst P (sym (older-at g gs j older)) (earlier j older)
+    of (no newest) =
+        let last : length gs ≡ j = omega arith in
+        subst P (sym (newest-at g gs) ∙ ap (gateAt (g ∷ gs)) last) p
+
 -- A gate that takes as many wires as its number says, and no more than an entry has slots.
 abbrev pub Counted : Gate → Type 0
 Counted (n on ws) = (length ws ≡ wiresIn n) × (length ws ≤ entry-slots)
@@ -78,16 +93,7 @@ one-counted n ws T U e o =
 pub counted-at : {I : List Wire} (gs : List Gate) → TakesEarlier I gs → (j : ℕ) → j < length gs → Counted (gateAt gs j)
 counted-at [] no-gate j below = absurd (omega arith)
 counted-at ((n on ws) ∷ gs) (next-gate {T = T} {U = U} e o t) j below =
-    of (counted-at gs t j) (decLt j (length gs))
-  where
-    of : (j < length gs → Counted (gateAt gs j)) → Dec (j < length gs) → Counted (gateAt ((n on ws) ∷ gs) j)
-    of earlier (yes p) = subst Counted (sym (older-at (n on ws) gs j p)) (earlier p)
-    of earlier (no p) =
-        let last : length gs ≡ j = omega arith in
-        subst
-        Counted
-        (sym (newest-at (n on ws) gs) ∙ ap (gateAt ((n on ws) ∷ gs)) last)
-        (one-counted n ws T U e o)
+    with-newest Counted (n on ws) gs (one-counted n ws T U e o) (counted-at gs t) j below
 
 -- The parts of a listing, and how long they are.
 abbrev sizeBytes : List Wire → List Gate → List ℕ → List ℕ
