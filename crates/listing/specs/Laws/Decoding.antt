@@ -1,5 +1,4 @@
--- A listing and what its bytes say: bytes in the form of a listing are the listing of what is read from them, and a listing is read
--- back as its parts.
+-- Bytes in the form of a listing are the listing of what is read from them, and a listing is read back as its parts.
 use Prim.Native.Nat.{ℕ, zero, suc, _+_, _*_, _/_, _%_, _≤_, _<_}
 use native.Mathlib.Omega.{arith}
 use mathlib.Core.Path.{_≡_, refl, sym, _∙_, ap, ap₂, subst}
@@ -16,16 +15,17 @@ use Rattle.rules.specs.Slots.{no-wire}
 use Rattle.words.specs.Numbers.{wordAt, wordsAt}
 use Rattle.listing.specs.Listing.{bytesOf, inputKind, gateKind, entry-slots, slots, inputSlots, gateSlots, oldestFirst}
 use Rattle.listing.specs.Listing.{sizes, kinds, allSlots, listingBytes, listingLength}
-use Rattle.listing.specs.Reading.{inputCount, gateCount, outputCount, entryCount, kindAt, slotsFrom, outputsFrom, slotAt}
-use Rattle.listing.specs.Reading.{inputType, inputsFrom, inputsOf, gateOfEntry, firstGates, gatesOf, outputsOf}
+use Rattle.listing.specs.Reading.{inputCount, gateCount, outputCount, entryCount, kindAt, slotsFrom, outputsFrom}
+use Rattle.listing.specs.Reading.{slotAt, inputType, inputsFrom, inputsOf, gateOfEntry, firstGates, gatesOf, outputsOf}
 use Rattle.listing.specs.Laws.Lengths.{length-listing}
 use Rattle.listing.specs.Laws.Pieces.{flat-append}
 use Rattle.listing.specs.Laws.Bytes.{unused-at}
-use Rattle.listing.specs.Laws.ReadBack.{gateAt, newest-at, older-at, with-newest, Counted, wires-fit, inputs-are, gates-are, outputs-are}
+use Rattle.listing.specs.Laws.ReadBack.{gateAt, newest-at, older-at, with-newest, Counted, wires-fit}
+use Rattle.listing.specs.Laws.ReadBack.{inputs-are, gates-are, outputs-are}
 use Rattle.listing.specs.Laws.ReadBack.{input-kind-is, input-is, gate-is, input-slot-is, slot-is, taken-is, listed-are}
 
--- The bytes have the form of a listing: as many as the sizes say, each kind one of an input or a gate, and no wire in the slots of an
--- input and in those that a gate does not take.
+-- The bytes have the form of a listing: as many as the sizes say, each kind that of an input or a gate, and no wire in the slots
+-- of an input and in those that a gate does not take.
 pub record InForm (b : List ℕ) : Type 0 where
   pub whole : length b ≡ listingLength (inputCount b) (gateCount b) (outputCount b)
   pub input-kinds : (i : ℕ) → i < inputCount b → (kindAt b i ≡ 128) ⊎ (kindAt b i ≡ 129)
@@ -110,7 +110,9 @@ words-between b small (suc k) from to e inside =
     (one-between b from (suc from) refl (omega arith))
     (ap (λ n. drop n b) next ∙ one-between b (from + 1) (from + 2) (omega arith) (omega arith)))
     in
-    joined b from (from + 2) to (bytesOf (getD b from 0 + 256 * getD b (from + 1) 0)) (flatMap bytesOf (wordsAt b (from + 2) k)) both
+    joined b from (from + 2) to (bytesOf (getD b from 0 + 256 * getD b (from + 1) 0))
+    (flatMap bytesOf (wordsAt b (from + 2) k))
+    both
     (words-between b small k (from + 2) to (omega arith) inside)
 
 -- The wires that are read fill the slots where the others have none.
@@ -187,6 +189,7 @@ kind-of-type : (kind : ℕ) → (kind ≡ 128) ⊎ (kind ≡ 129) → inputKind 
 kind-of-type kind (inl e) = ap (λ k. inputKind (inputType k)) e ∙ sym e
 kind-of-type kind (inr e) = ap (λ k. inputKind (inputType k)) e ∙ sym e
 
+-- The sizes, the kinds and the slots of bytes in form are those of what is read from them.
 module _ (b : List ℕ) (small : (i : ℕ) → getD b i 0 < 256) (form : InForm b) where
   sizes-between : Between b 0 6 (flatMap bytesOf (sizes (inputsOf b) (gatesOf b) (outputsOf b)))
   sizes-between =
@@ -198,7 +201,8 @@ module _ (b : List ℕ) (small : (i : ℕ) → getD b i 0 < 256) (form : InForm 
       (length-first b (gateCount b))
       ∙ ap (λ m. inputCount b ∷ gateCount b ∷ m ∷ []) (length-words b (outputsFrom b) (outputCount b))
       ) in
-      subst (λ l. Between b 0 6 (flatMap bytesOf l)) e (words-between b small 3 0 6 (omega arith) (omega (arith, form .whole)))
+      subst (λ l. Between b 0 6 (flatMap bytesOf l)) e
+      (words-between b small 3 0 6 (omega arith) (omega (arith, form .whole)))
 
   kind-between : (i to : ℕ) → to ≡ 6 + suc i → i < entryCount b → Between b (6 + i) to (kindAt b i ∷ [])
   unfolding kindAt
@@ -211,7 +215,9 @@ module _ (b : List ℕ) (small : (i : ℕ) → getD b i 0 < 256) (form : InForm 
       let inputs : Between b (6 + 1 * 0) (6 + 1 * (0 + L)) (flatMap (λ α. inputKind α ∷ []) (inputsOf b))
       = inputs-between b 6 1 (λ α. inputKind α ∷ []) L (λ i below.
       let here : 6 + i ≡ 6 + 1 * i = omega arith in
-      subst (λ k. Between b (6 + 1 * i) (6 + 1 * suc i) (k ∷ [])) (sym (kind-of-type (kindAt b i) (form .input-kinds i below)))
+      subst
+      (λ k. Between b (6 + 1 * i) (6 + 1 * suc i) (k ∷ []))
+      (sym (kind-of-type (kindAt b i) (form .input-kinds i below)))
       (subst
       (λ m. Between b m (6 + 1 * suc i) (kindAt b i ∷ []))
       here
@@ -250,8 +256,9 @@ module _ (b : List ℕ) (small : (i : ℕ) → getD b i 0 < 256) (form : InForm 
       entry-between i (E + w * suc i) (slots entry-slots []) (omega arith) (omega arith)
       (slots-are entry-slots 0 b (slotsFrom b i) (omega arith) (λ k least inside. form .input-slots i k below inside))) L 0
       (omega arith) in
-      let gates : Between b (E + w * L) (E + w * L + w * G) (flatMap (λ g. flatMap bytesOf (gateSlots g)) (oldestFirst (gatesOf b)))
-      = gates-between b (E + w * L) w (λ g. flatMap bytesOf (gateSlots g)) G (λ j below.
+      let taken : Gate → List ℕ = λ g. flatMap bytesOf (gateSlots g) in
+      let gates : Between b (E + w * L) (E + w * L + w * G) (flatMap taken (oldestFirst (gatesOf b)))
+      = gates-between b (E + w * L) w taken G (λ j below.
       let here : slotsFrom b (L + j) ≡ E + w * L + w * j = omega arith in
       let n = wiresIn (kindAt b (L + j)) in
       subst
@@ -309,9 +316,11 @@ known-kind (n on ws) known = known .0
 known-unused : (g : Gate) (k : ℕ) → Known g → wiresIn (gateKind g) ≤ k → k < entry-slots → getD (gateSlots g) k 0 ≡ no-wire
 known-unused (n on ws) k known least inside = unused-at entry-slots ws k (omega (arith, known .1)) inside
 
+-- A gate is its number on its wires.
 gate-of-parts : (g : Gate) → (gateKind g on wiresOf g) ≡ g
 gate-of-parts (n on ws) = refl
 
+-- The kind of an input is one of the two.
 input-kind-known : (α : Wire) → (inputKind α ≡ 128) ⊎ (inputKind α ≡ 129)
 input-kind-known Bit = inl refl
 input-kind-known Qubit = inr refl
@@ -340,6 +349,7 @@ gates-read b (g ∷ gs) each =
     (each (length gs) (omega arith) ∙ newest-at g gs)
     (gates-read b gs (λ j below. each j (omega arith) ∙ older-at g gs j below))
 
+-- Nothing stands behind the listing.
 module _ (I : List Wire) (gs : List Gate) (outs b : List ℕ) (same : b ≡ listingBytes I gs outs) where
   nothing-behind : b ≡ listingBytes I gs outs ++ []
   nothing-behind = same ∙ sym (append-nil (listingBytes I gs outs))
@@ -361,20 +371,23 @@ module _ (I : List Wire) (gs : List Gate) (outs b : List ℕ) (same : b ≡ list
   in-form known =
       record {
         whole = ap length same
-        ∙ length-listing I gs outs
-        ∙ ap₂ (λ l m. listingLength l m (length outs)) (sym inputs) (sym gates)
-        ∙ ap (listingLength (inputCount b) (gateCount b)) (sym outputs);
+            ∙ length-listing I gs outs
+            ∙ ap₂ (λ l m. listingLength l m (length outs)) (sym inputs) (sym gates)
+            ∙ ap (listingLength (inputCount b) (gateCount b)) (sym outputs);
         input-kinds = λ i below.
-        subst (λ k. (k ≡ 128) ⊎ (k ≡ 129)) (sym (input-kind-is I gs outs [] b nothing-behind i (omega (arith, inputs))))
-        (input-kind-known (getD I i Bit));
+            subst (λ k. (k ≡ 128) ⊎ (k ≡ 129)) (sym (input-kind-is I gs outs [] b nothing-behind i (omega (arith, inputs))))
+            (input-kind-known (getD I i Bit));
         input-slots = λ i k below inside. input-slot-is I gs outs [] b nothing-behind i k (omega (arith, inputs)) inside;
         gate-kinds = λ j below.
-        let there : j < length gs = omega (arith, gates) in
-        subst (λ n. IsTrue (isGate n)) (sym (kind-of-gate j there)) (known-kind (gateAt gs j) (known-at gs known j there));
+            let there : j < length gs = omega (arith, gates) in
+            subst (λ n. IsTrue (isGate n)) (sym (kind-of-gate j there))
+            (known-kind (gateAt gs j) (known-at gs known j there));
         unused-slots = λ j k below least inside.
-        let there : j < length gs = omega (arith, gates) in
-        slot-is I gs outs [] b nothing-behind j k there inside
-        ∙ known-unused (gateAt gs j) k (known-at gs known j there) (subst (λ n. wiresIn n ≤ k) (kind-of-gate j there) least) inside
+            let there : j < length gs = omega (arith, gates) in
+            slot-is I gs outs [] b nothing-behind j k there inside
+            ∙ known-unused (gateAt gs j) k (known-at gs known j there)
+            (subst (λ n. wiresIn n ≤ k) (kind-of-gate j there) least)
+            inside;
       }
 
   -- The inputs, known gates and outputs of a listing are read back.

@@ -6,7 +6,7 @@ use mathlib.Core.Path.{_≡_, refl, sym, _∙_, ap, ap₂, subst}
 use mathlib.Core.Bool.{Bool}
 use mathlib.Core.List.{List, [], _∷_, _++_, map, flatMap, append-assoc, reverse-cons}
 use mathlib.Core.Option.{Option, none, some}
-use lib.Dec.{T as IsTrue, leb, leb→le}
+use lib.Dec.{leb, leb→le}
 use lib.ListN.{length, getD, length-append, length-map, List·getD-append}
 use lib.Seq.{getD-append-add, getD-at}
 use Rattle.rules.specs.Types.{Wire, Bit, Qubit, Ty, wires}
