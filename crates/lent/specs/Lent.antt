@@ -43,3 +43,7 @@ answered written (out ∷ work) = written out ∷ map zeroed work
 -- "19, before all else: ... no buffer is touched." "After any answer but 19, working memory is zero."
 unfoldable pub bytesLeft : List ℕ → (List ℕ → List ℕ) → List (List ℕ) → List (List ℕ)
 bytesLeft least written buffers = cond (tooShort least buffers) buffers (answered written buffers)
+
+-- The same of an operation that is lent working memory only.
+unfoldable pub memoryLeft : List ℕ → List (List ℕ) → List (List ℕ)
+memoryLeft least buffers = cond (tooShort least buffers) buffers (map zeroed buffers)

@@ -7,7 +7,7 @@ use lib.ListN.{getD}
 use Rattle.rules.specs.Types.{Wire, Bit, Qubit}
 use Rattle.rules.specs.GateCodes.{wiresIn, wiresOut}
 use Rattle.rules.specs.Terms.{Gate, _on_}
-use Rattle.listing.specs.Listing.{entry-slots}
+use Rattle.listing.specs.Listing.{inputKind, entry-slots}
 use Rattle.words.specs.Numbers.{wordAt, wordsAt}
 
 -- "Sizes first, 16-bit: L, gates G, outputs O".
@@ -40,7 +40,7 @@ slotAt b i k = wordAt b (slotsFrom b i + 2 * k)
 
 -- "128 Bit input, 129 Qubit input".
 abbrev pub inputType : ℕ → Wire
-inputType kind = cond (eqb kind 128) Bit Qubit
+inputType kind = cond (eqb kind (inputKind Bit)) Bit Qubit
 
 -- So many inputs from entry i on; all of them.
 abbrev pub inputsFrom : List ℕ → ℕ → ℕ → List Wire

@@ -1,2 +1,4 @@
 pub mod Wires
 pub mod WireRules
+pub mod Table
+pub mod Laws

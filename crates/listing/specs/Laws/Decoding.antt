@@ -12,6 +12,7 @@ use Rattle.rules.specs.Gates.{isGate}
 use Rattle.rules.specs.GateCodes.{wiresIn, wiresOf}
 use Rattle.rules.specs.Terms.{Gate, _on_}
 use Rattle.rules.specs.Slots.{no-wire}
+use Rattle.rules.specs.Laws.KnownGates.{KnownGates}
 use Rattle.words.specs.Numbers.{wordAt, wordsAt}
 use Rattle.listing.specs.Listing.{bytesOf, inputKind, gateKind, entry-slots, slots, inputSlots, gateSlots, oldestFirst}
 use Rattle.listing.specs.Listing.{sizes, kinds, allSlots, listingBytes, listingLength}
@@ -36,11 +37,6 @@ pub record InForm (b : List ℕ) : Type 0 where
       → wiresIn (kindAt b (inputCount b + j)) ≤ k
       → k < entry-slots
       → slotAt b (inputCount b + j) k ≡ no-wire
-
--- Each gate is one of the table, and takes as many wires as its number says.
-abbrev pub KnownGates : List Gate → Type 0
-KnownGates [] = Unit {0}
-KnownGates ((n on ws) ∷ gs) = IsTrue (isGate n) × (length ws ≡ wiresIn n) × KnownGates gs
 
 -- As many are read as were asked for.
 pub length-words : (b : List ℕ) (from k : ℕ) → length (wordsAt b from k) ≡ k

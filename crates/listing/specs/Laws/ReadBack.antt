@@ -11,11 +11,11 @@ use lib.ListN.{length, getD, length-append, length-map, List·getD-append}
 use lib.Seq.{getD-append-add, getD-at}
 use Rattle.rules.specs.Types.{Wire, Bit, Qubit, Ty, wires}
 use Rattle.rules.specs.Gates.{GateType, _to_, gateTable, gateType}
-use Rattle.rules.specs.GateCodes.{inputWires, wiresIn, wiresOf}
+use Rattle.rules.specs.GateCodes.{inputWires, wiresIn, wiresOut, wiresOf}
 use Rattle.rules.specs.Terms.{Gate, _on_}
 use Rattle.rules.specs.Slots.{no-wire}
 use Rattle.rules.specs.Circuits.{OfTypes, wires-end, next-wire, TakesEarlier, no-gate, next-gate}
-use Rattle.rules.specs.Laws.Wires.{every-nth}
+use Rattle.rules.specs.Laws.KnownGates.{few-wires}
 use Rattle.listing.specs.Listing.{bytesOf, inputKind, gateKind, entry-slots, inputSlots, gateSlots, oldestFirst, sizes}
 use Rattle.listing.specs.Listing.{kinds, allSlots, listingBytes}
 use Rattle.listing.specs.Laws.Lengths.{length-flat, length-bytes, length-slots, length-gate-slots, length-kinds}
@@ -65,16 +65,11 @@ abbrev pub Counted : Gate → Type 0
 Counted (n on ws) = (length ws ≡ wiresIn n) × (length ws ≤ entry-slots)
 
 -- No gate of the table takes more wires than an entry has slots.
-abbrev has-slots : GateType → Bool
-has-slots (T to U) = leb (length (wires T)) entry-slots
-
 pub wires-fit : (n : ℕ) → wiresIn n ≤ entry-slots
-unfolding wiresIn
-wires-fit n = of (gateType n) refl
-  where
-    of : (g : Option GateType) → gateType n ≡ g → length (inputWires g) ≤ entry-slots
-    of none e = omega arith
-    of (some (T to U)) e = leb→le (length (wires T)) entry-slots (every-nth has-slots gateTable n e tt)
+wires-fit n = few-wires entry-slots tt n .0
+
+pub made-fit : (n : ℕ) → wiresOut n ≤ entry-slots
+made-fit n = few-wires entry-slots tt n .1
 
 types-counted : {types : List Wire} {ws : List ℕ} {αs : List Wire} → OfTypes types ws αs → length ws ≡ length αs
 types-counted wires-end = refl

@@ -13,33 +13,18 @@ use Rattle.rules.specs.Gates.{GateType, _to_, gateTable, gateType, outputWires,
 use Rattle.rules.specs.GateCodes.{wiresIn, wiresOut, inputWires, wiresOf}
 use Rattle.rules.specs.Terms.{Gate, _on_}
 use Rattle.rules.specs.Circuits.{outputs, rename, renameGate}
-use Rattle.rules.specs.Laws.Wires.{every-nth}
+use Rattle.rules.specs.Laws.KnownGates.{few-wires}
 use Rattle.words.specs.Quadwords.{Quadword, quadword, quadwordAt, wordIn}
 use Rattle.machine_circuits.specs.Layout.{gateOf, slotOf, gateWords, gatesIn}
 use Rattle.rules.specs.Slots.{no-wire, gate-slots}
 use Rattle.rules.specs.Laws.Booleans.{and-left, and-right}
 
 -- No gate takes or makes more wires than a quadword has slots.
-abbrev few : GateType → Bool
-few (T to U) = leb (length (wires T)) gate-slots && leb (length (wires U)) gate-slots
-
-few-wires : (n : ℕ) (g : Option GateType)
-    → gateType n ≡ g
-    → (length (inputWires g) ≤ gate-slots) × (length (outputWires g) ≤ gate-slots)
-few-wires n none e = (omega arith, omega arith)
-few-wires n (some (T to U)) e =
-    let t : IsTrue (few (T to U)) = every-nth few gateTable n e tt in (
-      leb→le _ _ (and-left (leb (length (wires T)) gate-slots) (leb (length (wires U)) gate-slots) t),
-      leb→le _ _ (and-right (leb (length (wires T)) gate-slots) (leb (length (wires U)) gate-slots) t),
-    )
-
 pub few-in : (n : ℕ) → wiresIn n ≤ gate-slots
-unfolding wiresIn
-few-in n = few-wires n (gateType n) refl .0
+few-in n = few-wires gate-slots tt n .0
 
 pub few-out : (n : ℕ) → wiresOut n ≤ gate-slots
-unfolding wiresOut
-few-out n = few-wires n (gateType n) refl .1
+few-out n = few-wires gate-slots tt n .1
 
 -- A gate in a quadword takes as many wires as its number says.
 pub wires-counted : (r : Quadword) → length (wiresOf (gateOf r)) ≡ wiresIn (wordIn r 0)
