@@ -1,2 +1,3 @@
-pub mod Table
+pub mod Finding
 pub mod Scans
+pub mod Table
