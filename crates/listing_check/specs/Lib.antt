@@ -2,3 +2,4 @@ pub mod Answers
 pub mod Meaning
 pub mod Wires
 pub mod Laws
+pub mod Theorems

@@ -54,11 +54,11 @@ module _ (Such : ℕ → Type 0) where
       record { is-such = to n (f .is-such); none-before = λ m h s. f .none-before m h (from m s) }
 
 -- m is one of k numbers from n on, and passes a test.
-abbrev Passing : (ℕ → Bool) → ℕ → ℕ → ℕ → Type 0
+abbrev pub Passing : (ℕ → Bool) → ℕ → ℕ → ℕ → Type 0
 Passing test n k m = (n ≤ m) × (m < n + k) × (test m ≡ true)
 
 -- The first of k numbers from n on that passes a test is found.
-where-found : (test : ℕ → Bool) (k n : ℕ) → Finds (Passing test n k) (firstWhere test n k)
+pub where-found : (test : ℕ → Bool) (k n : ℕ) → Finds (Passing test n k) (firstWhere test n k)
 where-found test zero n = λ m h. omega (arith, h .0, h .1)
 where-found test (suc k) n = of-test (test n) refl (firstWhere test (suc n) k) (where-found test k (suc n))
   where
