@@ -8,7 +8,7 @@ use mathlib.Core.List.{List, [], _∷_}
 use mathlib.Core.Option.{Option, none, some}
 use lib.Dec.{T as IsTrue, eqb, ltb}
 use lib.ListN.{length}
-use borrow.Author.Tests.{ltb-true, ltb-false, lt-ltb}
+use borrow.Author.Tests.{ltb-true, ltb-false, lt-ltb, le-ltb}
 use Rattle.rules.specs.Types.{Wire, Bit, Qubit}
 use Rattle.rules.specs.Gates.{gateType, isSome, isGate}
 use Rattle.rules.specs.GateCodes.{wiresIn}
@@ -93,6 +93,10 @@ equal-if m n f = of-test (eqb m n) (compared m n)
     of-test : (t : Bool) → Compared m n t → m ≡ n
     of-test _ (equal e) = e
     of-test _ (unequal g) = absurd (f g)
+
+-- What is not greater is at most so much.
+pub at-most : {m n : ℕ} → (n < m → ⊥) → m ≤ n
+at-most f = omega (arith, f)
 
 -- THE SIZES
 
@@ -251,3 +255,211 @@ entries-found b =
     (λ i h. (omega arith, omega (arith, h .0), says-true (entryWrong b i) (entry-told b i) (h .1)))
     (firstWhere (entryWrong b) 0 (entryCount b))
     (where-found (entryWrong b) (entryCount b) 0)
+
+-- An entry of bytes in form is not wrong, and bytes of right sizes without a wrong entry are in form.
+slots-of-input : (b : List ℕ) (i : ℕ) → i < inputCount b → slotsUsed b i ≡ 0
+slots-of-input b i below = ap (λ t. cond t 0 (wiresIn (kindAt b i))) (lt-ltb i (inputCount b) below)
+
+slots-of-gate : (b : List ℕ) (j : ℕ) → slotsUsed b (inputCount b + j) ≡ wiresIn (kindAt b (inputCount b + j))
+slots-of-gate b j =
+    ap
+    (λ t. cond t 0 (wiresIn (kindAt b (inputCount b + j))))
+    (le-ltb (inputCount b + j) (inputCount b) (omega arith))
+
+form-right : (b : List ℕ) → InForm b → NoSuch (WrongEntry b)
+form-right b form i h = of-wrong (h .0) (h .1)
+  where
+    of-kind : (kindAt b i ≡ inputKind Bit → ⊥) → (kindAt b i ≡ inputKind Qubit → ⊥)
+        → (kindAt b i ≡ 128) ⊎ (kindAt b i ≡ 129) → ⊥
+    of-kind f g (inl e) = f e
+    of-kind f g (inr e) = g e
+
+    as-gate : inputCount b ≤ i → inputCount b + (i - inputCount b) ≡ i
+    as-gate least = omega arith
+
+    of-slot : (k : ℕ) → i < entryCount b → slotsUsed b i ≤ k → k < entry-slots → (t : Bool) → Says (i < inputCount b) t
+        → slotAt b i k ≡ no-wire
+    of-slot k below least inside _ (says-yes l) = form .input-slots i k l inside
+    of-slot k below least inside _ (says-no f) =
+        let j = i - inputCount b in
+        let e = as-gate (omega arith) in
+        subst (λ m. slotAt b m k ≡ no-wire) e
+        (form .unused-slots j k (omega arith)
+        (subst (λ u. u ≤ k) (slots-of-gate b j) (subst (λ m. slotsUsed b m ≤ k) (sym e) least))
+        inside)
+
+    of-wrong : i < entryCount b → EntryWrong b i → ⊥
+    of-wrong below (input-kind l f g) = of-kind f g (form .input-kinds i l)
+    of-wrong below (gate-kind l f) =
+        f (subst (λ m. IsTrue (isGate (kindAt b m))) (as-gate l) (form .gate-kinds (i - inputCount b) (omega arith)))
+    of-wrong below (unused-slot {k = k} least inside f) =
+        f (of-slot k below least inside (ltb i (inputCount b)) (less-told i (inputCount b)))
+
+pub right-form : (b : List ℕ) → (SizesWrong b → ⊥) → NoSuch (WrongEntry b) → InForm b
+right-form b sizes entries =
+    record {
+      whole = equal-if (length b) (listingLength (inputCount b) (gateCount b) (outputCount b)) (λ f. sizes (other-length f));
+      input-kinds = λ i below.
+          of-kind i below
+          (eqb (kindAt b i) 128)
+          (eqb (kindAt b i) 129)
+          (equal-told (kindAt b i) 128)
+          (equal-told (kindAt b i) 129);
+      input-slots = λ i k below inside.
+          equal-if (slotAt b i k) no-wire
+          (λ f. entries i (
+            omega arith,
+            unused-slot {k = k} (subst (λ u. u ≤ k) (sym (slots-of-input b i below)) (omega arith)) inside f,
+          ));
+      gate-kinds = λ j below. of-gate j below (isGate (kindAt b (inputCount b + j))) refl;
+      unused-slots = λ j k below least inside.
+          equal-if (slotAt b (inputCount b + j) k) no-wire
+          (λ f. entries (inputCount b + j) (
+            omega arith,
+            unused-slot {k = k} (subst (λ u. u ≤ k) (sym (slots-of-gate b j)) least) inside f,
+          ));
+    }
+  where
+    of-kind : (i : ℕ) → i < inputCount b → (s t : Bool) → Says (kindAt b i ≡ 128) s → Says (kindAt b i ≡ 129) t
+        → (kindAt b i ≡ 128) ⊎ (kindAt b i ≡ 129)
+    of-kind i below _ t (says-yes e) q = inl e
+    of-kind i below _ _ (says-no f) (says-yes e) = inr e
+    of-kind i below _ _ (says-no f) (says-no g) = absurd (entries i (omega arith, input-kind below f g))
+
+    of-gate : (j : ℕ) → j < gateCount b → (t : Bool) → isGate (kindAt b (inputCount b + j)) ≡ t
+        → IsTrue (isGate (kindAt b (inputCount b + j)))
+    of-gate j below true e = subst IsTrue (sym e) tt
+    of-gate j below false e =
+        absurd (entries (inputCount b + j) (omega arith, gate-kind (omega arith) (λ g. subst IsTrue e g)))
+
+-- THE ANSWER
+
+-- What the check finds, with its answer.
+pub data Judged (b : List ℕ) : ListingAnswer → Type 0 where
+  sizes-wrong : SizesWrong b → Judged b (Refused (Run 24 0))
+  entry-wrong : {p : ℕ} → (SizesWrong b → ⊥) → First (WrongEntry b) p → Judged b (Refused (Run 25 p))
+  wires-wrong : {p : ℕ}
+      → (SizesWrong b → ⊥)
+      → NoSuch (WrongEntry b)
+      → BrokenAt (inputsOf b) (gatesOf b) (outputsOf b) p
+      → Judged b (Refused (Run 26 p))
+  all-right : (SizesWrong b → ⊥)
+      → NoSuch (WrongEntry b)
+      → GoesOnce (inputsOf b) (gatesOf b) (outputsOf b)
+      → Judged b (Accepted (inputCount b) (gateCount b) (outputCount b))
+
+-- The gates of bytes with right sizes and entries are known.
+right-known : (b : List ℕ) → (SizesWrong b → ⊥) → NoSuch (WrongEntry b) → KnownGates (gatesOf b)
+right-known b sizes entries = gates-known b (right-form b sizes entries)
+
+-- The check of any bytes finds one of these.
+pub listing-judged : (b : List ℕ) → Judged b (listingCheckOf b)
+unfolding listingCheckOf
+listing-judged b = of-sizes (sizesWrong b) (sizes-told b)
+  where
+    of-wires : (SizesWrong b → ⊥) → NoSuch (WrongEntry b) → (o : Option ℕ)
+        → brokenAt (inputsOf b) (gatesOf b) (outputsOf b) ≡ o
+        → Judged b (wiresJudged b o)
+    of-wires sizes entries none e =
+        all-right sizes entries
+        (wires-mean (inputsOf b) (gatesOf b) (outputsOf b) (right-known b sizes entries) .whole .0 e)
+    of-wires sizes entries (some p) e =
+        wires-wrong sizes entries
+        (wires-mean (inputsOf b) (gatesOf b) (outputsOf b) (right-known b sizes entries) .broken p .0 e)
+
+    of-entries : (SizesWrong b → ⊥) → (o : Option ℕ) → Finds (WrongEntry b) o → Judged b (entriesJudged b o)
+    of-entries sizes none f = of-wires sizes f (brokenAt (inputsOf b) (gatesOf b) (outputsOf b)) refl
+    of-entries sizes (some p) f = entry-wrong sizes f
+
+    of-sizes : (t : Bool) → Says (SizesWrong b) t
+        → Judged b (cond t (Refused (Run 24 0)) (entriesJudged b (firstWhere (entryWrong b) 0 (entryCount b))))
+    of-sizes _ (says-yes h) = sizes-wrong h
+    of-sizes _ (says-no f) = of-entries f (firstWhere (entryWrong b) 0 (entryCount b)) (entries-found b)
+
+-- What it finds it answers.
+module _ (b : List ℕ) where
+  found : Option ℕ
+  found = firstWhere (entryWrong b) 0 (entryCount b)
+
+  sizes-right : (SizesWrong b → ⊥) → listingCheckOf b ≡ entriesJudged b found
+  unfolding listingCheckOf found
+  sizes-right f =
+      ap (λ t. cond t (Refused (Run 24 0)) (entriesJudged b found)) (says-false (sizesWrong b) (sizes-told b) f)
+
+  entries-right : (SizesWrong b → ⊥) → NoSuch (WrongEntry b)
+      → listingCheckOf b ≡ wiresJudged b (brokenAt (inputsOf b) (gatesOf b) (outputsOf b))
+  unfolding found
+  entries-right f n = sizes-right f ∙ ap (entriesJudged b) (found-none (WrongEntry b) found (entries-found b) n)
+
+  pub judged-answer : {a : ListingAnswer} → Judged b a → listingCheckOf b ≡ a
+  unfolding listingCheckOf found
+  judged-answer (sizes-wrong h) =
+      ap (λ t. cond t (Refused (Run 24 0)) (entriesJudged b found)) (says-true (sizesWrong b) (sizes-told b) h)
+  judged-answer (entry-wrong {p = p} f first) =
+      sizes-right f ∙ ap (entriesJudged b) (found-first (WrongEntry b) found (entries-found b) p first)
+  judged-answer (wires-wrong {p = p} f n broken) =
+      entries-right f n
+      ∙ ap (wiresJudged b)
+      (wires-mean (inputsOf b) (gatesOf b) (outputsOf b) (right-known b f n) .broken p .1 broken)
+  judged-answer (all-right f n goes) =
+      entries-right f n
+      ∙ ap (wiresJudged b) (wires-mean (inputsOf b) (gatesOf b) (outputsOf b) (right-known b f n) .whole .1 goes)
+
+-- SOUND LISTINGS
+
+-- The gates of a sound circuit are known.
+pub sound-known : {I : List Wire} (gs : List Gate) → TakesEarlier I gs → KnownGates gs
+unfolding isGate
+sound-known [] no-gate = tt
+sound-known ((n on ws) ∷ gs) (next-gate {T = T} {U = U} e o t) =
+    (subst (λ g. IsTrue (isSome g)) (sym e) tt, one-counted n ws T U e o .0, sound-known gs t)
+
+-- What is read from a sound listing, and how many of each.
+pub record ReadBack (b : List ℕ) (L G O : ℕ) (I : List Wire) (gs : List Gate) (outs : List ℕ) : Type 0 where
+  pub form : InForm b
+  pub inputs-are : inputsOf b ≡ I
+  pub gates-are : gatesOf b ≡ gs
+  pub outputs-are : outputsOf b ≡ outs
+  pub input-count : inputCount b ≡ L
+  pub gate-count : gateCount b ≡ G
+  pub output-count : outputCount b ≡ O
+
+pub sound-read : (b : List ℕ) {L G O : ℕ} (x : SoundListing b L G O)
+    → ReadBack b L G O (x .inputs) (x .gates) (x .outs)
+sound-read b x =
+    let known = sound-known (x .gates) (x .goes-once .sound .takes-earlier) in
+    let inputs = inputs-back (x .inputs) (x .gates) (x .outs) b (x .bytes-are) in
+    let gates = gates-back (x .inputs) (x .gates) (x .outs) b (x .bytes-are) known in
+    let outs = outputs-back (x .inputs) (x .gates) (x .outs) b (x .bytes-are) in
+    record {
+      form = in-form (x .inputs) (x .gates) (x .outs) b (x .bytes-are) known;
+      inputs-are = inputs;
+      gates-are = gates;
+      outputs-are = outs;
+      input-count = sym (length-inputs b 0 (inputCount b)) ∙ ap length inputs ∙ sym (x .input-count);
+      gate-count = sym (length-first b (gateCount b)) ∙ ap length gates ∙ sym (x .gate-count);
+      output-count = sym (length-words b (outputsFrom b) (outputCount b)) ∙ ap length outs ∙ sym (x .output-count);
+    }
+
+-- A sound listing is accepted, with its numbers of inputs, gates and outputs.
+pub sound-accepted : (b : List ℕ) {L G O : ℕ} → SoundListing b L G O → listingCheckOf b ≡ Accepted L G O
+sound-accepted b {L} {G} {O} x =
+    judged-answer b (all-right sizes (form-right b (r .form)) goes)
+    ∙ ap₂ (λ l m. Accepted l m (outputCount b)) (r .input-count) (r .gate-count)
+    ∙ ap (Accepted L G) (r .output-count)
+  where
+    r : ReadBack b L G O (x .inputs) (x .gates) (x .outs)
+    r = sound-read b x
+
+    sizes : SizesWrong b → ⊥
+    sizes (no-sizes h) = omega (arith, h, r .form .whole)
+    sizes (many-inputs h) = omega (arith, h, r .input-count, x .few-inputs)
+    sizes (many-gates h) = omega (arith, h, r .gate-count, x .few-gates)
+    sizes (many-outputs h) = omega (arith, h, r .output-count, x .few-outputs)
+    sizes (other-length f) = f (r .form .whole)
+
+    goes : GoesOnce (inputsOf b) (gatesOf b) (outputsOf b)
+    goes =
+        subst (λ I. GoesOnce I (gatesOf b) (outputsOf b)) (sym (r .inputs-are))
+        (subst (λ gs. GoesOnce (x .inputs) gs (outputsOf b)) (sym (r .gates-are))
+        (subst (GoesOnce (x .inputs) (x .gates)) (sym (r .outputs-are)) (x .goes-once)))
