@@ -8,7 +8,7 @@ use mathlib.Core.List.{List, []}
 use lib.Dec.{T as IsTrue}
 use lib.ListN.{length}
 use Rattle.rules.specs.Types.{Ty, isWireType}
-use Rattle.rules.specs.Terms.{tuple}
+use Rattle.rules.specs.Terms.{labels, tuple}
 use Rattle.rules.specs.Circuits.{circuit}
 use Rattle.rules.specs.Steps.{frame, Configuration, configuration, start}
 use Rattle.rules.specs.Sizes.{most-gates}
