@@ -10,7 +10,7 @@ use lib.Dec.{T as IsTrue, eqb, ltb}
 use lib.ListN.{length}
 use borrow.Author.Tests.{ltb-true, ltb-false, lt-ltb, le-ltb}
 use Rattle.rules.specs.Types.{Wire, Bit, Qubit}
-use Rattle.rules.specs.Gates.{gateType, isSome, isGate}
+use Rattle.rules.specs.Gates.{isSome, isGate}
 use Rattle.rules.specs.GateCodes.{wiresIn}
 use Rattle.rules.specs.Slots.{no-wire}
 use Rattle.rules.specs.Terms.{Gate, _on_}
@@ -20,7 +20,7 @@ use Rattle.rules.specs.Laws.Wires.{Compared, equal, unequal, compared}
 use Rattle.rules.specs.Laws.KnownGates.{KnownGates}
 use Rattle.refusals.specs.declared.Refusal.the-variants.{Run}
 use Rattle.words.specs.Numbers.{wordAt}
-use Rattle.listing.specs.Listing.{inputKind, entry-slots, listingBytes, listingLength, most-outputs}
+use Rattle.listing.specs.Listing.{inputKind, entry-slots, listingLength, most-outputs}
 use Rattle.listing.specs.Reading.{inputCount, gateCount, outputCount, entryCount, kindAt, slotsFrom, slotAt, outputsFrom}
 use Rattle.listing.specs.Reading.{inputsOf, gatesOf, outputsOf}
 use Rattle.listing.specs.Laws.ReadBack.{one-counted}

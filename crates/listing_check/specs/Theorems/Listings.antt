@@ -1,10 +1,10 @@
 -- Each answer of the check of a listing is given exactly where 02 says so (ticket 3).
 use Prim.Native.Nat.{ℕ, _<_}
 use native.Mathlib.Omega.{arith}
-use mathlib.Core.Path.{_≡_, refl, sym, _∙_, ap, ap₂, subst}
-use mathlib.Core.Logic.{_↔_, _⊎_, inl, inr}
+use mathlib.Core.Path.{_≡_, sym, _∙_, ap, subst}
+use mathlib.Core.Logic.{_⊎_, inl, inr}
 use mathlib.Core.List.{List}
-use lib.ListN.{length, getD}
+use lib.ListN.{getD}
 use Rattle.refusals.specs.declared.Refusal.{Refusal}
 use Rattle.refusals.specs.declared.Refusal.the-variants.{Run}
 use Rattle.refusals.specs.Refusals.{refusalNumber, refusalPlace}
@@ -13,7 +13,6 @@ use Rattle.listing.specs.Laws.Decoding.{length-words, length-inputs, length-fir
 use Rattle.wire_table.specs.WireRules.{First, NoSuch, BrokenAt}
 use Rattle.listing_check.specs.declared.ListingAnswer.{ListingAnswer}
 use Rattle.listing_check.specs.declared.ListingAnswer.the-variants.{Accepted, Refused}
-use Rattle.listing_check.specs.Answers.{listingCheckOf}
 use Rattle.listing_check.specs.Meaning.{SoundListing, SizesWrong, many-inputs, many-gates, many-outputs, WrongEntry}
 use Rattle.listing_check.specs.Meaning.{ListingMeans}
 use Rattle.listing_check.specs.Laws.Judging.{at-most, right-form, Judged, sizes-wrong, entry-wrong, wires-wrong}
