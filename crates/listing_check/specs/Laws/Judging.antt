@@ -42,6 +42,7 @@ data Says (P : Type 0) : Bool → Type 0 where
   says-yes : P → Says P true
   says-no : (P → ⊥) → Says P false
 
+-- A test gives true exactly where its statement holds.
 says-true : {P : Type 0} (t : Bool) → Says P t → P → t ≡ true
 says-true _ (says-yes p) q = refl
 says-true _ (says-no f) q = absurd (f q)
@@ -72,6 +73,7 @@ says-same : {P Q : Type 0} (t : Bool) → (P → Q) → (Q → P) → Says P t �
 says-same _ to from (says-yes p) = says-yes (to p)
 says-same _ to from (says-no f) = says-no (λ q. f (from q))
 
+-- The tests of two numbers.
 less-told : (m n : ℕ) → Says (m < n) (ltb m n)
 less-told m n = of-test (ltb m n) refl
   where
@@ -152,6 +154,7 @@ KindWrong b i =
     ((i < inputCount b) × (kindAt b i ≡ inputKind Bit → ⊥) × (kindAt b i ≡ inputKind Qubit → ⊥))
     ⊎ ((inputCount b ≤ i) × (IsTrue (isGate (kindAt b i)) → ⊥))
 
+-- The test of an entry's kind says so, and that of its unused slots whether one of them has a wire.
 kind-told : (b : List ℕ) (i : ℕ) → Says (KindWrong b i) (not (kindAllowed b i))
 kind-told b i = of-order (ltb i (inputCount b)) (less-told i (inputCount b))
   where
