@@ -1,3 +1,4 @@
 pub mod Entries
 pub mod Judging
 pub mod Wires
+pub mod Answering

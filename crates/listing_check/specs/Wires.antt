@@ -23,11 +23,13 @@ pub record Whole (b m : List ℕ) : Type 0 where
 -- The gates have been read: the first wrong one, or the wires that are there after all of them.
 pub record GatesRead (b m : List ℕ) (found : ℕ) : Type 0 where
   pub answers : found ≡ oneMore (firstWrongGate (inputsOf b) (gatesOf b))
+  pub few : found ≤ gateCount b
   pub holds : found ≡ 0 → Holds m (inputsOf b ++ outputs (gatesOf b)) (taken (gatesOf b))
 
 -- The outputs have been read: the first wrong one, or the wires that are left.
 pub record OutputsRead (types : List Wire) (gone outs m : List ℕ) (found : ℕ) : Type 0 where
   pub answers : found ≡ oneMore (firstWrongOutput types gone 0 outs)
+  pub few : found ≤ length outs
   pub holds : found ≡ 0 → Holds m types (outs ++ gone)
 
 -- A refusal of the family run, with its place.

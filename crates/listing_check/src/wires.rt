@@ -120,6 +120,7 @@ pub(crate) fn check_wires(listing: &[u8], table: &mut [u8]) -> ListingAnswer
     make_inputs(listing, table);
     let inputs = input_count(listing);
     let gates = gate_count(listing);
+    let outputs = output_count(listing);
     let gate = wrong_gate(listing, table);
     if 0 < gate {
         return refused(26, inputs + (gate - 1));
@@ -135,6 +136,6 @@ pub(crate) fn check_wires(listing: &[u8], table: &mut [u8]) -> ListingAnswer
     ListingAnswer::Accepted {
         inputs,
         gates,
-        outputs: output_count(listing),
+        outputs,
     }
 }

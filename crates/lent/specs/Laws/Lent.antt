@@ -7,7 +7,7 @@ use mathlib.Core.List.{List, [], _∷_, map}
 use lib.Dec.{ltb}
 use lib.ListN.{length, replicate}
 use borrow.Author.Tests.{lt-ltb, le-ltb, ltb-false}
-use Rattle.lent.specs.Lent.{anyBelow, tooShort, zeroed, answered, bytesLeft}
+use Rattle.lent.specs.Lent.{anyBelow, tooShort, zeroed, answered, bytesLeft, memoryLeft}
 
 -- The first length is below its least.
 pub below-here : (l n : ℕ) (ls ns : List ℕ) → n < l → anyBelow (l ∷ ls) (n ∷ ns) ≡ true
@@ -52,6 +52,18 @@ pub long-left : (least : List ℕ) (written : List ℕ → List ℕ) (buffers la
     → last ≡ bytesLeft least written buffers
 unfolding bytesLeft
 long-left least written buffers last e same = same ∙ sym (ap (λ b. cond b buffers (answered written buffers)) e)
+
+-- The same where only working memory is lent.
+pub short-memory : (least : List ℕ) (buffers : List (List ℕ)) → tooShort least buffers ≡ true → buffers ≡ memoryLeft least buffers
+unfolding memoryLeft
+short-memory least buffers e = sym (ap (λ b. cond b buffers (map zeroed buffers)) e)
+
+pub long-memory : (least : List ℕ) (buffers last : List (List ℕ))
+    → tooShort least buffers ≡ false
+    → last ≡ map zeroed buffers
+    → last ≡ memoryLeft least buffers
+unfolding memoryLeft
+long-memory least buffers last e same = same ∙ sym (ap (λ b. cond b buffers (map zeroed buffers)) e)
 
 -- Buffers of the same lengths are zeroed to the same bytes.
 pub zeroed-same : (bs cs : List (List ℕ)) → map length bs ≡ map length cs → map zeroed bs ≡ map zeroed cs

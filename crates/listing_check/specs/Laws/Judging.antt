@@ -146,6 +146,13 @@ sizes-told b =
     from (many-outputs h) = inr (inr (inr (inl h)))
     from (other-length f) = inr (inr (inr (inr f)))
 
+pub sizes-tested-right : (b : List ℕ) → sizesWrong b ≡ false → SizesWrong b → ⊥
+sizes-tested-right b e = of (sizesWrong b) (sizes-told b) e
+  where
+    of : (t : Bool) → Says (SizesWrong b) t → t ≡ false → SizesWrong b → ⊥
+    of _ (says-yes h) e = let z : _≡_ {A = ℕ} 0 1 = cc in absurd (omega arith)
+    of _ (says-no f) e = f
+
 -- THE ENTRIES
 
 -- The kind of entry i is not allowed.

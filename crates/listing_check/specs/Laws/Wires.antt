@@ -26,8 +26,10 @@ use Rattle.wire_table.specs.Wires.{there, isThere, allThere, or-else, firstWron
 use Rattle.wire_table.specs.Wires.{placed, maker, brokenAt}
 use Rattle.wire_table.specs.Table.{Holds, oneMore, TakesAll, MakesAll}
 use Rattle.wire_table.specs.Laws.Table.{byte-there, taken-out, same-gone, lowest-read, next-word}
-use Rattle.listing_check.specs.Answers.{most-wires}
-use Rattle.listing_check.specs.Wires.{Whole, GatesRead, OutputsRead}
+use Rattle.listing_check.specs.declared.ListingAnswer.{ListingAnswer}
+use Rattle.listing_check.specs.declared.ListingAnswer.the-variants.{Accepted}
+use Rattle.listing_check.specs.Answers.{wiresJudged, most-wires}
+use Rattle.listing_check.specs.Wires.{Whole, GatesRead, OutputsRead, refusedWith}
 
 -- What a number says that is one more than what was found, or 0.
 pub found-some : (o : Option ℕ) (found : ℕ) → found ≡ oneMore o → 0 < found → o ≡ some (found - 1)
@@ -162,6 +164,7 @@ module _ (b : List ℕ) (i made : ℕ) (m m₁ : List ℕ) (from : ℕ) (here : 
       let first = ap (λ j. firstWrongGate (inputsOf b) (firstGates b j)) (sym rest) ∙ wrong-kept b i (gateCount b - suc i) (wrong-here e) in
       record {
         answers = is ∙ omega (arith, ap oneMore first);
+        few = omega arith;
         holds = λ z. absurd (omega arith);
       }
 
@@ -169,6 +172,7 @@ pub gates-end : (b m : List ℕ) (i made : ℕ) → i ≡ gateCount b → GatesS
 gates-end b m i made e t =
     record {
       answers = sym (ap oneMore (ap (λ j. firstWrongGate (inputsOf b) (firstGates b j)) (sym e) ∙ t .none-wrong));
+      few = omega arith;
       holds = λ z. subst (λ j. Holds m (inputsOf b ++ outputs (firstGates b j)) (taken (firstGates b j))) e (t .held);
     }
 
@@ -201,21 +205,23 @@ module _ {types : List Wire} {gone outs m : List ℕ} where
               so-far = w ∷ t .so-far;
               held = subst (λ l. Holds l types (w ∷ t .so-far)) (sym put) (taken-out w q (t .held));
               same = t .same
-              ∙ ap (λ x. cond (isThere x) (firstWrongOutput types (w ∷ t .so-far) (suc j) rest) (some j)) q
-              ∙ ap (λ k. firstWrongOutput types (w ∷ t .so-far) k rest) next;
+                  ∙ ap (λ x. cond (isThere x) (firstWrongOutput types (w ∷ t .so-far) (suc j) rest) (some j)) q
+                  ∙ ap (λ k. firstWrongOutput types (w ∷ t .so-far) k rest) next;
               counted = λ v. omega (arith, t .counted v);
             }
 
     pub leaving-wrong : (m′ : List ℕ) (found : ℕ)
         → ltb 0 (getD m w 0) ≡ false
         → found ≡ j + 1
+        → j < length outs
         → OutputsRead types gone outs m′ found
-    leaving-wrong m′ found e is =
+    leaving-wrong m′ found e is below =
         let first : firstWrongOutput types gone 0 outs ≡ some j
         = t .same
         ∙ ap (λ x. cond x (firstWrongOutput types (w ∷ t .so-far) (suc j) rest) (some j)) (sym there-read ∙ e) in
         record {
           answers = is ∙ omega (arith, ap oneMore first);
+          few = omega arith;
           holds = λ z. absurd (omega arith);
         }
 
@@ -223,6 +229,7 @@ module _ {types : List Wire} {gone outs m : List ℕ} where
   leaving-end t =
       record {
         answers = sym (ap oneMore (t .same));
+        few = omega arith;
         holds = λ z. same-gone (outs ++ gone) (λ w. omega (arith, t .counted w)) (t .held);
       }
 
@@ -316,3 +323,59 @@ found-within test n (suc k) m e = of (found-within test (suc n) k m) (test n) e
         → m < n + suc k
     of rest true e = let same : n ≡ m = cc in omega arith
     of rest false e = let h = rest e in omega arith
+
+-- Memory of the same length has room for as many wires.
+pub whole-kept : {b m : List ℕ} (m′ : List ℕ) → length m′ ≡ length m → Whole b m → Whole b m′
+whole-kept m′ e fits =
+    record { few-inputs = fits .few-inputs; few-gates = fits .few-gates; room = omega (arith, fits .room) }
+
+-- The answer at each stage: a gate is wrong, an output is, a wire is left over, or no rule is broken.
+module _ (b : List ℕ) where
+  abbrev answerIs : ListingAnswer → Type 0
+  answerIs x = x ≡ wiresJudged b (brokenAt (inputsOf b) (gatesOf b) (outputsOf b))
+
+  module _ {m : List ℕ} {gate inputs : ℕ} (G : GatesRead b m gate) (is : inputs ≡ inputCount b) where
+    pub gate-answered : 0 < gate → answerIs (refusedWith 26 (inputs + (gate - 1)))
+    gate-answered h =
+        ap (refusedWith 26) (ap (λ n. n + (gate - 1)) (is ∙ sym (length-inputs b 0 (inputCount b))))
+        ∙ sym (ap (wiresJudged b) (broken-gate (inputsOf b) (gatesOf b) (outputsOf b) (found-some _ gate (G .answers) h)))
+
+    module _ {m′ : List ℕ} {output gates : ℕ} (right : gate ≡ 0) (has : gates ≡ gateCount b)
+        (U : OutputsRead (inputsOf b ++ outputs (gatesOf b)) (taken (gatesOf b)) (outputsOf b) m′ output) where
+      none-wrong : firstWrongGate (inputsOf b) (gatesOf b) ≡ none
+      none-wrong = found-none _ gate (G .answers) right
+
+      pub output-answered : 0 < output → answerIs (refusedWith 26 (inputs + gates + (output - 1)))
+      output-answered h =
+          ap (refusedWith 26)
+          (ap₂ (λ n k. n + k + (output - 1)) (is ∙ sym (length-inputs b 0 (inputCount b))) (has ∙ sym (length-first b (gateCount b))))
+          ∙ sym (ap (wiresJudged b)
+          (broken-output (inputsOf b) (gatesOf b) (outputsOf b) none-wrong (found-some _ output (U .answers) h)))
+
+      module _ {left : ℕ} (outs-right : output ≡ 0) (fits : Whole b m′)
+          (found : left ≡ oneMore (firstWhere (λ w. ltb 0 (getD m′ w 0)) 0 most-wires)) where
+        lowest : left ≡ oneMore (lowestLeft (inputsOf b ++ outputs (gatesOf b)) (taken (gatesOf b) ++ outputsOf b))
+        lowest = found ∙ ap oneMore (left-read b m′ fits (U .holds outs-right))
+
+        at-left : (o : Option ℕ)
+            → lowestLeft (inputsOf b ++ outputs (gatesOf b)) (taken (gatesOf b) ++ outputsOf b) ≡ o
+            → brokenAt (inputsOf b) (gatesOf b) (outputsOf b) ≡ placed (maker (inputsOf b) (gatesOf b)) o
+        at-left =
+            broken-left (inputsOf b) (gatesOf b) (outputsOf b) none-wrong (found-none _ output (U .answers) outs-right)
+
+        pub left-made : 0 < left → left - 1 < length (inputsOf b ++ outputs (gatesOf b))
+        left-made h =
+            omega (arith, found-within _ 0 (length (inputsOf b ++ outputs (gatesOf b))) (left - 1) (found-some _ left lowest h))
+
+        pub left-answered : (place : ℕ)
+            → 0 < left
+            → place ≡ maker (inputsOf b) (gatesOf b) (left - 1)
+            → answerIs (refusedWith 26 place)
+        left-answered place h e =
+            ap (refusedWith 26) e ∙ sym (ap (wiresJudged b) (at-left (some (left - 1)) (found-some _ left lowest h)))
+
+        pub all-answered : (outs : ℕ) → left ≡ 0 → outs ≡ outputCount b → answerIs (Accepted inputs gates outs)
+        all-answered outs h o =
+            ap₂ (λ x y. Accepted x y outs) is has
+            ∙ ap (Accepted (inputCount b) (gateCount b)) o
+            ∙ sym (ap (wiresJudged b) (at-left none (found-none _ left lowest h)))

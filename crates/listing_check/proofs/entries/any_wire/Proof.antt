@@ -29,7 +29,7 @@ word-at-requires : tie.Need-word-at-requires Inv-loop μ-loop
 word-at-requires c κs = search needs
 
 returns : tie.Need-returns Inv-loop μ-loop
-returns c = 
+returns c =
     let a = c .before .before .before .before .before .args in
     let s = c .before .before .before .loop in
     sym (s .inv .1 ∙ wire-here (a .listing .now) (a .from) entry-slots (s .slot) (c .before .before .loop-test .taken) (λ e. c .if1 .taken (c .before .word-at .ensures .0 ∙ e)))
@@ -41,13 +41,13 @@ loop-less : tie.Need-loop-less Inv-loop μ-loop
 loop-less c = omega (arith, c .before .before .loop-test .taken)
 
 loop-again : tie.Need-loop-again Inv-loop μ-loop
-loop-again c = 
+loop-again c =
     let a = c .before .before .before .before .before .args in
     let s = c .before .before .before .loop in
     (omega (arith, c .before .before .loop-test .taken), s .inv .1 ∙ wire-later (a .listing .now) (a .from) entry-slots (s .slot) (c .before .before .loop-test .taken) (sym (c .before .word-at .ensures .0) ∙ c .if1 .left))
 
 returns-2 : tie.Need-returns-2 Inv-loop μ-loop
-returns-2 c = 
+returns-2 c =
     let a = c .before .before .before .args in
     let s = c .before .loop in
     sym (s .inv .1 ∙ wire-nowhere (a .listing .now) (a .from) entry-slots (s .slot) (c .loop-test .left))

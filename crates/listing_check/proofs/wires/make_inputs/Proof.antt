@@ -14,7 +14,7 @@ use Rattle.listing_check.proofs.wires.make_inputs.Statement.{statement}
 use Rattle.listing_check.proofs.wires.make_inputs.Tie as tie
 
 abbrev Inv-loop : tie.InvT-loop
-Inv-loop listing table₀ count i₀ table i = 
+Inv-loop listing table₀ count i₀ table i =
     (i ≤ count)
     × (length table ≡ length table₀)
     × Making [] [] (inputsOf listing) table i (inputsFrom listing i (inputCount listing - i))
@@ -26,7 +26,7 @@ input-count-requires : tie.Need-input-count-requires Inv-loop μ-loop
 input-count-requires c κs = search needs
 
 loop-holds : tie.Need-loop-holds Inv-loop μ-loop
-loop-holds c = 
+loop-holds c =
     let a = c .before .before .before .args in
     let e : inputCount (a .listing .now) ≡ inputCount (a .listing .now) - 0 = omega arith in (
       omega arith,
@@ -50,7 +50,7 @@ loop-less : tie.Need-loop-less Inv-loop μ-loop
 loop-less c = omega (arith, c .before .before .before .before .before .before .loop-test .taken)
 
 loop-again : tie.Need-loop-again Inv-loop μ-loop
-loop-again c = 
+loop-again c =
     let a = c .before .before .before .before .before .before .before .before .before .before .before .args in
     let b = a .listing .now in
     let s = c .before .before .before .before .before .before .before .loop in
@@ -67,7 +67,7 @@ same-length : tie.Need-same-length Inv-loop μ-loop
 same-length c = c .before .loop .inv .1
 
 returns : tie.Need-returns Inv-loop μ-loop
-returns c = 
+returns c =
     let a = c .before .before .before .before .before .args in
     let b = a .listing .now in
     let s = c .before .loop in

@@ -16,7 +16,7 @@ use Rattle.listing_check.proofs.wires.maker_of.Statement.{statement}
 use Rattle.listing_check.proofs.wires.maker_of.Tie as tie
 
 abbrev Inv-loop : tie.InvT-loop
-Inv-loop listing w inputs count made₀ i₀ made i = 
+Inv-loop listing w inputs count made₀ i₀ made i =
     (i ≤ count)
     × (made ≤ inputs + gate-slots * i)
     × (made ≡ length (inputsOf listing ++ outputs (firstGates listing i)))
@@ -35,7 +35,7 @@ gate-count-requires : tie.Need-gate-count-requires Inv-loop μ-loop
 gate-count-requires c κs = search needs
 
 loop-holds : tie.Need-loop-holds Inv-loop μ-loop
-loop-holds c = 
+loop-holds c =
     let b = c .before .before .before .before .args .listing .now in
     (omega arith, omega arith, omega (arith, c .before .before .input-count .ensures .0, length-append (inputsOf b) [], length-inputs b 0 (inputCount b)), c .before .if1 .left)
 
@@ -49,7 +49,7 @@ wires-out-requires : tie.Need-wires-out-requires Inv-loop μ-loop
 wires-out-requires c κs = search needs
 
 add-made : tie.Need-add-made Inv-loop μ-loop
-add-made c = 
+add-made c =
     let few = few-wires gate-slots tt (c .before .kind-at .result) .1 in
     search (needs, c .before .before .loop-test .taken, c .before .before .before .before .before .before .input-count .ensures .1, c .before .before .before .before .gate-count .ensures .1, c .before .before .before .loop .inv .1, few, c .wires-out .ensures)
 
@@ -61,8 +61,12 @@ returns-2 c = λ h.
     let b = c .before .before .before .before .before .before .before .before .before .args .listing .now in
     let s = c .before .before .before .before .loop in
     let kind : c .before .wires-out .result ≡ wiresOut (kindAt b (inputCount b + s .i)) = c .before .wires-out .ensures ∙ ap wiresOut (c .before .before .kind-at .ensures .0 ∙ ap (λ n. kindAt b (n + s .i)) (c .before .before .before .before .before .before .before .input-count .ensures .0)) in
-    omega (arith, c .before .before .before .before .before .before .before .input-count .ensures .0, gate-made b (c .before .before .before .before .before .before .before .before .before .args .w) (s .i) (omega (arith, c .before .before .before .loop-test .taken, c .before .before .before .before .before .gate-count .ensures .0)) (omega (arith, s .inv .2 .0, s .inv .2 .1))
-    (omega (arith, c .if2 .taken, kind, s .inv .2 .0, one-more-gate b (s .i))))
+    omega (
+      arith,
+      c .before .before .before .before .before .before .before .input-count .ensures .0,
+      gate-made b (c .before .before .before .before .before .before .before .before .before .args .w) (s .i) (omega (arith, c .before .before .before .loop-test .taken, c .before .before .before .before .before .gate-count .ensures .0)) (omega (arith, s .inv .2, s .inv .3))
+          (omega (arith, c .if2 .taken, kind, s .inv .2, one-more-gate b (s .i))),
+    )
 
 add-i : tie.Need-add-i Inv-loop μ-loop
 add-i c = search (needs, c .before .before .before .loop-test .taken)
@@ -71,14 +75,14 @@ loop-less : tie.Need-loop-less Inv-loop μ-loop
 loop-less c = omega (arith, c .before .before .before .loop-test .taken)
 
 loop-again : tie.Need-loop-again Inv-loop μ-loop
-loop-again c = 
+loop-again c =
     let b = c .before .before .before .before .before .before .before .before .before .args .listing .now in
     let s = c .before .before .before .before .loop in
     let few = few-wires gate-slots tt (c .before .before .kind-at .result) .1 in
     let kind : c .before .wires-out .result ≡ wiresOut (kindAt b (inputCount b + s .i)) = c .before .wires-out .ensures ∙ ap wiresOut (c .before .before .kind-at .ensures .0 ∙ ap (λ n. kindAt b (n + s .i)) (c .before .before .before .before .before .before .before .input-count .ensures .0)) in (
       omega (arith, c .before .before .before .loop-test .taken),
       omega (arith, s .inv .1, few, c .before .wires-out .ensures),
-      omega (arith, kind, s .inv .2 .0, one-more-gate b (s .i)),
+      omega (arith, kind, s .inv .2, one-more-gate b (s .i)),
       c .if2 .left,
     )
 
@@ -87,7 +91,7 @@ returns-3 c = λ h.
     let b = c .before .before .before .before .before .before .args .listing .now in
     let s = c .before .loop in
     let done : s .i ≡ gateCount b = omega (arith, s .inv .0, c .loop-test .left, c .before .before .gate-count .ensures .0) in
-    absurd (omega (arith, h, s .inv .2 .0, s .inv .2 .1, ap (λ j. length (inputsOf b ++ outputs (firstGates b j))) done))
+    absurd (omega (arith, h, s .inv .2, s .inv .3, ap (λ j. length (inputsOf b ++ outputs (firstGates b j))) done))
 
 pub maker-of-spec : {M : Type 1} → statement M
 maker-of-spec =

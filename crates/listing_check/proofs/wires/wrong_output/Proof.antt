@@ -11,6 +11,7 @@ use borrow.Author.Tests.{not-true, not-false}
 use Rattle.rules.specs.Types.{Wire}
 use Rattle.words.specs.Numbers.{wordAt, wordsAt}
 use Rattle.listing.specs.Reading.{outputCount, outputsFrom, outputsOf}
+use Rattle.listing.specs.Laws.Decoding.{length-words}
 use Rattle.wire_table.specs.Table.{Holds}
 use Rattle.wire_table.specs.Laws.Table.{next-word}
 use Rattle.listing_check.specs.Wires.{OutputsRead}
@@ -20,7 +21,7 @@ use Rattle.listing_check.proofs.wires.wrong_output.Statement.{statement
 use Rattle.listing_check.proofs.wires.wrong_output.Tie as tie
 
 abbrev Inv-loop : tie.InvT-loop
-Inv-loop listing table₀ count from j₀ table j = 
+Inv-loop listing table₀ count from j₀ table j =
     (j ≤ count)
     × (length table ≡ length table₀)
     × ((types : List Wire) (gone : List ℕ)
@@ -37,7 +38,7 @@ outputs-from-requires : tie.Need-outputs-from-requires Inv-loop μ-loop
 outputs-from-requires c κs = search needs
 
 loop-holds : tie.Need-loop-holds Inv-loop μ-loop
-loop-holds c = 
+loop-holds c =
     let b = c .before .before .before .before .args .listing .now in
     let e : outputsFrom b ≡ outputsFrom b + 2 * 0 = omega arith in
     let f : outputCount b ≡ outputCount b - 0 = omega arith in (
@@ -72,7 +73,7 @@ returns c = λ types gone h.
     let wrong = not-true (c .before .before .before .take-any .result) (c .if1 .taken) in
     let w : c .before .before .before .before .word-at .result ≡ wordAt b (outputsFrom b + 2 * s .j) = c .before .before .before .before .word-at .ensures .0 ∙ ap (λ k. wordAt b (k + 2 * s .j)) (c .before .before .before .before .before .before .before .before .outputs-from .ensures .0) in
     leaving-wrong (subst (λ l. Leaving types gone (outputsOf b) (s .table) (s .j) l) (next-word b (outputsFrom b) (outputCount b) (s .j) below) (s .inv .2 types gone h)) _ _
-    (ap (λ v. ltb 0 (getD (s .table) v 0)) (sym w) ∙ sym (c .before .before .before .take-any .ensures .0) ∙ wrong) refl
+    (ap (λ v. ltb 0 (getD (s .table) v 0)) (sym w) ∙ sym (c .before .before .before .take-any .ensures .0) ∙ wrong) refl (omega (arith, below, length-words b (outputsFrom b) (outputCount b)))
 
 add-j : tie.Need-add-j Inv-loop μ-loop
 add-j c = search (needs, c .before .before .before .before .before .before .loop-test .taken)
@@ -81,7 +82,7 @@ loop-less : tie.Need-loop-less Inv-loop μ-loop
 loop-less c = omega (arith, c .before .before .before .before .before .before .loop-test .taken)
 
 loop-again : tie.Need-loop-again Inv-loop μ-loop
-loop-again c = 
+loop-again c =
     let b = c .before .before .before .before .before .before .before .before .before .before .before .before .args .listing .now in
     let s = c .before .before .before .before .before .before .before .loop in
     let below : s .j < outputCount b = omega (arith, c .before .before .before .before .before .before .loop-test .taken, c .before .before .before .before .before .before .before .before .before .output-count .ensures .0) in
