@@ -113,11 +113,15 @@ fn break_entry_of_gate(random: &mut Random, listing: &mut Listing, way: Way) -> 
     let entry = &mut listing.gates[at];
     match way {
         Way::GateKind => {
-            entry.kind = match random.below(3) {
-                0 => random.pick(&[BIT_INPUT, QUBIT_INPUT]),
-                1 => GATES.len() as u8,
-                _ => random.byte(),
-            };
+            // An input would use no slot.
+            if random.one_in(3) {
+                *entry = Entry::gate(random.pick(&[BIT_INPUT, QUBIT_INPUT]), &[]);
+            } else {
+                entry.kind = match random.below(2) {
+                    0 => GATES.len() as u8,
+                    _ => random.byte(),
+                };
+            }
             entry.as_gate().is_none().then_some(())?;
         }
         _ => put_wire(random, entry, entry.as_gate()?.takes.len())?,

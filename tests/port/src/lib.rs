@@ -1,8 +1,10 @@
 //! The same machine in plain Rust: a term is a row of nodes in a gap buffer,
 //! walked to its next redex and changed in place. Benchmarks compare the
-//! library with it, and a comparison can have it in the library's place.
+//! library with it, and a comparison can have it in the library's place. So they
+//! can with the check of a listing.
 
 mod check;
+pub mod listing;
 mod machine;
 mod memory;
 mod steps;

@@ -1,0 +1,3 @@
+//! The check of listings that is under test.
+
+pub mod under_test;

@@ -1,0 +1,469 @@
+//! A check by a table of the wires that are there, as it should be or with one
+//! fault. The comparison must tell every fault from the check under test.
+
+use evaluator::listing::NO_WIRE;
+use listings::sizes::{MOST_GATES, MOST_INPUTS, MOST_OUTPUTS, SIZES};
+use listings::{Answer, Entry, Listing, Sizes};
+use program_files::{Gate, Refusal, Wire, GATES};
+
+#[derive(Clone, Copy, PartialEq, Eq, Debug)]
+pub enum Fault {
+    NotGone,
+    GoneAfterAllSlots,
+    TypesIgnored,
+    BitsTakenAsQubits,
+    SecondOfBxABit,
+    SecondSlotNotTested,
+    NoWireSkipped,
+    HighByteIgnored,
+    MeasuredIsQubit,
+    MadeBeforeTaken,
+    InputsFromOne,
+    LastGate,
+    GatePlaceWithoutInputs,
+    OutputNotMadeTaken,
+    OutputTwice,
+    OutputGoneToGate,
+    OutputsQubits,
+    LastOutput,
+    OutputPlaceWithoutGates,
+    OutputPlaceWithoutInputs,
+    OutputsFirst,
+    LeftOverNotTested,
+    LeftOverInputsNotTested,
+    LeftOverGatesNotTested,
+    LeftOverSecondNotTested,
+    LeftOverHighest,
+    LeftOverNext,
+    LeftOverWire,
+    InputSlotsNotTested,
+    InputFirstSlotOnly,
+    InputSecondSlotOnly,
+    GateSlotsNotTested,
+    UnusedSlotZero,
+    BitInputAmongGates,
+    QubitInputAmongGates,
+    GateAmongInputs,
+    KindNine,
+    Kind127,
+    Kind130,
+    OnePass,
+    EntryPlaceWithoutInputs,
+    LastEntry,
+    MoreInputs,
+    FewerInputs,
+    NoInputsRefused,
+    MoreGates,
+    FewerGates,
+    MoreOutputs,
+    FewerOutputs,
+    NoOutputsRefused,
+    LongerTaken,
+    ShorterTaken,
+    LengthBy16Bits,
+    MissingSizesZero,
+}
+
+pub const PLANTED: [(&str, Fault); 54] = [
+    ("a slot's wire stays there", Fault::NotGone),
+    (
+        "a gate's wires gone only after all its slots",
+        Fault::GoneAfterAllSlots,
+    ),
+    ("types not tested", Fault::TypesIgnored),
+    ("a Bit taken as a Qubit", Fault::BitsTakenAsQubits),
+    ("the second wire of BX a Bit", Fault::SecondOfBxABit),
+    ("the second slot not tested", Fault::SecondSlotNotTested),
+    ("65,535 in a used slot skipped", Fault::NoWireSkipped),
+    ("the high byte of a wire ignored", Fault::HighByteIgnored),
+    ("a measured wire a Qubit", Fault::MeasuredIsQubit),
+    (
+        "a gate's wires made before it takes",
+        Fault::MadeBeforeTaken,
+    ),
+    ("inputs numbered from 1", Fault::InputsFromOne),
+    ("the last wrong gate", Fault::LastGate),
+    ("a gate's place without L", Fault::GatePlaceWithoutInputs),
+    ("an output never made taken", Fault::OutputNotMadeTaken),
+    ("an output taken twice", Fault::OutputTwice),
+    ("an output gone to a gate taken", Fault::OutputGoneToGate),
+    ("an output must be a Qubit", Fault::OutputsQubits),
+    ("the last wrong output", Fault::LastOutput),
+    (
+        "an output's place without G",
+        Fault::OutputPlaceWithoutGates,
+    ),
+    (
+        "an output's place without L",
+        Fault::OutputPlaceWithoutInputs,
+    ),
+    ("outputs tested before gates", Fault::OutputsFirst),
+    ("wires left over not tested", Fault::LeftOverNotTested),
+    (
+        "inputs left over not tested",
+        Fault::LeftOverInputsNotTested,
+    ),
+    (
+        "gates' wires left over not tested",
+        Fault::LeftOverGatesNotTested,
+    ),
+    (
+        "gates' second wires left over not tested",
+        Fault::LeftOverSecondNotTested,
+    ),
+    ("the highest wire left over", Fault::LeftOverHighest),
+    ("place of a wire left over one on", Fault::LeftOverNext),
+    ("the wire left over as the place", Fault::LeftOverWire),
+    ("slots of inputs not tested", Fault::InputSlotsNotTested),
+    (
+        "only the first slot of inputs tested",
+        Fault::InputFirstSlotOnly,
+    ),
+    (
+        "only the second slot of inputs tested",
+        Fault::InputSecondSlotOnly,
+    ),
+    (
+        "unused slots of gates not tested",
+        Fault::GateSlotsNotTested,
+    ),
+    ("an unused slot may be 0", Fault::UnusedSlotZero),
+    ("kind 128 among gates", Fault::BitInputAmongGates),
+    ("kind 129 among gates", Fault::QubitInputAmongGates),
+    ("gates among inputs", Fault::GateAmongInputs),
+    ("kind 9 a gate", Fault::KindNine),
+    ("kind 127 an input", Fault::Kind127),
+    ("kind 130 an input", Fault::Kind130),
+    ("25 and 26 in one pass", Fault::OnePass),
+    ("place of 25 without L", Fault::EntryPlaceWithoutInputs),
+    ("the last wrong entry", Fault::LastEntry),
+    ("65 inputs taken", Fault::MoreInputs),
+    ("64 inputs refused", Fault::FewerInputs),
+    ("no inputs refused", Fault::NoInputsRefused),
+    ("2,049 gates taken", Fault::MoreGates),
+    ("2,048 gates refused", Fault::FewerGates),
+    ("257 outputs taken", Fault::MoreOutputs),
+    ("256 outputs refused by 24", Fault::FewerOutputs),
+    ("no outputs refused by 24", Fault::NoOutputsRefused),
+    ("a longer listing taken", Fault::LongerTaken),
+    ("a shorter listing taken", Fault::ShorterTaken),
+    ("a length that fits in 16 bits taken", Fault::LengthBy16Bits),
+    ("sizes that are missing are 0", Fault::MissingSizesZero),
+];
+
+/// What a check answers that has this fault, if any.
+pub fn check(bytes: &[u8], fault: Option<Fault>) -> Answer {
+    let listing = listing(bytes, fault)?;
+    let mut plain = Plain {
+        sizes: listing.sizes(),
+        listing,
+        fault,
+        there: Vec::new(),
+        makers: Vec::new(),
+        to_output: Vec::new(),
+    };
+    plain.check()?;
+    Ok(plain.sizes)
+}
+
+fn refuse<T>(number: u8, place: usize) -> Result<T, Refusal> {
+    Err(Refusal { number, place })
+}
+
+/// 24, or the parts of the listing.
+fn listing(bytes: &[u8], fault: Option<Fault>) -> Result<Listing, Refusal> {
+    let has = |which: Fault| fault == Some(which);
+    if has(Fault::MissingSizesZero) && bytes.len() < SIZES {
+        let mut bytes = bytes.to_vec();
+        bytes.resize(SIZES, 0);
+        return listing(&bytes, fault);
+    }
+    let Some(sizes) = Sizes::of_bytes(bytes) else {
+        return refuse(24, 0);
+    };
+    let off = |more: Fault, fewer: Fault| isize::from(has(more) as i8 - has(fewer) as i8);
+    let most = |most: usize, off: isize| most.checked_add_signed(off).expect("a size");
+    let in_range = sizes.inputs <= most(MOST_INPUTS, off(Fault::MoreInputs, Fault::FewerInputs))
+        && sizes.gates <= most(MOST_GATES, off(Fault::MoreGates, Fault::FewerGates))
+        && sizes.outputs <= most(MOST_OUTPUTS, off(Fault::MoreOutputs, Fault::FewerOutputs))
+        && !(has(Fault::NoInputsRefused) && sizes.inputs == 0)
+        && !(has(Fault::NoOutputsRefused) && sizes.outputs == 0);
+    let fits = match bytes.len() {
+        length if length < sizes.length() => has(Fault::ShorterTaken),
+        length if length > sizes.length() => {
+            let past = length - sizes.length();
+            has(Fault::LongerTaken) || has(Fault::LengthBy16Bits) && past % 65_536 == 0
+        }
+        _ => true,
+    };
+    if !in_range || !fits {
+        return refuse(24, 0);
+    }
+    let mut bytes = bytes.to_vec();
+    bytes.resize(sizes.length(), 0);
+    Ok(Listing::of_bytes(&sizes, &bytes))
+}
+
+struct Plain {
+    listing: Listing,
+    sizes: Sizes,
+    fault: Option<Fault>,
+    /// Each wire until it is gone.
+    there: Vec<Option<Wire>>,
+    /// The entry that made each wire, and whether as its second.
+    makers: Vec<(usize, bool)>,
+    /// Whether each wire is gone to an output.
+    to_output: Vec<bool>,
+}
+
+impl Plain {
+    fn has(&self, which: Fault) -> bool {
+        self.fault == Some(which)
+    }
+
+    fn check(&mut self) -> Result<(), Refusal> {
+        if !self.has(Fault::OnePass) {
+            self.test_entries()?;
+        }
+        if self.has(Fault::InputsFromOne) {
+            self.make(0, &[Wire::Bit]);
+            self.there[0] = None;
+        }
+        let gates = self.take_gates();
+        if self.has(Fault::OutputsFirst) {
+            self.take_outputs()?;
+        }
+        gates?;
+        if !self.has(Fault::OutputsFirst) {
+            self.take_outputs()?;
+        }
+        self.test_left_over()
+    }
+
+    /// The entry of this number.
+    fn entry(&self, at: usize) -> Entry {
+        match at.checked_sub(self.sizes.inputs) {
+            None => self.listing.inputs[at],
+            Some(gate) => self.listing.gates[gate],
+        }
+    }
+
+    /// The type of an input of this kind.
+    fn input(&self, entry: &Entry) -> Option<Wire> {
+        let taken = self.has(Fault::GateAmongInputs) && entry.as_gate().is_some()
+            || self.has(Fault::Kind127) && entry.kind == 127
+            || self.has(Fault::Kind130) && entry.kind == 130;
+        entry.as_input().or(taken.then_some(Wire::Qubit))
+    }
+
+    /// The gate of this kind.
+    fn gate(&self, entry: &Entry) -> Option<Gate> {
+        let makes_input = |makes| Gate {
+            name: "input",
+            takes: &[],
+            makes,
+        };
+        match (self.fault, entry.kind) {
+            (Some(Fault::KindNine), 9) => Some(GATES[8]),
+            (Some(Fault::BitInputAmongGates), 128) => Some(makes_input(&[Wire::Bit])),
+            (Some(Fault::QubitInputAmongGates), 129) => Some(makes_input(&[Wire::Qubit])),
+            (Some(Fault::MeasuredIsQubit), 6) => Some(GATES[0]),
+            (Some(Fault::SecondOfBxABit), 7) => Some(Gate {
+                takes: &[Wire::Bit, Wire::Bit],
+                ..GATES[7]
+            }),
+            _ => entry.as_gate().copied(),
+        }
+    }
+
+    /// 25 over all entries.
+    fn test_entries(&self) -> Result<(), Refusal> {
+        let mut wrong = Ok(());
+        for at in 0..self.sizes.entries() {
+            let tested = self.test_entry(at);
+            if tested.is_err() {
+                wrong = tested;
+                if !self.has(Fault::LastEntry) {
+                    break;
+                }
+            }
+        }
+        wrong
+    }
+
+    /// 25 of one entry.
+    fn test_entry(&self, at: usize) -> Result<(), Refusal> {
+        let entry = self.entry(at);
+        let is_input = at < self.sizes.inputs;
+        let used = match is_input {
+            true => self.input(&entry).map(|_| 0),
+            false => self.gate(&entry).map(|gate| gate.takes.len()),
+        };
+        let is_wrong = match used {
+            None => true,
+            Some(used) => (used..entry.slots.len()).any(|slot| {
+                let wire = entry.slots[slot];
+                let allowed = wire == NO_WIRE || self.has(Fault::UnusedSlotZero) && wire == 0;
+                !allowed && self.tests_slot(is_input, slot)
+            }),
+        };
+        match is_wrong {
+            true if self.has(Fault::EntryPlaceWithoutInputs) && !is_input => {
+                refuse(25, at - self.sizes.inputs)
+            }
+            true => refuse(25, at),
+            false => Ok(()),
+        }
+    }
+
+    /// Whether an unused slot is tested.
+    fn tests_slot(&self, is_input: bool, slot: usize) -> bool {
+        match self.fault {
+            Some(Fault::InputSlotsNotTested) => !is_input,
+            Some(Fault::InputFirstSlotOnly) => !is_input || slot == 0,
+            Some(Fault::InputSecondSlotOnly) => !is_input || slot == 1,
+            Some(Fault::GateSlotsNotTested) => is_input,
+            _ => true,
+        }
+    }
+
+    fn make(&mut self, entry: usize, wires: &[Wire]) {
+        for (output, &of) in wires.iter().enumerate() {
+            self.there.push(Some(of));
+            self.makers.push((entry, output == 1));
+            self.to_output.push(false);
+        }
+    }
+
+    /// The inputs are made; each gate takes and makes its wires.
+    fn take_gates(&mut self) -> Result<(), Refusal> {
+        let mut wrong = Ok(());
+        for at in 0..self.sizes.entries() {
+            if self.has(Fault::OnePass) {
+                self.test_entry(at)?;
+            }
+            let entry = self.entry(at);
+            if at < self.sizes.inputs {
+                let of = self.input(&entry).expect("a tested entry");
+                self.make(at, &[of]);
+                continue;
+            }
+            let gate = self.gate(&entry).expect("a tested entry");
+            if self.has(Fault::MadeBeforeTaken) {
+                self.make(at, gate.makes);
+            }
+            let taken = self.take_slots(at, &entry, &gate);
+            if !self.has(Fault::MadeBeforeTaken) {
+                self.make(at, gate.makes);
+            }
+            if taken.is_err() {
+                wrong = taken;
+                // Where the outputs come first, every wire is made all the same.
+                if !self.has(Fault::LastGate) && !self.has(Fault::OutputsFirst) {
+                    break;
+                }
+            }
+        }
+        wrong
+    }
+
+    fn take_slots(&mut self, at: usize, entry: &Entry, gate: &Gate) -> Result<(), Refusal> {
+        let mut gone = Vec::new();
+        for (slot, &needs) in gate.takes.iter().enumerate() {
+            let number = entry.slots[slot];
+            let skipped = self.has(Fault::NoWireSkipped) && number == NO_WIRE
+                || self.has(Fault::SecondSlotNotTested) && slot == 1;
+            if skipped {
+                continue;
+            }
+            let wire = match self.has(Fault::HighByteIgnored) {
+                true => usize::from(number % 256),
+                false => usize::from(number),
+            };
+            let there = self.there.get(wire).copied().flatten();
+            if !there.is_some_and(|of| self.may_take(of, needs)) {
+                let off = match self.has(Fault::GatePlaceWithoutInputs) {
+                    true => self.sizes.inputs,
+                    false => 0,
+                };
+                return refuse(26, at - off);
+            }
+            gone.push(wire);
+            if !self.has(Fault::NotGone) && !self.has(Fault::GoneAfterAllSlots) {
+                self.there[wire] = None;
+            }
+        }
+        if self.has(Fault::GoneAfterAllSlots) {
+            gone.into_iter().for_each(|wire| self.there[wire] = None);
+        }
+        Ok(())
+    }
+
+    fn may_take(&self, of: Wire, needs: Wire) -> bool {
+        of == needs
+            || self.has(Fault::TypesIgnored)
+            || self.has(Fault::BitsTakenAsQubits) && needs == Wire::Qubit
+    }
+
+    fn take_outputs(&mut self) -> Result<(), Refusal> {
+        let mut wrong = Ok(());
+        for at in 0..self.sizes.outputs {
+            let wire = usize::from(self.listing.outputs[at]);
+            if !self.may_be_output(wire) {
+                wrong = refuse(26, self.output_place(at));
+                if !self.has(Fault::LastOutput) {
+                    break;
+                }
+            }
+            if wire < self.there.len() {
+                self.there[wire] = None;
+                self.to_output[wire] = true;
+            }
+        }
+        wrong
+    }
+
+    fn may_be_output(&self, wire: usize) -> bool {
+        match self.there.get(wire) {
+            None => self.has(Fault::OutputNotMadeTaken),
+            Some(None) if self.to_output[wire] => self.has(Fault::OutputTwice),
+            Some(None) => self.has(Fault::OutputGoneToGate),
+            Some(Some(of)) => !self.has(Fault::OutputsQubits) || *of == Wire::Qubit,
+        }
+    }
+
+    fn output_place(&self, at: usize) -> usize {
+        let Sizes { inputs, gates, .. } = self.sizes;
+        match self.fault {
+            Some(Fault::OutputPlaceWithoutGates) => inputs + at,
+            Some(Fault::OutputPlaceWithoutInputs) => gates + at,
+            _ => inputs + gates + at,
+        }
+    }
+
+    fn test_left_over(&self) -> Result<(), Refusal> {
+        let mut left_over = (0..self.there.len()).filter(|&wire| self.is_left_over(wire));
+        let wire = match self.has(Fault::LeftOverHighest) {
+            true => left_over.next_back(),
+            false => left_over.next(),
+        };
+        match (wire, self.fault) {
+            (None, _) => Ok(()),
+            (Some(wire), Some(Fault::LeftOverWire)) => refuse(26, wire),
+            (Some(wire), Some(Fault::LeftOverNext)) => refuse(26, self.makers[wire].0 + 1),
+            (Some(wire), _) => refuse(26, self.makers[wire].0),
+        }
+    }
+
+    fn is_left_over(&self, wire: usize) -> bool {
+        let (entry, second) = self.makers[wire];
+        let tested = match self.fault {
+            Some(Fault::LeftOverNotTested) => false,
+            Some(Fault::LeftOverInputsNotTested) => entry >= self.sizes.inputs,
+            Some(Fault::LeftOverGatesNotTested) => entry < self.sizes.inputs,
+            Some(Fault::LeftOverSecondNotTested) => !second,
+            _ => true,
+        };
+        tested && self.there[wire].is_some()
+    }
+}

@@ -1,0 +1,24 @@
+//! The least stack on which the check under test takes the longest listings.
+
+use comparing::stack;
+use listing_compare::under_test::{self, LEAST_WORK};
+use listings::{answer, cases, counting};
+
+/// The check under test with working memory of the least length.
+pub fn call(listing: &[u8]) -> u64 {
+    under_test::answer(listing, &mut [0; LEAST_WORK])
+}
+
+pub fn measure() {
+    let longest = vec![
+        (
+            String::from("the longest accepted listing"),
+            cases::longest_accepted().bytes(),
+        ),
+        (
+            String::from("the longest listing"),
+            cases::longest().bytes(),
+        ),
+    ];
+    stack::measure(longest, |listing| answer::pack(&counting::check(listing)));
+}
