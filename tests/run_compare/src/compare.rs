@@ -1,6 +1,7 @@
 //! One program at a time to the run under test and to the evaluator; what has
 //! been seen is counted.
 
+use crate::listed;
 use crate::memory::{self, Fault};
 use crate::seen::{add, Run, Seen};
 use crate::sound;
@@ -57,6 +58,8 @@ pub struct Counted {
     counts: Counts,
     calls: usize,
     calls_by_number: [usize; 23],
+    /// Listings that the check of listings accepted.
+    listings: usize,
     seen: Seen,
 }
 
@@ -74,6 +77,7 @@ impl Counted {
         self.counts.add(other.counts);
         self.calls += other.calls;
         add(&mut self.calls_by_number, &other.calls_by_number);
+        self.listings += other.listings;
         self.seen.add(&other.seen);
     }
 }
@@ -148,10 +152,13 @@ impl Comparison {
         let steps = run.steps();
         assert!(steps < MOST_STEPS, "a run without end");
         self.counted.seen.count(&run, &answer);
-        if let Answer::Finished { listing, .. } = &answer {
-            if let Err(words) = sound::check(listing, prepared) {
+        if let Answer::Finished { listing, gates, .. } = &answer {
+            let checked = sound::check(listing, prepared)
+                .and_then(|()| listed::check(listing, prepared, *gates));
+            if let Err(words) = checked {
                 self.differs(file, MOST_STEPS, &words);
             }
+            self.counted.listings += 1;
         }
         (answer, steps)
     }
@@ -216,6 +223,7 @@ impl Comparison {
             counts,
             calls,
             calls_by_number,
+            listings,
             seen,
         } = &self.counted;
         let numbers = LEAST_REFUSED.iter().map(|&(number, _)| number);
@@ -226,11 +234,13 @@ impl Comparison {
             let calls = calls_by_number[number];
             println!("{calls:>9} of them refused with {number}");
         }
+        println!("{listings:>9} listings of finished runs accepted by their check");
         seen.report();
         self.planted.report("program");
         self.memory.report("call");
         assert!(counts.distinct() >= LEAST_DISTINCT, "too few programs");
         assert!(counts.with(0) >= LEAST_FINISHED, "too few finished");
+        assert!(*listings >= LEAST_FINISHED, "too few listings");
         counts.assert_refused(&LEAST_REFUSED);
         assert!(calls_by_number[19] >= 1_000, "too few short buffers");
         seen.assert();

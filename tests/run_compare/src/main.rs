@@ -5,6 +5,7 @@ mod compare;
 mod families;
 mod lending;
 mod limits;
+mod listed;
 mod memory;
 mod pairs;
 mod seen;
