@@ -1,7 +1,8 @@
 /*
  * An example host: checks and runs the program file that the command line names.
  * Standard output has the lines of its listing, or `refused NUMBER PLACE`; standard error has its type, in preorder.
- * Exit status: 0 finished, 1 refused, 2 the file cannot be read or the output not written.
+ * With a second name the listing is checked as one from elsewhere would be, and its bytes are written to that file.
+ * Exit status: 0 finished, 1 refused, 2 the file cannot be read or the output or the listing not written.
  */
 #include "gawipsol.h"
 
@@ -14,6 +15,7 @@ static uint8_t file[GAWIPSOL_LONGEST_FILE + 1]; /* one byte more shows that a fi
 static struct gawipsol_machine machine;
 static uint8_t type[GAWIPSOL_CHECK_OUT];
 static uint8_t listing[GAWIPSOL_RUN_OUT];
+static uint8_t work[GAWIPSOL_LISTING_WORK];
 
 static const char *const type_names[] = {"Bit", "Qubit", "pair", "function", "reusable", "circuit"};
 
@@ -70,8 +72,8 @@ static void print_listing(uint32_t steps)
     printf("\nsteps %lu\n", (unsigned long)steps);
 }
 
-/* Checks the file and prints its type, then runs it and prints its listing; whether it finished. */
-static int check_and_run(size_t length)
+/* Checks the file and prints its type, then runs it and prints its listing; the listing's length, 0 if it is refused. */
+static size_t check_and_run(size_t length)
 {
     uint64_t answer = gawipsol_check_in(&machine, file, length, type, sizeof type);
 
@@ -84,17 +86,41 @@ static int check_and_run(size_t length)
         return 0;
     }
     print_listing(gawipsol_run_steps(answer));
+    return gawipsol_run_length(answer);
+}
+
+/* Checks the listing and writes its bytes to a file; whether they are written. */
+static int write_listing(size_t length, const char *name)
+{
+    const uint64_t answer = gawipsol_check_listing(listing, length, work, sizeof work);
+    FILE *to;
+    size_t written;
+
+    if (gawipsol_number(answer) != GAWIPSOL_ACCEPTED) {
+        fprintf(stderr, "the listing is refused: %u %u\n", gawipsol_number(answer), gawipsol_place(answer));
+        return 0;
+    }
+    to = fopen(name, "wb");
+    if (to == NULL) {
+        perror(name);
+        return 0;
+    }
+    written = fwrite(listing, 1, length, to);
+    if (fclose(to) != 0 || written != length) {
+        fprintf(stderr, "%s: cannot be written\n", name);
+        return 0;
+    }
     return 1;
 }
 
 int main(int count, char **words)
 {
     FILE *from;
-    size_t length;
-    int unread, finished;
+    size_t length, listing_length;
+    int unread;
 
-    if (count != 2) {
-        fprintf(stderr, "usage: host FILE\n");
+    if (count != 2 && count != 3) {
+        fprintf(stderr, "usage: host FILE [LISTING]; the listing of a program that finishes is written to LISTING\n");
         return 2;
     }
     from = fopen(words[1], "rb");
@@ -109,8 +135,10 @@ int main(int count, char **words)
         fprintf(stderr, "%s: cannot be read\n", words[1]);
         return 2;
     }
-    finished = check_and_run(length);
+    listing_length = check_and_run(length);
     if (fflush(stdout) != 0)
         return 2;
-    return finished ? 0 : 1;
+    if (listing_length == 0)
+        return 1;
+    return count == 3 && !write_listing(listing_length, words[2]) ? 2 : 0;
 }

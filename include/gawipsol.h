@@ -1,13 +1,15 @@
 /*
- * The reading, the check and the run of program files, for hosts in C (C99) and C++ on x86-64.
- * All are in target/staticlib/libcabinet.a; docs/FORMATS.md has the layout of files and buffers.
+ * The reading, the check and the run of program files, and the check of listings, for hosts in C (C99) and C++ on x86-64.
+ * All are in target/staticlib/libcabinet.a; docs/FORMATS.md has the layout of files, listings and buffers.
  *
- * What the host owes: each pointer with its length is one buffer, readable and, all but the file, writable; no pointer is
- * null, even with length 0; no two buffers overlap; nothing else writes them meanwhile; 1 MiB of stack is free (measured;
- * docs/FORMATS.md, "Stack").
+ * What the host owes: each pointer with its length is one buffer, readable and, all but the file or the listing, writable; no
+ * pointer is null, even with length 0; no two buffers overlap; nothing else writes them meanwhile; 1 MiB of stack is free
+ * (measured; docs/FORMATS.md, "Stack").
  * Nothing is kept between calls, so calls with buffers of their own may run at the same time.
  *
- * What is promised, for every file and every length of buffer:
+ * An operation on programs takes a file, one on listings takes a listing: one that a run has written, or any other bytes.
+ *
+ * What is promised, for every file, every listing and every length of buffer:
  * - Refusal 19 comes before all else: a buffer is shorter than its least length, and no buffer is touched.
  * - After any other answer every working memory is zero, in its whole length.
  * - Accepted or finished: the answer is at the start of `out`, and the bytes of `out` past it keep their values.
@@ -30,12 +32,15 @@ extern "C" {
 #define GAWIPSOL_CHECK_OUT 512
 #define GAWIPSOL_CHECK_WORK 54880
 
-/* The least length of the output buffer of a run, in bytes. */
+/* The least length of the output buffer of a run, in bytes, which is the length of the longest listing. */
 #define GAWIPSOL_RUN_OUT 11078
+
+/* The least length of the working memory of a check of a listing, in bytes. */
+#define GAWIPSOL_LISTING_WORK 4160
 
 /*
  * The number of an answer: 0, or that of the refusal. A place is an entry number where one is named here, else 0; where several
- * entries are such, it is the first of them in the file.
+ * entries are such, it is the first of them in the file or in the listing.
  */
 enum gawipsol_number {
     GAWIPSOL_ACCEPTED = 0, /* of a run: finished */
@@ -62,7 +67,16 @@ enum gawipsol_number {
     /* The run. */
     GAWIPSOL_RESULT_NO_WIRES = 20, /* the program's type is no wire type */
     GAWIPSOL_LIMIT_REACHED = 21,   /* the limit's steps are done, and it is unfinished */
-    GAWIPSOL_SIZE_EXCEEDED = 22    /* earlier than that, the next step exceeds a size */
+    GAWIPSOL_SIZE_EXCEEDED = 22,   /* earlier than that, the next step exceeds a size */
+
+    /* Listings, whose entries are the inputs and then the gates. */
+    GAWIPSOL_LISTING_SIZES = 24, /* a size out of range, or a length that is not the one that the sizes give */
+    GAWIPSOL_LISTING_ENTRY = 25, /* a kind not allowed there, or a wire in a slot that is not used; place: the entry */
+    /*
+     * A wire not made before it is taken, of another type, gone already, or left over. Place: the gate that takes it, else the
+     * number of entries and the number of the output, else the entry that made the lowest wire left over.
+     */
+    GAWIPSOL_LISTING_WIRES = 26
 };
 
 /*
@@ -162,6 +176,31 @@ static inline uint32_t gawipsol_run_steps(uint64_t answer)
 #define GAWIPSOL_BIT_INPUT 128
 #define GAWIPSOL_QUBIT_INPUT 129
 #define GAWIPSOL_NO_WIRE 65535
+
+/*
+ * The check of a listing of any length: each wire is made before it is taken, has the type that its taker needs, and goes
+ * exactly once to a gate or an output. `work` is working memory. Every listing that a run writes is accepted.
+ */
+uint64_t gawipsol_check_listing(const uint8_t *listing, size_t listing_length,
+                                uint8_t *work, size_t work_length);
+
+/* Accepted: the number of inputs. */
+static inline unsigned gawipsol_listing_inputs(uint64_t answer)
+{
+    return (unsigned)(answer >> 6 & 0x7F);
+}
+
+/* Accepted: the number of gates. */
+static inline unsigned gawipsol_listing_gates(uint64_t answer)
+{
+    return (unsigned)(answer >> 13 & 0xFFF);
+}
+
+/* Accepted: the number of outputs. */
+static inline unsigned gawipsol_listing_outputs(uint64_t answer)
+{
+    return (unsigned)(answer >> 25 & 0x1FF);
+}
 
 /*
  * The working memory of a run as one object, with each buffer in its least length, in the order in which they are lent. Its

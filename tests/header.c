@@ -1,7 +1,8 @@
 /*
- * The header against the library: every exported function and every accessor, on the cases of 01 and 02 and on files with large
- * numbers, whose answers are known. It is C99 and C++. Each difference is a sentence on standard error; the exit status is 1 if
- * there is one. The program cases_header of tests/comparing prints cases.h, the cases from the table of the comparisons.
+ * The header against the library: every exported function and every accessor, on the cases of 01 and 02, on files with large
+ * numbers and on listings, whose answers are known. It is C99 and C++. Each difference is a sentence on standard error; the exit
+ * status is 1 if there is one. The program cases_header of tests/comparing prints cases.h, the cases from the table of the
+ * comparisons, and listing_cases_header of tests/listings prints listing_cases.h, the table of listings.
  */
 #include "gawipsol.h"
 
@@ -15,11 +16,12 @@ static struct gawipsol_machine machine;
 static uint8_t work[GAWIPSOL_CHECK_WORK];
 static uint8_t type[GAWIPSOL_CHECK_OUT];
 static uint8_t out[GAWIPSOL_RUN_OUT];
+static uint8_t listing_work[GAWIPSOL_LISTING_WORK];
 
 static uint8_t file[GAWIPSOL_LONGEST_FILE];
 static size_t file_length;
 
-static const char *name; /* of the file */
+static const char *name; /* of the file or the listing */
 static int differences;
 
 /* What is answered, by name, and what should be. */
@@ -88,6 +90,27 @@ static void refusal(const char *operation, uint64_t answer, unsigned number, uns
         same(operation, "place", gawipsol_place(answer), place);
 }
 
+/* The check of a listing of these sizes, with working memory of the least length and with one byte less. */
+static void check_listing(const uint8_t *listing, size_t length, unsigned number, unsigned place,
+                          unsigned inputs, unsigned gates, unsigned outputs)
+{
+    uint64_t answer;
+
+    memset(listing_work, MARK, sizeof listing_work);
+    answer = gawipsol_check_listing(listing, length, listing_work, sizeof listing_work - 1);
+    refusal("check of a listing in short memory", answer, GAWIPSOL_BUFFER_TOO_SHORT, 0);
+    holds("check of a listing in short memory", "no buffer is touched", all(listing_work, sizeof listing_work, MARK));
+
+    answer = gawipsol_check_listing(listing, length, listing_work, sizeof listing_work);
+    refusal("check of a listing", answer, number, place);
+    if (number == GAWIPSOL_ACCEPTED) {
+        same("check of a listing", "number of inputs", gawipsol_listing_inputs(answer), inputs);
+        same("check of a listing", "number of gates", gawipsol_listing_gates(answer), gates);
+        same("check of a listing", "number of outputs", gawipsol_listing_outputs(answer), outputs);
+    }
+    holds("check of a listing", "the working memory is zero", all(listing_work, sizeof listing_work, 0));
+}
+
 static void check_answers(const struct answers *known)
 {
     size_t written;
@@ -129,6 +152,8 @@ static void check_answers(const struct answers *known)
     }
     holds("run", "the output buffer past the listing is unchanged", all(out + written, sizeof out - written, MARK));
     holds("run", "the machine is zero", all(&machine, sizeof machine, 0));
+    if (known->run_number == GAWIPSOL_ACCEPTED)
+        check_listing(out, written, GAWIPSOL_ACCEPTED, 0, known->labels, known->gates, out[4] | (unsigned)out[5] << 8);
 }
 
 /* A case with a limit: its file, what each operation answers, and the bytes of its type and its listing, if it has them. */
@@ -161,6 +186,28 @@ static void check_cases(void)
         check_answers(&of->known);
         holds("check", "the type is that of the case", memcmp(type, of->type, of->known.type_length) == 0);
         holds("run", "the listing is that of the case", memcmp(out, of->listing, of->known.length) == 0);
+    }
+}
+
+/* A listing, and what its check answers: the number and the place, or the sizes. */
+struct listing_case {
+    const char *name;
+    const uint8_t *listing;
+    size_t length;
+    unsigned number, place, inputs, gates, outputs;
+};
+
+#include "listing_cases.h"
+
+static void check_listings(void)
+{
+    size_t at;
+
+    for (at = 0; at < sizeof listing_cases / sizeof listing_cases[0]; at++) {
+        const struct listing_case *of = &listing_cases[at];
+
+        name = of->name;
+        check_listing(of->listing, of->length, of->number, of->place, of->inputs, of->gates, of->outputs);
     }
 }
 
@@ -300,6 +347,9 @@ static void check_fields(void)
     same("run", "number of gates", gawipsol_run_gates(ones), 4095);
     same("run", "length of the listing", (unsigned long)gawipsol_run_length(ones), 16383);
     same("run", "number of steps", gawipsol_run_steps(ones), 4294967295u);
+    same("check of a listing", "number of inputs", gawipsol_listing_inputs(ones), 127);
+    same("check of a listing", "number of gates", gawipsol_listing_gates(ones), 4095);
+    same("check of a listing", "number of outputs", gawipsol_listing_outputs(ones), 511);
 }
 
 int main(void)
@@ -308,6 +358,7 @@ int main(void)
     check_cases();
     check_large();
     check_lengths();
+    check_listings();
     if (differences != 0)
         fprintf(stderr, "%d differences between header and library.\n", differences);
     return differences != 0;
