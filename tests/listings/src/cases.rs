@@ -21,9 +21,15 @@ const MEASURE: u8 = 6;
 const BX: u8 = 7;
 const BZ: u8 = 8;
 
+/// The listing of case c2, as 01 has it.
+const C2: [u8; 18] = [
+    1, 0, 1, 0, 1, 0, 0x81, 0, 255, 255, 255, 255, 0, 0, 255, 255, 1, 0,
+];
+
 /// The table.
 pub fn all() -> Vec<Case> {
     let mut all = accepted();
+    assert_eq!(all[0].bytes, C2, "the listing of c2");
     all.extend(wrong_sizes());
     all.extend(wrong_kinds());
     all.extend(wrong_slots());
