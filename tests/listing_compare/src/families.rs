@@ -5,7 +5,7 @@ use crate::compare::Comparison;
 use comparing::Known;
 use evaluator::listing::{BIT_INPUT, NO_WIRE};
 use listings::broken::{broken, often_broken, Way, WAYS};
-use listings::generate::{all_gates, foreign, valid, Shape, FOREIGN};
+use listings::generate::{foreign, two_wires, valid, Shape, FOREIGN};
 use listings::{Entry, Listing, Sizes};
 use program_files::{Random, GATES};
 
@@ -77,12 +77,6 @@ fn broken_ones(comparison: &mut Comparison, random: &mut Random) {
             comparison.listing(&listing.bytes(), &Known::Nothing);
         }
     }
-}
-
-/// The numbers of the gates that make two wires.
-fn two_wires() -> Vec<u8> {
-    let makes_two = |&number: &u8| GATES[usize::from(number)].makes.len() == 2;
-    all_gates().into_iter().filter(makes_two).collect()
 }
 
 /// A listing that is accepted, with an input and mostly with gates.

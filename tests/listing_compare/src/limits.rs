@@ -4,7 +4,7 @@ use crate::compare::Comparison;
 use comparing::Known;
 use listings::broken::{broken, WAYS};
 use listings::generate::{valid, Shape};
-use listings::sizes::{LONGEST, MOST_GATES, MOST_INPUTS, MOST_OUTPUTS};
+use listings::sizes::{LONGEST, MOST_GATES, MOST_INPUTS, MOST_OUTPUTS, MOST_WIRES};
 use listings::{Entry, Listing, Sizes};
 use program_files::{Random, Wire};
 
@@ -36,6 +36,7 @@ pub fn compare(comparison: &mut Comparison) {
         }
     }
     at_the_last_places(comparison);
+    with_most_wires(comparison, &mut random);
 }
 
 /// A listing of these sizes: each gate takes its predecessor's wire, and the
@@ -108,6 +109,26 @@ fn longest(comparison: &mut Comparison, random: &mut Random) {
         let bytes = listing.bytes();
         assert_eq!(bytes.len(), LONGEST, "the longest listing");
         comparison.listing(&bytes, &Known::Refused(26, place));
+    }
+}
+
+/// As many wires as there can be, and then each output missing, or one past the
+/// last wire.
+fn with_most_wires(comparison: &mut Comparison, random: &mut Random) {
+    comparison.group("of the most wires");
+    for _ in 0..20 {
+        let shape = Shape::most_wires(random);
+        let listing = valid(random, &shape);
+        comparison.accepted(&listing);
+        let output = |at: usize| listing.sizes().entries() + at;
+        for at in 0..listing.outputs.len() {
+            let mut missing = listing.clone();
+            missing.outputs.remove(at);
+            comparison.listing(&missing.bytes(), &Known::Number(26));
+            let mut past = listing.clone();
+            past.outputs[at] = MOST_WIRES as u16;
+            comparison.listing(&past.bytes(), &Known::Refused(26, output(at)));
+        }
     }
 }
 

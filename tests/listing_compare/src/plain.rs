@@ -2,7 +2,7 @@
 //! fault. The comparison must tell every fault from the check under test.
 
 use evaluator::listing::NO_WIRE;
-use listings::sizes::{MOST_GATES, MOST_INPUTS, MOST_OUTPUTS, SIZES};
+use listings::sizes::{MOST_GATES, MOST_INPUTS, MOST_OUTPUTS, MOST_WIRES, SIZES};
 use listings::{Answer, Entry, Listing, Sizes};
 use program_files::{Gate, Refusal, Wire, GATES};
 
@@ -18,6 +18,7 @@ pub enum Fault {
     HighByteIgnored,
     MeasuredIsQubit,
     MadeBeforeTaken,
+    LastWireNotKnown,
     InputsFromOne,
     LastGate,
     GatePlaceWithoutInputs,
@@ -33,6 +34,7 @@ pub enum Fault {
     LeftOverInputsNotTested,
     LeftOverGatesNotTested,
     LeftOverSecondNotTested,
+    LeftOverLastNotTested,
     LeftOverHighest,
     LeftOverNext,
     LeftOverWire,
@@ -64,7 +66,7 @@ pub enum Fault {
     MissingSizesZero,
 }
 
-pub const PLANTED: [(&str, Fault); 54] = [
+pub const PLANTED: [(&str, Fault); 56] = [
     ("a slot's wire stays there", Fault::NotGone),
     (
         "a gate's wires gone only after all its slots",
@@ -81,6 +83,7 @@ pub const PLANTED: [(&str, Fault); 54] = [
         "a gate's wires made before it takes",
         Fault::MadeBeforeTaken,
     ),
+    ("the last of 4,160 wires not known", Fault::LastWireNotKnown),
     ("inputs numbered from 1", Fault::InputsFromOne),
     ("the last wrong gate", Fault::LastGate),
     ("a gate's place without L", Fault::GatePlaceWithoutInputs),
@@ -110,6 +113,10 @@ pub const PLANTED: [(&str, Fault); 54] = [
     (
         "gates' second wires left over not tested",
         Fault::LeftOverSecondNotTested,
+    ),
+    (
+        "the last of 4,160 wires left over not tested",
+        Fault::LeftOverLastNotTested,
     ),
     ("the highest wire left over", Fault::LeftOverHighest),
     ("place of a wire left over one on", Fault::LeftOverNext),
@@ -327,9 +334,15 @@ impl Plain {
         }
     }
 
+    /// Whether there is room for one wire more.
+    fn is_last(&self) -> bool {
+        self.there.len() == MOST_WIRES - 1
+    }
+
     fn make(&mut self, entry: usize, wires: &[Wire]) {
         for (output, &of) in wires.iter().enumerate() {
-            self.there.push(Some(of));
+            let not_known = self.has(Fault::LastWireNotKnown) && self.is_last();
+            self.there.push((!not_known).then_some(of));
             self.makers.push((entry, output == 1));
             self.to_output.push(false);
         }
@@ -462,6 +475,7 @@ impl Plain {
             Some(Fault::LeftOverInputsNotTested) => entry >= self.sizes.inputs,
             Some(Fault::LeftOverGatesNotTested) => entry < self.sizes.inputs,
             Some(Fault::LeftOverSecondNotTested) => !second,
+            Some(Fault::LeftOverLastNotTested) => wire < MOST_WIRES - 1,
             _ => true,
         };
         tested && self.there[wire].is_some()

@@ -10,15 +10,13 @@ pub fn call(listing: &[u8]) -> u64 {
 }
 
 pub fn measure() {
-    let longest = vec![
-        (
-            String::from("the longest accepted listing"),
-            cases::longest_accepted().bytes(),
-        ),
-        (
-            String::from("the longest listing"),
-            cases::longest().bytes(),
-        ),
+    let listings = [
+        ("the longest accepted listing", cases::longest_accepted()),
+        ("the listing of the most wires", cases::most_wires()),
+        ("the longest listing", cases::longest()),
     ];
-    stack::measure(longest, |listing| answer::pack(&counting::check(listing)));
+    let files = listings.map(|(name, listing)| (name.to_string(), listing.bytes()));
+    stack::measure(files.to_vec(), |listing| {
+        answer::pack(&counting::check(listing))
+    });
 }

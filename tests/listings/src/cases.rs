@@ -2,7 +2,7 @@
 
 use crate::answer::Answer;
 use crate::entries::{Entry, Listing};
-use crate::sizes::{MOST_GATES, MOST_INPUTS, MOST_OUTPUTS};
+use crate::sizes::{MOST_GATES, MOST_INPUTS, MOST_OUTPUTS, MOST_WIRES};
 use evaluator::listing::{BIT_INPUT, NO_WIRE, QUBIT_INPUT};
 use program_files::Refusal;
 use program_files::Wire::{self, Bit, Qubit};
@@ -96,6 +96,18 @@ pub fn longest_accepted() -> Listing {
     chain(MOST_INPUTS, MOST_GATES)
 }
 
+/// As many wires as there can be: each gate takes the two oldest and makes two.
+pub fn most_wires() -> Listing {
+    let mut most = listing(&[Qubit; MOST_INPUTS], &[], &[]);
+    for gate in 0..MOST_GATES as u16 {
+        let (first, second) = (2 * gate, 2 * gate + 1);
+        most.gates.push(Entry::gate(CNOT, &[first, second]));
+    }
+    let wires = MOST_WIRES as u16;
+    most.outputs = (wires - MOST_INPUTS as u16..wires).collect();
+    most
+}
+
 /// The longest listing, whose outputs past the inputs are never made.
 pub fn longest() -> Listing {
     let mut longest = longest_accepted();
@@ -123,6 +135,7 @@ fn accepted() -> Vec<Case> {
         ),
         right("2,048 gates on one wire", &chain(1, MOST_GATES)),
         right("2,048 gates and 64 inputs", &longest_accepted()),
+        right("4,160 wires", &most_wires()),
     ]
 }
 
@@ -277,7 +290,9 @@ fn wrong_gates() -> Vec<Case> {
 
 /// 26 at an output.
 fn wrong_outputs() -> Vec<Case> {
-    let all: [(&str, Listing, usize); 7] = [
+    let mut past_last = most_wires();
+    past_last.outputs[MOST_INPUTS - 1] += 1;
+    let all: [(&str, Listing, usize); 8] = [
         (
             "an output twice",
             listing(&[Qubit], &[(H, &[0])], &[1, 1]),
@@ -305,6 +320,11 @@ fn wrong_outputs() -> Vec<Case> {
             4,
         ),
         (
+            "an output past 4,160 wires",
+            past_last,
+            MOST_INPUTS + MOST_GATES + MOST_INPUTS - 1,
+        ),
+        (
             "the longest listing",
             longest(),
             MOST_INPUTS + MOST_GATES + MOST_INPUTS,
@@ -320,7 +340,9 @@ fn left_over() -> Vec<Case> {
     let last = MOST_INPUTS + MOST_GATES - 1;
     let mut without_last = longest_accepted();
     without_last.outputs.remove(0);
-    let all: [(&str, Listing, usize); 9] = [
+    let mut without_last_of_two = most_wires();
+    without_last_of_two.outputs.pop();
+    let all: [(&str, Listing, usize); 10] = [
         ("an input left over", listing(&[Qubit], &[], &[]), 0),
         ("a Bit left over", listing(&[Qubit, Bit], &[], &[0]), 1),
         (
@@ -354,6 +376,11 @@ fn left_over() -> Vec<Case> {
             1,
         ),
         ("the wire of the last gate left over", without_last, last),
+        (
+            "the last of 4,160 wires left over",
+            without_last_of_two,
+            last,
+        ),
     ];
     let case = |(name, of, place)| wrong(name, &of, 26, place);
     all.into_iter().map(case).collect()

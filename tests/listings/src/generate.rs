@@ -44,6 +44,12 @@ pub fn all_gates() -> Vec<u8> {
     (0..GATES.len() as u8).collect()
 }
 
+/// The numbers of the gates that make two wires.
+pub fn two_wires() -> Vec<u8> {
+    let makes_two = |&number: &u8| GATES[usize::from(number)].makes.len() == 2;
+    all_gates().into_iter().filter(makes_two).collect()
+}
+
 impl Shape {
     /// Of any gates on Qubits, of which one is never measured.
     pub fn new(inputs: usize, gates: usize) -> Shape {
@@ -72,6 +78,13 @@ impl Shape {
         shape.kept = random.below(3);
         shape.taken = random.pick(&ORDERS);
         shape.outputs = random.pick(&ORDERS);
+        shape
+    }
+
+    /// With the most inputs, gates and wires.
+    pub fn most_wires(random: &mut Random) -> Shape {
+        let mut shape = Shape::most(random);
+        shape.numbers = two_wires();
         shape
     }
 
