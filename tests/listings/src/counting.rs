@@ -71,8 +71,8 @@ pub fn find(bytes: &[u8]) -> Result<Sizes, Fault> {
     }
     let (made, names) = (made(&listing), names(&listing));
     let first = first_names(&names, made.len());
-    let why = |at: usize| Some((names[at].place, why(at, &names, &made, &first, &sizes)?));
-    if let Some((place, why)) = (0..names.len()).find_map(why) {
+    let wrong = |at: usize| Some((names[at].place, why(at, &names, &made, &first, &sizes)?));
+    if let Some((place, why)) = (0..names.len()).find_map(wrong) {
         return Err(Fault::Named(place, why));
     }
     // The lowest wire that no name counts for.
