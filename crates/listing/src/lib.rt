@@ -28,9 +28,6 @@ pub const ENTRY_SLOTS: usize = 2;
 // How many bytes an entry takes: its kind and its slots.
 pub const ENTRY_BYTES: usize = 1 + 2 * ENTRY_SLOTS;
 
-// What stands in a slot that no wire is in.
-pub const NO_WIRE: usize = 65535;
-
 // A listing has at most so many outputs.
 pub const MOST_OUTPUTS: usize = 256;
 

@@ -3,7 +3,6 @@ use listing::BIT_INPUT;
 use listing::ENTRY_BYTES;
 use listing::ENTRY_SLOTS;
 use listing::MOST_OUTPUTS;
-use listing::NO_WIRE;
 use listing::QUBIT_INPUT;
 use listing::SIZES;
 use listing::gate_count;
@@ -13,10 +12,14 @@ use listing::output_count;
 use listing::slots_from;
 use rules::sizes::MOST_GATES;
 use rules::sizes::MOST_LABELS;
+use rules::slots::NO_WIRE;
 use words::word_at;
 ghost use Prim.Native.Nat.{_-_, _≤_, _<_};
 ghost use mathlib.Core.Path.{_≡_};
-ghost use Rattle.listing.specs.Listing.{entry-slots};
+ghost use mathlib.Core.Bool.{_||_};
+ghost use lib.Dec.{eqb};
+ghost use Rattle.rules.specs.Types.{Bit, Qubit};
+ghost use Rattle.listing.specs.Listing.{inputKind, entry-slots};
 ghost use Rattle.listing.specs.Reading.{inputCount, entryCount, slotsFrom};
 ghost use Rattle.wire_table.specs.Wires.{firstWhere};
 ghost use Rattle.wire_table.specs.Table.{oneMore};
@@ -51,6 +54,13 @@ fn any_wire(listing: &[u8], from: usize, k: usize) -> bool
     false
 }
 
+// Is this the kind of an input?
+fn is_input(kind: usize) -> bool
+    ensures { λ r. ⌜ r ≡ eqb kind (inputKind Bit) || eqb kind (inputKind Qubit) ⌝ }
+{
+    (kind == BIT_INPUT) | (kind == QUBIT_INPUT)
+}
+
 // Is the kind of entry i not allowed, or is there a wire in a slot that it does not use? Its slots stand from a place on.
 fn entry_wrong(listing: &[u8], inputs: usize, i: usize, from: usize) -> bool
     requires { ⌜ (inputs ≡ inputCount (now listing)) × (from ≡ slotsFrom (now listing) i) × (from < 134217728) ⌝ }
@@ -58,10 +68,7 @@ fn entry_wrong(listing: &[u8], inputs: usize, i: usize, from: usize) -> bool
 {
     let kind = kind_at(listing, i);
     if i < inputs {
-        if kind == BIT_INPUT {
-            return any_wire(listing, from, 0);
-        }
-        if kind == QUBIT_INPUT {
+        if is_input(kind) {
             return any_wire(listing, from, 0);
         }
         return true;

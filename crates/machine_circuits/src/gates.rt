@@ -1,5 +1,6 @@
 // The gates of circuits, a quadword each: its number, and the wires that it takes in three slots.
 use rules::sizes::MOST_GATES;
+use rules::slots::NO_WIRE;
 use words::quadwords::put_quadword;
 use words::quadwords::word_in;
 use words::runs_past;
@@ -17,9 +18,6 @@ ghost use Rattle.machine_circuits.specs.Copies.{lowWords, CopyFits, Gate
 
 // Quadwords 0 to 2,047 have the gates of the open circuits, quadwords 2,048 to 4,095 those of the closed ones.
 pub const CLOSED_FROM: usize = MOST_GATES;
-
-// What stands in a slot that is not used.
-pub const NO_WIRE: usize = 65535;
 
 // The wire in a slot of the gate in a quadword; NO_WIRE where it has no such slot.
 pub fn gate_wire(gates: &[u8], i: usize, slot: usize) -> usize

@@ -1,5 +1,4 @@
 // Label tuples: as nodes of a term, as the results of closed circuits, and as the tuple of a type's wires.
-use crate::gates::NO_WIRE;
 use crate::gates::renamed;
 use machine_nodes::argument_at;
 use machine_nodes::kind_at;
@@ -8,6 +7,7 @@ use rules::kinds::LABEL;
 use rules::kinds::PAIR;
 use rules::kinds::PAIR_TYPE;
 use rules::sizes::MOST_TYPES;
+use rules::slots::NO_WIRE;
 use words::runs_past;
 use words::saturating_sub;
 ghost use Prim.Native.Nat.{ℕ, _+_, _-_, _^_, _≤_, _<_};

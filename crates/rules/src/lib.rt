@@ -5,7 +5,9 @@
 // Called by the reader, the check and apply of a gate; every contract above speaks of these rules.
 pub mod kinds;
 pub mod sizes;
+pub mod slots;
 
+use slots::GATE_SLOTS;
 ghost use mathlib.Core.Path.{_≡_};
 ghost use Rattle.rules.specs.GateCodes.{wiresIn, wiresOut, wireIn, wireOut, typeEntries, typeCode};
 ghost use Rattle.rules.specs.Gates.{isGate};
@@ -14,9 +16,6 @@ ghost use Rattle.rules.specs.Gates.{isGate};
 pub const GATES: usize = 9;
 
 const MOST_TYPE: usize = 7;
-
-// The most wires that a gate may take or make.
-const SLOTS: usize = 3;
 
 // The code where there is no entry or no gate.
 const NONE: u8 = 255;
@@ -30,7 +29,7 @@ const WIRES_OUT: [u8; GATES] = [1, 1, 1, 1, 1, 2, 1, 2, 2];
 const TYPE_ENTRIES: [u8; GATES] = [3, 3, 3, 3, 3, 7, 3, 7, 7];
 
 // The types of the wires that each gate takes and makes, left to right: 0 Bit, 1 Qubit.
-const TYPES_IN: [[u8; SLOTS]; GATES] = [
+const TYPES_IN: [[u8; GATE_SLOTS]; GATES] = [
     [1, NONE, NONE],
     [1, NONE, NONE],
     [1, NONE, NONE],
@@ -42,7 +41,7 @@ const TYPES_IN: [[u8; SLOTS]; GATES] = [
     [0, 1, NONE],
 ];
 
-const TYPES_OUT: [[u8; SLOTS]; GATES] = [
+const TYPES_OUT: [[u8; GATE_SLOTS]; GATES] = [
     [1, NONE, NONE],
     [1, NONE, NONE],
     [1, NONE, NONE],
@@ -101,7 +100,7 @@ pub fn wires_out(n: usize) -> usize
 pub fn wire_in(n: usize, k: usize) -> u8
     ensures { λ r. ⌜ r ≡ wireIn n k ⌝ }
 {
-    if n < GATES && k < SLOTS {
+    if n < GATES && k < GATE_SLOTS {
         TYPES_IN[n][k]
     } else {
         NONE
@@ -112,7 +111,7 @@ pub fn wire_in(n: usize, k: usize) -> u8
 pub fn wire_out(n: usize, k: usize) -> u8
     ensures { λ r. ⌜ r ≡ wireOut n k ⌝ }
 {
-    if n < GATES && k < SLOTS {
+    if n < GATES && k < GATE_SLOTS {
         TYPES_OUT[n][k]
     } else {
         NONE

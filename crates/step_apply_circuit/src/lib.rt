@@ -6,7 +6,6 @@
 use machine_circuits::closed::closed_circuit;
 use machine_circuits::closed::result_buffer;
 use machine_circuits::closed::result_start;
-use machine_circuits::gates::NO_WIRE;
 use machine_circuits::gates::copy_gates;
 use machine_circuits::gates::wires_made;
 use machine_circuits::tuples::collect_labels;
@@ -19,6 +18,7 @@ use machine_walk::Place;
 use machine_walk::stack::stack_node;
 use machine_walk::stack::stack_start;
 use rules::sizes::MOST_NODES;
+use rules::slots::NO_WIRE;
 use words::quadwords::put_quadword;
 use words::quadwords::word_in;
 ghost use Prim.Native.Nat.{ℕ, _+_, _-_, _*_, _/_, _%_, _≤_, _<_};

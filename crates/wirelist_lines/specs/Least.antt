@@ -28,6 +28,10 @@ out-bytes = 3 + most-outputs * wire-bytes + 1
 abbrev pub steps-bytes : ℕ
 steps-bytes = 5 + (1 + 10) + 1
 
+-- `refused`, number, place, each of 64 bits at most:
+abbrev pub refusal-bytes : ℕ
+refusal-bytes = 7 + (1 + 20) + (1 + 20) + 1
+
 -- The least length of the buffer: 88,213 bytes.
 abbrev pub least-text : ℕ
 least-text = most-labels * input-bytes + most-gates * gate-bytes + out-bytes + steps-bytes

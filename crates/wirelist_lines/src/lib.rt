@@ -24,15 +24,17 @@ ghost use Rattle.rules.specs.GateCodes.{wiresIn, wiresOut};
 ghost use Rattle.rules.specs.Circuits.{numbers};
 ghost use Rattle.listing.specs.Pieces.{pieces};
 ghost use Rattle.wirelist_lines.specs.Lines.{gateLine, stepsLine, refusedLine};
-ghost use Rattle.wirelist_lines.specs.Least.{least-text};
+ghost use Rattle.wirelist_lines.specs.Least.{refusal-bytes};
 ghost use Rattle.text.specs.Written.{Written};
 ghost use Rattle.text.specs.Writing.{Puts};
 ghost use Rattle.words.specs.Numbers.{wordsAt};
 ghost use Rattle.listing.specs.Reading.{inputCount, gateCount, slotsFrom};
 ghost use Rattle.wirelist_lines.specs.LinesAt.{inputLineAt, gateLineAt, outLineAt, textAt, takenPart};
 
-// The least length of a buffer that holds every text.
+// The least length of a buffer that holds every text, and of one that holds the line of every refusal.
 pub const LEAST_TEXT: usize = 88213;
+
+pub const REFUSAL_BYTES: usize = 50;
 
 // The end of a line.
 const LINE_END: u8 = 10;
@@ -161,10 +163,10 @@ pub fn write_lines(listing: &[u8], steps: usize, text: &mut [u8]) -> usize
 }
 
 // The line of a refusal is written from the start of the text, as much of it as that holds; answers how many bytes. A text
-// of the least length holds it whole.
+// of 50 bytes holds it whole.
 pub fn write_refusal(number: usize, place: usize, text: &mut [u8]) -> usize
     ensures { λ r. ⌜ Written (now (text .entry)) (refusedLine number place) (now (text .exit)) r ⌝ }
-    ensures { λ r. ⌜ length (refusedLine number place) ≤ least-text ⌝ }
+    ensures { λ r. ⌜ length (refusedLine number place) ≤ refusal-bytes ⌝ }
 {
     let named = put_bytes(text, 0, b"refused");
     let numbered = put_number(text, named, number);

@@ -50,23 +50,12 @@ module _ (b : List ℕ) (i : ℕ) where
     unfolding wrong-with
     as-input = ap (wrong-with b i) (lt-ltb i (inputCount b) input)
 
-    pub bit-input : kindAt b i ≡ inputKind Bit → entryWrong b i ≡ anyWire b (slotsFrom b i) 0 (entry-slots - 0)
-    bit-input e =
-        as-input
-        ∙ ap (λ t. not (t || eqb (kindAt b i) (inputKind Qubit)) || anyWire b (slotsFrom b i) 0 (entry-slots - 0))
-        (eq-eqb (kindAt b i) (inputKind Bit) e)
+    pub known-input : eqb (kindAt b i) (inputKind Bit) || eqb (kindAt b i) (inputKind Qubit) ≡ true
+        → entryWrong b i ≡ anyWire b (slotsFrom b i) 0 (entry-slots - 0)
+    known-input e = as-input ∙ ap (λ t. not t || anyWire b (slotsFrom b i) 0 (entry-slots - 0)) e
 
-    pub qubit-input : kindAt b i ≡ inputKind Qubit → entryWrong b i ≡ anyWire b (slotsFrom b i) 0 (entry-slots - 0)
-    qubit-input e =
-        as-input
-        ∙ ap (λ k. not (eqb k (inputKind Bit) || eqb k (inputKind Qubit)) || anyWire b (slotsFrom b i) 0 (entry-slots - 0)) e
-
-    pub no-input : (kindAt b i ≡ inputKind Bit → ⊥) → (kindAt b i ≡ inputKind Qubit → ⊥) → entryWrong b i ≡ true
-    no-input not-bit not-qubit =
-        as-input
-        ∙ ap (λ t. not (t || eqb (kindAt b i) (inputKind Qubit)) || anyWire b (slotsFrom b i) 0 (entry-slots - 0))
-        (ne-eqb (kindAt b i) (inputKind Bit) not-bit)
-        ∙ ap (λ t. not t || anyWire b (slotsFrom b i) 0 (entry-slots - 0)) (ne-eqb (kindAt b i) (inputKind Qubit) not-qubit)
+    pub no-input : eqb (kindAt b i) (inputKind Bit) || eqb (kindAt b i) (inputKind Qubit) ≡ false → entryWrong b i ≡ true
+    no-input e = as-input ∙ ap (λ t. not t || anyWire b (slotsFrom b i) 0 (entry-slots - 0)) e
 
   module _ (behind : inputCount b ≤ i) where
     as-gate : entryWrong b i

@@ -18,7 +18,7 @@ use Rattle.refusals.specs.declared.Refusal.{Refusal}
 use Rattle.refusals.specs.Refusals.{refusalNumber, refusalPlace}
 use Rattle.check_program.specs.Answers.{labelsOf, termOf}
 use Rattle.wirelist_lines.specs.Lines.{refusedLine, lines}
-use Rattle.wirelist_lines.specs.Least.{least-text}
+use Rattle.wirelist_lines.specs.Least.{refusal-bytes, least-text}
 use Rattle.text.specs.Written.{Written}
 use Rattle.wirelist_lines.specs.LinesAt.{textAt}
 use Rattle.wirelist_lines.specs.Theorems.Lines.{in-order}
@@ -96,12 +96,12 @@ module _ (b : List ℕ) {answer : RunAnswer} {l text : List ℕ} {at : ℕ} wher
       → number ≡ refusalNumber x
       → place ≡ refusalPlace x
       → Written l (refusedLine number place) text at
-      → length (refusedLine number place) ≤ least-text
+      → length (refusedLine number place) ≤ refusal-bytes
       → Written l (answerText answer b) text at × RefusalFits answer
   answer-refused kind is-number is-place written fits =
       let its = ap₂ refusedLine is-number is-place in (
         subst (λ a. Written l (answerText a b) text at) (sym kind) (subst (λ xs. Written l xs text at) its written),
-        subst RefusalFits (sym kind) (subst (λ xs. length xs ≤ least-text) its fits),
+        subst RefusalFits (sym kind) (subst (λ xs. length xs ≤ least-text) its (omega (arith, fits))),
       )
 
 -- What a run answers and leaves in its output buffer where no buffer is too short.

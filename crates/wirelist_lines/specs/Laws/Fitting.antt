@@ -18,7 +18,7 @@ use Rattle.machine_circuits.specs.Laws.Typed.{all-below-more, takes-below, few-
 use Rattle.text.specs.Text.{ascii, decimal, spaced, line, joined}
 use Rattle.wirelist_lines.specs.Lines.{gateName, wireName, inputLine, gateLine, outLine, stepsLine, refusedLine}
 use Rattle.wirelist_lines.specs.Lines.{inputLines, gateLines, lines, longest-name}
-use Rattle.wirelist_lines.specs.Least.{wire-digits, wire-bytes, input-bytes, gate-bytes}
+use Rattle.wirelist_lines.specs.Least.{wire-digits, wire-bytes, input-bytes, gate-bytes, refusal-bytes}
 use Rattle.rules.specs.Sizes.{most-labels}
 use Rattle.listing.specs.Listing.{most-outputs}
 use Rattle.wirelist_lines.specs.Least.{out-bytes, steps-bytes, least-text}
@@ -201,7 +201,7 @@ lines-fit {I} {gs} {r} steps p low =
     )
 
 -- The line of a refusal: a number of 64 bits has at most 20 digits.
-pub refusal-fits : (number place : ℕ) → number < 2 ^ 64 → place < 2 ^ 64 → length (refusedLine number place) ≤ least-text
+pub refusal-fits : (number place : ℕ) → number < 2 ^ 64 → place < 2 ^ 64 → length (refusedLine number place) ≤ refusal-bytes
 refusal-fits number place low low′ =
     omega (
       arith,

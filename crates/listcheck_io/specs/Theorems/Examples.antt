@@ -1,0 +1,33 @@
+-- What is printed, by computation: for c2's listing, for six zero bytes, for nothing, and for c2's listing without its output.
+use mathlib.Core.Path.{_≡_, refl}
+use mathlib.Core.List.{List, [], _∷_, flatMap}
+use Prim.Native.Nat.{ℕ}
+use Rattle.rules.specs.Gates.{isGate}
+use Rattle.rules.specs.GateCodes.{wiresIn}
+use Rattle.words.specs.Numbers.{wordAt}
+use Rattle.listing.specs.Reading.{kindAt}
+use Rattle.wire_table.specs.Wires.{brokenAt}
+use Rattle.listing_check.specs.Answers.{listingCheckOf}
+use Rattle.text.specs.Text.{ascii, decimal}
+use Rattle.listcheck_io.specs.Printing.{checkedLine}
+
+-- `checkedLine` with every definition that it rests on open: a line `unfolding opened` below opens them all.
+opened : List ℕ → List ℕ
+unfolding checkedLine listingCheckOf brokenAt wordAt kindAt isGate wiresIn decimal
+opened b = checkedLine b
+
+pub c2-checked : checkedLine (1 ∷ 0 ∷ 1 ∷ 0 ∷ 1 ∷ 0 ∷ 129 ∷ 0 ∷ 255 ∷ 255 ∷ 255 ∷ 255 ∷ 0 ∷ 0 ∷ 255 ∷ 255 ∷ 1 ∷ 0 ∷ []) ≡ ascii "accepted\n"
+unfolding opened
+c2-checked = refl
+
+pub zeros-checked : checkedLine (0 ∷ 0 ∷ 0 ∷ 0 ∷ 0 ∷ 0 ∷ []) ≡ ascii "accepted\n"
+unfolding opened
+zeros-checked = refl
+
+pub empty-checked : checkedLine [] ≡ ascii "refused 24 0\n"
+unfolding opened
+empty-checked = refl
+
+pub left-over-checked : checkedLine (1 ∷ 0 ∷ 1 ∷ 0 ∷ 0 ∷ 0 ∷ 129 ∷ 0 ∷ 255 ∷ 255 ∷ 255 ∷ 255 ∷ 0 ∷ 0 ∷ 255 ∷ 255 ∷ []) ≡ ascii "refused 26 1\n"
+unfolding opened
+left-over-checked = refl
