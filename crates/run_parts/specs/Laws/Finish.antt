@@ -8,7 +8,7 @@ use mathlib.Core.Option.{some}
 use lib.Dec.{T as IsTrue}
 use lib.ListN.{length}
 use Rattle.rules.specs.Types.{Wire, Ty, isWireType}
-use Rattle.rules.specs.Terms.{Tuple, Gate, Term, tuple, Boxed}
+use Rattle.rules.specs.Terms.{Tuple, labels, Gate, Term, tuple, Boxed}
 use Rattle.rules.specs.Circuits.{Circuit, circuit}
 use Rattle.rules.specs.Steps.{Frame, frame, Configuration, configuration}
 use Rattle.rules.specs.Sizes.{most-gates, Fits}
