@@ -1,0 +1,367 @@
+-- 02, ticket 3: listings and what a check of them answers, accepted ones and one or more for each way to be refused. 01, "Listing":
+-- sizes, a kind for each entry, two slots for each entry, outputs.
+use Prim.Native.Nat.{ℕ, zero, suc, _*_}
+use mathlib.Core.Path.{_≡_}
+use mathlib.Core.List.{List, [], _∷_, _++_, map, flatMap}
+use lib.ListN.{take, replicate}
+use Rattle.refusals.specs.declared.Refusal.the-variants.{Run}
+use Rattle.listing.specs.Listing.{bytesOf}
+use Rattle.listing_check.specs.declared.ListingAnswer.{ListingAnswer}
+use Rattle.listing_check.specs.declared.ListingAnswer.the-variants.{Accepted, Refused}
+use Rattle.listing_check.specs.Answers.{listingCheckOf, listingCheckAnswer}
+use Rattle.cases.specs.BaseCases.{c1-listing, c2-listing, c3-listing, c10-listing}
+
+-- A case: the bytes of a listing, and the answer.
+pub record ListingCase : Type 0 where
+  pub bytes : List ℕ
+  pub answer : ListingAnswer
+
+abbrev pub _gives_ : List ℕ → ListingAnswer → ListingCase
+b gives a = record { bytes = b; answer = a }
+
+infix 70 _gives_
+-- The case of the same bytes with the answer computed.
+abbrev pub judged : ListingCase → ListingCase
+judged c = c .bytes gives listingCheckOf (c .bytes)
+
+-- Every case of a list holds: it says what is computed.
+abbrev pub ListingsHold : List ListingCase → Type 0
+ListingsHold cs = map judged cs ≡ cs
+
+-- With this working memory the check answers so in every case of a list.
+abbrev pub ListingsAnswer : List ℕ → List ListingCase → Type 0
+ListingsAnswer work [] = Unit {0}
+ListingsAnswer work (c ∷ more) = (listingCheckAnswer (c .bytes) (work ∷ []) ≡ c .answer) × ListingsAnswer work more
+
+-- Numbers of 16 bits one behind the other, each "low byte first".
+abbrev pub words : List ℕ → List ℕ
+words ns = flatMap bytesOf ns
+
+-- The bytes of sizes (inputs, gates, outputs), kinds, slots and outputs.
+abbrev pub listed : List ℕ → List ℕ → List ℕ → List ℕ → List ℕ
+listed sizes kinds slots outputs = words sizes ++ (kinds ++ (words slots ++ words outputs))
+
+-- So many numbers from n on.
+abbrev pub numbersFrom : ℕ → ℕ → List ℕ
+numbersFrom n zero = []
+numbersFrom n (suc k) = n ∷ numbersFrom (suc n) k
+
+-- ACCEPTED
+-- Kinds: 128 Bit, 129 Qubit, 0 H, 1 X, 5 CNOT, 6 Meas, 7 BX. Wires: the inputs from 0 on, then what each gate makes.
+
+-- No input, no gate and no output.
+abbrev pub no-entry : List ℕ
+no-entry = 0 ∷ 0 ∷ 0 ∷ 0 ∷ 0 ∷ 0 ∷ []
+
+-- BX takes 0 and 1 and makes 2 and 3, Meas takes 3 and makes 4, a Bit.
+abbrev pub bits : List ℕ
+bits =
+    2 ∷ 0 ∷ 2 ∷ 0 ∷ 2 ∷ 0
+    ∷ 128 ∷ 129 ∷ 7 ∷ 6
+    ∷ 255 ∷ 255 ∷ 255 ∷ 255 ∷ 255 ∷ 255 ∷ 255 ∷ 255 ∷ 0 ∷ 0 ∷ 1 ∷ 0 ∷ 3 ∷ 0 ∷ 255 ∷ 255
+    ∷ 2 ∷ 0 ∷ 4 ∷ 0 ∷ []
+
+-- Meas takes 1 and makes 2, a Bit, which BX takes with 0.
+abbrev pub measured : List ℕ
+measured =
+    listed (2 ∷ 2 ∷ 2 ∷ [])
+    (129 ∷ 129 ∷ 6 ∷ 7 ∷ [])
+    (65535 ∷ 65535 ∷ 65535 ∷ 65535 ∷ 1 ∷ 65535 ∷ 2 ∷ 0 ∷ [])
+    (3 ∷ 4 ∷ [])
+
+-- H takes 2 and makes 3; inputs 0 and 1 pass untouched, and the outputs are crossed.
+abbrev pub passing : List ℕ
+passing =
+    listed (3 ∷ 1 ∷ 3 ∷ [])
+    (129 ∷ 128 ∷ 129 ∷ 0 ∷ [])
+    (65535 ∷ 65535 ∷ 65535 ∷ 65535 ∷ 65535 ∷ 65535 ∷ 2 ∷ 65535 ∷ [])
+    (3 ∷ 1 ∷ 0 ∷ [])
+
+-- So many inputs, Qubits that all pass.
+abbrev pub many-inputs : ℕ → List ℕ
+many-inputs n = listed (n ∷ 0 ∷ n ∷ []) (replicate n 129) (replicate (2 * n) 65535) (numbersFrom 0 n)
+
+abbrev pub accepted-listings : List ListingCase
+accepted-listings =
+    c1-listing gives Accepted 1 0 1
+    ∷ c2-listing gives Accepted 1 1 1
+    ∷ c3-listing gives Accepted 2 1 2
+    ∷ c10-listing gives Accepted 1 2 1
+    ∷ no-entry gives Accepted 0 0 0
+    ∷ bits gives Accepted 2 2 2
+    ∷ measured gives Accepted 2 2 2
+    ∷ passing gives Accepted 3 1 3
+    ∷ many-inputs 64 gives Accepted 64 0 64
+    ∷ []
+
+-- REFUSED WITH 24
+-- "sizes beyond 01's or a wrong length".
+
+-- Sizes, and zeros behind them to the length that they give: one gate or output more than there may be.
+abbrev pub many-gates : List ℕ
+many-gates = words (0 ∷ 2049 ∷ 0 ∷ []) ++ replicate 10245 0
+
+abbrev pub many-outputs : List ℕ
+many-outputs = words (0 ∷ 0 ∷ 257 ∷ []) ++ replicate 514 0
+
+-- 256 inputs: the low byte of their number is 0.
+abbrev pub high-byte : List ℕ
+high-byte = words (256 ∷ 0 ∷ 0 ∷ []) ++ replicate 1280 0
+
+abbrev pub wrong-sizes : List ListingCase
+wrong-sizes =
+    [] gives Refused (Run 24 0)
+    ∷ take 1 no-entry gives Refused (Run 24 0)
+    ∷ take 2 no-entry gives Refused (Run 24 0)
+    ∷ take 3 no-entry gives Refused (Run 24 0)
+    ∷ take 4 no-entry gives Refused (Run 24 0)
+    ∷ take 5 no-entry gives Refused (Run 24 0)
+    ∷ many-inputs 65 gives Refused (Run 24 0)
+    ∷ many-gates gives Refused (Run 24 0)
+    ∷ many-outputs gives Refused (Run 24 0)
+    ∷ high-byte gives Refused (Run 24 0)
+    ∷ take 17 c2-listing gives Refused (Run 24 0)
+    ∷ (c2-listing ++ (0 ∷ [])) gives Refused (Run 24 0)
+    ∷ (no-entry ++ (0 ∷ [])) gives Refused (Run 24 0)
+    ∷ words (1 ∷ 0 ∷ 0 ∷ []) gives Refused (Run 24 0)
+    ∷ []
+
+-- REFUSED WITH 25
+-- "first entry whose kind is not allowed there or whose unused slot is not 65,535".
+
+-- c2's listing with these kinds, and with these slots.
+abbrev pub with-kinds : ℕ → ℕ → List ℕ
+with-kinds input gate =
+    listed (1 ∷ 1 ∷ 1 ∷ [])
+    (input ∷ gate ∷ [])
+    (65535 ∷ 65535 ∷ 0 ∷ 65535 ∷ [])
+    (1 ∷ [])
+
+abbrev pub with-slots : ℕ → ℕ → ℕ → ℕ → List ℕ
+with-slots input-first input-second gate-first gate-second =
+    listed (1 ∷ 1 ∷ 1 ∷ [])
+    (129 ∷ 0 ∷ [])
+    (input-first ∷ input-second ∷ gate-first ∷ gate-second ∷ [])
+    (1 ∷ [])
+
+-- Both entries wrong: a slot and then a kind, a kind and then a slot.
+abbrev pub slot-then-kind : List ℕ
+slot-then-kind =
+    listed (1 ∷ 1 ∷ 1 ∷ [])
+    (129 ∷ 9 ∷ [])
+    (65535 ∷ 0 ∷ 0 ∷ 65535 ∷ [])
+    (1 ∷ [])
+
+abbrev pub kind-then-slot : List ℕ
+kind-then-slot =
+    listed (1 ∷ 1 ∷ 1 ∷ [])
+    (130 ∷ 0 ∷ [])
+    (65535 ∷ 65535 ∷ 0 ∷ 0 ∷ [])
+    (1 ∷ [])
+
+abbrev pub wrong-entries : List ListingCase
+wrong-entries =
+    with-kinds 0 0 gives Refused (Run 25 0)
+    ∷ with-kinds 9 0 gives Refused (Run 25 0)
+    ∷ with-kinds 127 0 gives Refused (Run 25 0)
+    ∷ with-kinds 130 0 gives Refused (Run 25 0)
+    ∷ with-kinds 255 0 gives Refused (Run 25 0)
+    ∷ with-kinds 129 9 gives Refused (Run 25 1)
+    ∷ with-kinds 129 127 gives Refused (Run 25 1)
+    ∷ with-kinds 129 128 gives Refused (Run 25 1)
+    ∷ with-kinds 129 129 gives Refused (Run 25 1)
+    ∷ with-kinds 129 130 gives Refused (Run 25 1)
+    ∷ with-kinds 129 255 gives Refused (Run 25 1)
+    ∷ with-slots 0 65535 0 65535 gives Refused (Run 25 0)
+    ∷ with-slots 65535 0 0 65535 gives Refused (Run 25 0)
+    ∷ with-slots 65535 65535 0 0 gives Refused (Run 25 1)
+    ∷ with-slots 65535 65535 0 65534 gives Refused (Run 25 1)
+    ∷ with-slots 65535 65535 0 255 gives Refused (Run 25 1)
+    ∷ with-slots 65535 65535 0 65280 gives Refused (Run 25 1)
+    ∷ with-kinds 9 9 gives Refused (Run 25 0)
+    ∷ slot-then-kind gives Refused (Run 25 0)
+    ∷ kind-then-slot gives Refused (Run 25 0)
+    ∷ []
+
+-- REFUSED WITH 26 AT A GATE
+-- "the first gate entry that takes a wire wrongly (not made before, of another type, or gone already)".
+
+-- CNOT takes 0 twice.
+abbrev pub one-wire-twice : List ℕ
+one-wire-twice =
+    listed (2 ∷ 1 ∷ 2 ∷ [])
+    (129 ∷ 129 ∷ 5 ∷ [])
+    (65535 ∷ 65535 ∷ 65535 ∷ 65535 ∷ 0 ∷ 0 ∷ [])
+    (2 ∷ 3 ∷ [])
+
+-- H takes 1, the Bit that Meas makes.
+abbrev pub H-on-measured : List ℕ
+H-on-measured =
+    listed (1 ∷ 2 ∷ 1 ∷ [])
+    (129 ∷ 6 ∷ 0 ∷ [])
+    (65535 ∷ 65535 ∷ 0 ∷ 65535 ∷ 1 ∷ 65535 ∷ [])
+    (2 ∷ [])
+
+-- BX takes the Qubit and then the Bit.
+abbrev pub exchanged : List ℕ
+exchanged =
+    listed (2 ∷ 1 ∷ 2 ∷ [])
+    (128 ∷ 129 ∷ 7 ∷ [])
+    (65535 ∷ 65535 ∷ 65535 ∷ 65535 ∷ 1 ∷ 0 ∷ [])
+    (2 ∷ 3 ∷ [])
+
+-- H and X take 0.
+abbrev pub taken-by-two : List ℕ
+taken-by-two =
+    listed (2 ∷ 2 ∷ 3 ∷ [])
+    (129 ∷ 129 ∷ 0 ∷ 1 ∷ [])
+    (65535 ∷ 65535 ∷ 65535 ∷ 65535 ∷ 0 ∷ 65535 ∷ 0 ∷ 65535 ∷ [])
+    (1 ∷ 2 ∷ 3 ∷ [])
+
+-- H takes 1, which it makes itself.
+abbrev pub own-output : List ℕ
+own-output =
+    listed (1 ∷ 1 ∷ 1 ∷ [])
+    (129 ∷ 0 ∷ [])
+    (65535 ∷ 65535 ∷ 1 ∷ 65535 ∷ [])
+    (0 ∷ [])
+
+-- H takes 3, which X makes behind it.
+abbrev pub later-output : List ℕ
+later-output =
+    listed (2 ∷ 2 ∷ 2 ∷ [])
+    (129 ∷ 129 ∷ 0 ∷ 1 ∷ [])
+    (65535 ∷ 65535 ∷ 65535 ∷ 65535 ∷ 3 ∷ 65535 ∷ 0 ∷ 65535 ∷ [])
+    (1 ∷ 2 ∷ [])
+
+-- H takes no wire, or 256, whose low byte is that of 0.
+abbrev pub H-takes : ℕ → List ℕ
+H-takes w =
+    listed (1 ∷ 1 ∷ 2 ∷ [])
+    (129 ∷ 0 ∷ [])
+    (65535 ∷ 65535 ∷ w ∷ 65535 ∷ [])
+    (0 ∷ 1 ∷ [])
+
+-- CNOT takes 0 and no wire.
+abbrev pub half-taken : List ℕ
+half-taken =
+    listed (2 ∷ 1 ∷ 3 ∷ [])
+    (129 ∷ 129 ∷ 5 ∷ [])
+    (65535 ∷ 65535 ∷ 65535 ∷ 65535 ∷ 0 ∷ 65535 ∷ [])
+    (1 ∷ 2 ∷ 3 ∷ [])
+
+abbrev pub wrong-gates : List ListingCase
+wrong-gates =
+    one-wire-twice gives Refused (Run 26 2)
+    ∷ H-on-measured gives Refused (Run 26 2)
+    ∷ exchanged gives Refused (Run 26 2)
+    ∷ taken-by-two gives Refused (Run 26 3)
+    ∷ own-output gives Refused (Run 26 1)
+    ∷ later-output gives Refused (Run 26 2)
+    ∷ H-takes 65535 gives Refused (Run 26 1)
+    ∷ H-takes 256 gives Refused (Run 26 1)
+    ∷ half-taken gives Refused (Run 26 2)
+    ∷ []
+
+-- REFUSED WITH 26 AT AN OUTPUT OR A WIRE LEFT OVER
+-- "else L+G plus the number of the first wrong output, else the entry that made the lowest wire left over".
+
+-- H takes 0 and makes 1; so many outputs, these.
+abbrev pub H-outputs : ℕ → List ℕ → List ℕ
+H-outputs n outs =
+    listed (1 ∷ 1 ∷ n ∷ [])
+    (129 ∷ 0 ∷ [])
+    (65535 ∷ 65535 ∷ 0 ∷ 65535 ∷ [])
+    outs
+
+-- No input, and output 0.
+abbrev pub no-input : List ℕ
+no-input = listed (0 ∷ 0 ∷ 1 ∷ []) [] [] (0 ∷ [])
+
+-- One input, and no output.
+abbrev pub no-output : List ℕ
+no-output = listed (1 ∷ 0 ∷ 0 ∷ []) (129 ∷ []) (65535 ∷ 65535 ∷ []) []
+
+-- CNOT takes 0 and 1 and makes 2 and 3, of which one is an output.
+abbrev pub CNOT-output : ℕ → List ℕ
+CNOT-output w =
+    listed (2 ∷ 1 ∷ 1 ∷ [])
+    (129 ∷ 129 ∷ 5 ∷ [])
+    (65535 ∷ 65535 ∷ 65535 ∷ 65535 ∷ 0 ∷ 1 ∷ [])
+    (w ∷ [])
+
+-- One more CNOT takes 3 and 2 and makes 4 and 5, of which 4 is an output.
+abbrev pub second-of-second : List ℕ
+second-of-second =
+    listed (2 ∷ 2 ∷ 1 ∷ [])
+    (129 ∷ 129 ∷ 5 ∷ 5 ∷ [])
+    (65535 ∷ 65535 ∷ 65535 ∷ 65535 ∷ 0 ∷ 1 ∷ 3 ∷ 2 ∷ [])
+    (4 ∷ [])
+
+-- H takes 0 and makes 2; 1 and 2 are left over.
+abbrev pub two-left : List ℕ
+two-left =
+    listed (2 ∷ 1 ∷ 0 ∷ [])
+    (129 ∷ 129 ∷ 0 ∷ [])
+    (65535 ∷ 65535 ∷ 65535 ∷ 65535 ∷ 0 ∷ 65535 ∷ [])
+    []
+
+-- CNOT takes 2 and 0 and makes 3 and 4, H takes 3 and makes 5; 1, 4 and 5 are left over.
+abbrev pub three-left : List ℕ
+three-left =
+    listed (3 ∷ 2 ∷ 0 ∷ [])
+    (129 ∷ 129 ∷ 129 ∷ 5 ∷ 0 ∷ [])
+    (65535 ∷ 65535 ∷ 65535 ∷ 65535 ∷ 65535 ∷ 65535 ∷ 2 ∷ 0 ∷ 3 ∷ 65535 ∷ [])
+    []
+
+abbrev pub wrong-ends : List ListingCase
+wrong-ends =
+    H-outputs 2 (1 ∷ 1 ∷ []) gives Refused (Run 26 3)
+    ∷ H-outputs 1 (2 ∷ []) gives Refused (Run 26 2)
+    ∷ H-outputs 1 (0 ∷ []) gives Refused (Run 26 2)
+    ∷ H-outputs 2 (1 ∷ 0 ∷ []) gives Refused (Run 26 3)
+    ∷ H-outputs 2 (1 ∷ 65535 ∷ []) gives Refused (Run 26 3)
+    ∷ no-input gives Refused (Run 26 0)
+    ∷ no-output gives Refused (Run 26 0)
+    ∷ H-outputs 0 [] gives Refused (Run 26 1)
+    ∷ CNOT-output 3 gives Refused (Run 26 2)
+    ∷ CNOT-output 2 gives Refused (Run 26 2)
+    ∷ second-of-second gives Refused (Run 26 3)
+    ∷ two-left gives Refused (Run 26 1)
+    ∷ three-left gives Refused (Run 26 1)
+    ∷ []
+
+-- IN ORDER
+-- Faults of two numbers give the lower, wherever they stand; of 26 the gate's comes first, then the output's, then the wire left
+-- over.
+
+-- H takes 7, which is never made; the kind behind it is no gate.
+abbrev pub wire-then-kind : List ℕ
+wire-then-kind =
+    listed (1 ∷ 2 ∷ 1 ∷ [])
+    (129 ∷ 0 ∷ 9 ∷ [])
+    (65535 ∷ 65535 ∷ 7 ∷ 65535 ∷ 1 ∷ 65535 ∷ [])
+    (2 ∷ [])
+
+-- H takes 0 and makes 2, X takes w and makes 3; v is the output, and 1 is left over.
+abbrev pub one-left : ℕ → ℕ → List ℕ
+one-left w v =
+    listed (2 ∷ 2 ∷ 1 ∷ [])
+    (129 ∷ 129 ∷ 0 ∷ 1 ∷ [])
+    (65535 ∷ 65535 ∷ 65535 ∷ 65535 ∷ 0 ∷ 65535 ∷ w ∷ 65535 ∷ [])
+    (v ∷ [])
+
+abbrev pub two-numbers : List ListingCase
+two-numbers =
+    (with-kinds 9 0 ++ (0 ∷ [])) gives Refused (Run 24 0)
+    ∷ (one-wire-twice ++ (0 ∷ [])) gives Refused (Run 24 0)
+    ∷ wire-then-kind gives Refused (Run 25 2)
+    ∷ one-left 0 9 gives Refused (Run 26 3)
+    ∷ one-left 2 9 gives Refused (Run 26 4)
+    ∷ one-left 2 3 gives Refused (Run 26 1)
+    ∷ []
+
+-- All of them.
+abbrev pub listing-cases : List ListingCase
+listing-cases =
+    accepted-listings ++ (wrong-sizes ++ (wrong-entries ++ (wrong-gates ++ (wrong-ends ++ two-numbers))))
