@@ -16,6 +16,7 @@ pub record ListingCase : Type 0 where
   pub bytes : List ℕ
   pub answer : ListingAnswer
 
+-- The same as a line of a table.
 abbrev pub _gives_ : List ℕ → ListingAnswer → ListingCase
 b gives a = record { bytes = b; answer = a }
 
@@ -81,6 +82,7 @@ passing =
 abbrev pub many-inputs : ℕ → List ℕ
 many-inputs n = listed (n ∷ 0 ∷ n ∷ []) (replicate n 129) (replicate (2 * n) 65535) (numbersFrom 0 n)
 
+-- Every wire goes once: inputs, gates and outputs are answered.
 abbrev pub accepted-listings : List ListingCase
 accepted-listings =
     c1-listing gives Accepted 1 0 1
@@ -97,17 +99,12 @@ accepted-listings =
 -- REFUSED WITH 24
 -- "sizes beyond 01's or a wrong length".
 
--- Sizes, and zeros behind them to the length that they give: one gate or output more than there may be.
-abbrev pub many-gates : List ℕ
-many-gates = words (0 ∷ 2049 ∷ 0 ∷ []) ++ replicate 10245 0
+-- Sizes, and so many zeros behind them.
+abbrev pub zeros-behind : ℕ → ℕ → ℕ → ℕ → List ℕ
+zeros-behind inputs gates outputs n = words (inputs ∷ gates ∷ outputs ∷ []) ++ replicate n 0
 
-abbrev pub many-outputs : List ℕ
-many-outputs = words (0 ∷ 0 ∷ 257 ∷ []) ++ replicate 514 0
-
--- 256 inputs: the low byte of their number is 0.
-abbrev pub high-byte : List ℕ
-high-byte = words (256 ∷ 0 ∷ 0 ∷ []) ++ replicate 1280 0
-
+-- Each length under 6; each size one more than there may be, and 256 inputs, with the length that the sizes give; a byte less and
+-- a byte more.
 abbrev pub wrong-sizes : List ListingCase
 wrong-sizes =
     [] gives Refused (Run 24 0)
@@ -117,19 +114,27 @@ wrong-sizes =
     ∷ take 4 no-entry gives Refused (Run 24 0)
     ∷ take 5 no-entry gives Refused (Run 24 0)
     ∷ many-inputs 65 gives Refused (Run 24 0)
-    ∷ many-gates gives Refused (Run 24 0)
-    ∷ many-outputs gives Refused (Run 24 0)
-    ∷ high-byte gives Refused (Run 24 0)
+    ∷ zeros-behind 0 2049 0 10245 gives Refused (Run 24 0)
+    ∷ zeros-behind 0 0 257 514 gives Refused (Run 24 0)
+    ∷ zeros-behind 256 0 0 1280 gives Refused (Run 24 0)
     ∷ take 17 c2-listing gives Refused (Run 24 0)
     ∷ (c2-listing ++ (0 ∷ [])) gives Refused (Run 24 0)
     ∷ (no-entry ++ (0 ∷ [])) gives Refused (Run 24 0)
-    ∷ words (1 ∷ 0 ∷ 0 ∷ []) gives Refused (Run 24 0)
+    ∷ zeros-behind 1 0 0 0 gives Refused (Run 24 0)
+    ∷ []
+
+-- As many gates and outputs as there may be are not refused with 24: the first gate, H, has 0 in its second slot, and output 0 is
+-- never made.
+abbrev pub most-sizes : List ListingCase
+most-sizes =
+    zeros-behind 0 2048 0 10240 gives Refused (Run 25 0)
+    ∷ zeros-behind 0 0 256 512 gives Refused (Run 26 0)
     ∷ []
 
 -- REFUSED WITH 25
 -- "first entry whose kind is not allowed there or whose unused slot is not 65,535".
 
--- c2's listing with these kinds, and with these slots.
+-- c2's listing with these kinds.
 abbrev pub with-kinds : ℕ → ℕ → List ℕ
 with-kinds input gate =
     listed (1 ∷ 1 ∷ 1 ∷ [])
@@ -137,6 +142,7 @@ with-kinds input gate =
     (65535 ∷ 65535 ∷ 0 ∷ 65535 ∷ [])
     (1 ∷ [])
 
+-- c2's listing with these slots.
 abbrev pub with-slots : ℕ → ℕ → ℕ → ℕ → List ℕ
 with-slots input-first input-second gate-first gate-second =
     listed (1 ∷ 1 ∷ 1 ∷ [])
@@ -144,7 +150,7 @@ with-slots input-first input-second gate-first gate-second =
     (input-first ∷ input-second ∷ gate-first ∷ gate-second ∷ [])
     (1 ∷ [])
 
--- Both entries wrong: a slot and then a kind, a kind and then a slot.
+-- Both entries wrong: a slot of the input, and the kind of the gate.
 abbrev pub slot-then-kind : List ℕ
 slot-then-kind =
     listed (1 ∷ 1 ∷ 1 ∷ [])
@@ -152,6 +158,7 @@ slot-then-kind =
     (65535 ∷ 0 ∷ 0 ∷ 65535 ∷ [])
     (1 ∷ [])
 
+-- Both entries wrong: the kind of the input, and a slot of the gate.
 abbrev pub kind-then-slot : List ℕ
 kind-then-slot =
     listed (1 ∷ 1 ∷ 1 ∷ [])
@@ -159,6 +166,7 @@ kind-then-slot =
     (65535 ∷ 65535 ∷ 0 ∷ 0 ∷ [])
     (1 ∷ [])
 
+-- Kinds that are not those of inputs, and not those of gates; slots that are not used; of two wrong entries the first.
 abbrev pub wrong-entries : List ListingCase
 wrong-entries =
     with-kinds 0 0 gives Refused (Run 25 0)
@@ -189,10 +197,10 @@ wrong-entries =
 -- CNOT takes 0 twice.
 abbrev pub one-wire-twice : List ℕ
 one-wire-twice =
-    listed (2 ∷ 1 ∷ 2 ∷ [])
-    (129 ∷ 129 ∷ 5 ∷ [])
-    (65535 ∷ 65535 ∷ 65535 ∷ 65535 ∷ 0 ∷ 0 ∷ [])
-    (2 ∷ 3 ∷ [])
+    listed (1 ∷ 1 ∷ 2 ∷ [])
+    (129 ∷ 5 ∷ [])
+    (65535 ∷ 65535 ∷ 0 ∷ 0 ∷ [])
+    (1 ∷ 2 ∷ [])
 
 -- H takes 1, the Bit that Meas makes.
 abbrev pub H-on-measured : List ℕ
@@ -234,7 +242,7 @@ later-output =
     (65535 ∷ 65535 ∷ 65535 ∷ 65535 ∷ 3 ∷ 65535 ∷ 0 ∷ 65535 ∷ [])
     (1 ∷ 2 ∷ [])
 
--- H takes no wire, or 256, whose low byte is that of 0.
+-- H takes this wire; 0 and 1 are the outputs.
 abbrev pub H-takes : ℕ → List ℕ
 H-takes w =
     listed (1 ∷ 1 ∷ 2 ∷ [])
@@ -250,9 +258,20 @@ half-taken =
     (65535 ∷ 65535 ∷ 65535 ∷ 65535 ∷ 0 ∷ 65535 ∷ [])
     (1 ∷ 2 ∷ 3 ∷ [])
 
+-- H and X take 7, which is never made.
+abbrev pub two-wrong : List ℕ
+two-wrong =
+    listed (1 ∷ 2 ∷ 3 ∷ [])
+    (129 ∷ 0 ∷ 1 ∷ [])
+    (65535 ∷ 65535 ∷ 7 ∷ 65535 ∷ 7 ∷ 65535 ∷ [])
+    (0 ∷ 1 ∷ 2 ∷ [])
+
+-- But for the last, each listing has no other fault. In the second the input that H takes is a Bit; 65,535 is no wire, and 256 has
+-- the low byte of 0.
 abbrev pub wrong-gates : List ListingCase
 wrong-gates =
-    one-wire-twice gives Refused (Run 26 2)
+    one-wire-twice gives Refused (Run 26 1)
+    ∷ with-kinds 128 0 gives Refused (Run 26 1)
     ∷ H-on-measured gives Refused (Run 26 2)
     ∷ exchanged gives Refused (Run 26 2)
     ∷ taken-by-two gives Refused (Run 26 3)
@@ -261,12 +280,13 @@ wrong-gates =
     ∷ H-takes 65535 gives Refused (Run 26 1)
     ∷ H-takes 256 gives Refused (Run 26 1)
     ∷ half-taken gives Refused (Run 26 2)
+    ∷ two-wrong gives Refused (Run 26 1)
     ∷ []
 
 -- REFUSED WITH 26 AT AN OUTPUT OR A WIRE LEFT OVER
 -- "else L+G plus the number of the first wrong output, else the entry that made the lowest wire left over".
 
--- H takes 0 and makes 1; so many outputs, these.
+-- H takes 0 and makes 1; there are so many outputs, these.
 abbrev pub H-outputs : ℕ → List ℕ → List ℕ
 H-outputs n outs =
     listed (1 ∷ 1 ∷ n ∷ [])
@@ -290,7 +310,7 @@ CNOT-output w =
     (65535 ∷ 65535 ∷ 65535 ∷ 65535 ∷ 0 ∷ 1 ∷ [])
     (w ∷ [])
 
--- One more CNOT takes 3 and 2 and makes 4 and 5, of which 4 is an output.
+-- CNOT takes 0 and 1 and makes 2 and 3, a second CNOT takes 3 and 2 and makes 4 and 5, of which 4 is an output.
 abbrev pub second-of-second : List ℕ
 second-of-second =
     listed (2 ∷ 2 ∷ 1 ∷ [])
@@ -314,13 +334,17 @@ three-left =
     (65535 ∷ 65535 ∷ 65535 ∷ 65535 ∷ 65535 ∷ 65535 ∷ 2 ∷ 0 ∷ 3 ∷ 65535 ∷ [])
     []
 
+-- An output twice; never made; gone to a gate; of two wrong ones the first; without any wire. Then an input left over; wires of a
+-- gate, its only one, its first and its second; of several wires the lowest.
 abbrev pub wrong-ends : List ListingCase
 wrong-ends =
     H-outputs 2 (1 ∷ 1 ∷ []) gives Refused (Run 26 3)
-    ∷ H-outputs 1 (2 ∷ []) gives Refused (Run 26 2)
-    ∷ H-outputs 1 (0 ∷ []) gives Refused (Run 26 2)
-    ∷ H-outputs 2 (1 ∷ 0 ∷ []) gives Refused (Run 26 3)
+    ∷ H-outputs 2 (2 ∷ 1 ∷ []) gives Refused (Run 26 2)
+    ∷ H-outputs 2 (1 ∷ 2 ∷ []) gives Refused (Run 26 3)
     ∷ H-outputs 2 (1 ∷ 65535 ∷ []) gives Refused (Run 26 3)
+    ∷ H-outputs 2 (0 ∷ 1 ∷ []) gives Refused (Run 26 2)
+    ∷ H-outputs 2 (1 ∷ 0 ∷ []) gives Refused (Run 26 3)
+    ∷ H-outputs 3 (1 ∷ 0 ∷ 2 ∷ []) gives Refused (Run 26 3)
     ∷ no-input gives Refused (Run 26 0)
     ∷ no-output gives Refused (Run 26 0)
     ∷ H-outputs 0 [] gives Refused (Run 26 1)
@@ -351,8 +375,10 @@ one-left w v =
     (65535 ∷ 65535 ∷ 65535 ∷ 65535 ∷ 0 ∷ 65535 ∷ w ∷ 65535 ∷ [])
     (v ∷ [])
 
-abbrev pub two-numbers : List ListingCase
-two-numbers =
+-- 24 before 25 and before 26; 25 before 26. X takes 0, which has gone, and the output is never made; only the output is wrong; both
+-- are right.
+abbrev pub two-faults : List ListingCase
+two-faults =
     (with-kinds 9 0 ++ (0 ∷ [])) gives Refused (Run 24 0)
     ∷ (one-wire-twice ++ (0 ∷ [])) gives Refused (Run 24 0)
     ∷ wire-then-kind gives Refused (Run 25 2)
@@ -363,5 +389,4 @@ two-numbers =
 
 -- All of them.
 abbrev pub listing-cases : List ListingCase
-listing-cases =
-    accepted-listings ++ (wrong-sizes ++ (wrong-entries ++ (wrong-gates ++ (wrong-ends ++ two-numbers))))
+listing-cases = accepted-listings ++ (wrong-sizes ++ (most-sizes ++ (wrong-entries ++ (wrong-gates ++ (wrong-ends ++ two-faults)))))

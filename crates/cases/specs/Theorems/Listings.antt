@@ -1,14 +1,14 @@
 -- Every case of the table of listings holds, by computation from the bytes; so a check of any of them answers this, whatever its
 -- working memory holds.
 use Prim.Native.Nat.{ℕ, _≤_}
-use native.Mathlib.Omega.{arith}
-use mathlib.Core.Path.{_≡_, refl, ap, ap₂}
-use mathlib.Core.Bool.{Bool, false, cond}
+use mathlib.Core.Path.{_≡_, refl, sym, ap, ap₂}
+use mathlib.Core.Bool.{false, cond}
 use mathlib.Core.List.{List, [], _∷_, _++_, map, flatMap}
 use lib.ListN.{length}
 use Rattle.rules.specs.Gates.{isGate}
 use Rattle.rules.specs.GateCodes.{wiresIn}
-use Rattle.lent.specs.Lent.{tooShort, zeroed, memoryLeft}
+use Rattle.lent.specs.Lent.{tooShort, zeroed}
+use Rattle.lent.specs.Laws.Lent.{below-later, long-memory}
 use Rattle.words.specs.Numbers.{wordAt}
 use Rattle.refusals.specs.declared.Refusal.the-variants.{Run}
 use Rattle.listing.specs.Reading.{kindAt}
@@ -17,14 +17,14 @@ use Rattle.listing_check.specs.declared.ListingAnswer.{ListingAnswer}
 use Rattle.listing_check.specs.declared.ListingAnswer.the-variants.{Refused}
 use Rattle.listing_check.specs.Answers.{listingCheckOf, most-wires, listing-lengths, listingCheckAnswer, listingCheckBytes}
 use Rattle.cases.specs.Listings.{ListingCase, judged, ListingsHold, ListingsAnswer, accepted-listings, wrong-sizes}
-use Rattle.cases.specs.Listings.{wrong-entries, wrong-gates, wrong-ends, two-numbers, listing-cases}
+use Rattle.cases.specs.Listings.{most-sizes, wrong-entries, wrong-gates, wrong-ends, two-faults, listing-cases}
 
 -- `listingCheckOf` with every definition of the check open: a line `unfolding opened` below opens them all.
 opened : List ℕ → ListingAnswer
 unfolding listingCheckOf brokenAt wordAt kindAt isGate wiresIn flatMap
 opened b = listingCheckOf b
 
--- Every case of the table holds: listings accepted; refused with 24; with 25; with 26 at a gate; with 26 at an output or at a wire
+-- Every case of the table holds: listings accepted; refused with 24; with the most gates and outputs; with 25; with 26 at a gate; with 26 at an output or at a wire
 -- left over; with faults of several kinds.
 pub accepted-hold : ListingsHold accepted-listings
 unfolding opened
@@ -33,6 +33,10 @@ accepted-hold = refl
 pub sizes-hold : ListingsHold wrong-sizes
 unfolding opened
 sizes-hold = refl
+
+pub most-hold : ListingsHold most-sizes
+unfolding opened
+most-hold = refl
 
 pub entries-hold : ListingsHold wrong-entries
 unfolding opened
@@ -46,7 +50,7 @@ pub ends-hold : ListingsHold wrong-ends
 unfolding opened
 ends-hold = refl
 
-pub order-holds : ListingsHold two-numbers
+pub order-holds : ListingsHold two-faults
 unfolding opened
 order-holds = refl
 
@@ -57,10 +61,51 @@ both-hold (c ∷ cs) ds h k =
     let those : map judged cs ≡ cs = cc in
     ap₂ _∷_ this (both-hold cs ds those k)
 
+-- The parts of the table from one on.
+abbrev from-ends : List ListingCase
+from-ends = wrong-ends ++ two-faults
+
+abbrev from-gates : List ListingCase
+from-gates = wrong-gates ++ from-ends
+
+abbrev from-entries : List ListingCase
+from-entries = wrong-entries ++ from-gates
+
+abbrev from-most : List ListingCase
+from-most = most-sizes ++ from-entries
+
 pub listings-hold : ListingsHold listing-cases
 listings-hold =
-    both-hold accepted-listings (wrong-sizes ++ (wrong-entries ++ (wrong-gates ++ (wrong-ends ++ two-numbers)))) accepted-hold
-    (both-hold wrong-sizes (wrong-entries ++ (wrong-gates ++ (wrong-ends ++ two-numbers))) sizes-hold
-    (both-hold wrong-entries (wrong-gates ++ (wrong-ends ++ two-numbers)) entries-hold
-    (both-hold wrong-gates (wrong-ends ++ two-numbers) gates-hold
-    (both-hold wrong-ends two-numbers ends-hold order-holds))))
+    both-hold accepted-listings (wrong-sizes ++ from-most) accepted-hold
+    (both-hold wrong-sizes from-most sizes-hold
+    (both-hold most-sizes from-entries most-hold
+    (both-hold wrong-entries from-gates entries-hold
+    (both-hold wrong-gates from-ends gates-hold
+    (both-hold wrong-ends two-faults ends-hold order-holds)))))
+
+module _ (work : List ℕ) (room : most-wires ≤ length work) where
+  long : tooShort listing-lengths (work ∷ []) ≡ false
+  long = below-later most-wires (length work) [] [] room
+
+  -- One case after the other.
+  answers : (c : ListingCase) → judged c ≡ c → listingCheckAnswer (c .bytes) (work ∷ []) ≡ c .answer
+  unfolding listingCheckAnswer
+  answers c h = ap₂ (λ short a. cond short (Refused (Run 19 0)) a) long (ap (λ d. d .answer) h)
+
+  all-answer : (cs : List ListingCase) → ListingsHold cs → ListingsAnswer work cs
+  all-answer [] h = tt
+  all-answer (c ∷ more) h =
+      let this : judged c ≡ c = cc in
+      let those : map judged more ≡ more = cc in
+      (answers c this, all-answer more those)
+
+  cleared : listingCheckBytes (work ∷ []) ≡ zeroed work ∷ []
+  cleared = sym (long-memory listing-lengths (work ∷ []) (zeroed work ∷ []) long refl)
+
+-- With working memory that is long enough, whatever it holds, every check of the table answers what the table says, and leaves
+-- zeros.
+pub listing-answers : (work : List ℕ)
+    → most-wires ≤ length work
+    → ListingsAnswer work listing-cases
+    × (listingCheckBytes (work ∷ []) ≡ zeroed work ∷ [])
+listing-answers work room = (all-answer work room listing-cases listings-hold, cleared work room)
