@@ -24,8 +24,8 @@ opened : List ℕ → ListingAnswer
 unfolding listingCheckOf brokenAt wordAt kindAt isGate wiresIn flatMap
 opened b = listingCheckOf b
 
--- Every case of the table holds: listings accepted; refused with 24; with the most gates and outputs; with 25; with 26 at a gate; with 26 at an output or at a wire
--- left over; with faults of several kinds.
+-- Every case of the table holds: listings accepted; refused with 24; with the most gates and outputs; refused with 25; with 26 at a
+-- gate; with 26 at an output or at a wire left over; with faults of several kinds.
 pub accepted-hold : ListingsHold accepted-listings
 unfolding opened
 accepted-hold = refl
