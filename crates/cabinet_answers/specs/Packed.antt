@@ -13,6 +13,8 @@ use Rattle.check_program.specs.declared.CheckAnswer.{CheckAnswer}
 use Rattle.check_program.specs.declared.CheckAnswer.the-variants.{Accepted as IsChecked, Refused as NotChecked}
 use Rattle.run_answers.specs.declared.RunAnswer.{RunAnswer}
 use Rattle.run_answers.specs.declared.RunAnswer.the-variants.{Finished, Refused}
+use Rattle.listing_check.specs.declared.ListingAnswer.{ListingAnswer}
+use Rattle.listing_check.specs.declared.ListingAnswer.the-variants.{Accepted as IsListed, Refused as NotListed}
 
 -- A value put into so many bits from a bit on; what they do not hold is cut off.
 abbrev pub put : ℕ → ℕ → ℕ → ℕ
@@ -40,6 +42,10 @@ packedLength length = put 6 16 length
 unfoldable pub packedRan : ℕ → ℕ → ℕ → ℕ
 packedRan steps gates length = put 6 12 gates + put 18 14 length + put 32 32 steps
 
+-- Of the check of a listing that accepts: the numbers of inputs, gates and outputs.
+unfoldable pub packedCounts : ℕ → ℕ → ℕ → ℕ
+packedCounts inputs gates outputs = put 6 7 inputs + put 13 12 gates + put 25 9 outputs
+
 abbrev pub packedRead : ReadAnswer → ℕ
 packedRead (IsRead labels types terms) = packedSizes labels types terms
 packedRead (NotRead x) = packedRefusal (refusalNumber x) (refusalPlace x)
@@ -51,6 +57,10 @@ packedCheck (NotChecked x) = packedRefusal (refusalNumber x) (refusalPlace x)
 abbrev pub packedRun : RunAnswer → ℕ
 packedRun (Finished steps gates length) = packedRan steps gates length
 packedRun (Refused x) = packedRefusal (refusalNumber x) (refusalPlace x)
+
+abbrev pub packedListing : ListingAnswer → ℕ
+packedListing (IsListed inputs gates outputs) = packedCounts inputs gates outputs
+packedListing (NotListed x) = packedRefusal (refusalNumber x) (refusalPlace x)
 
 -- UNPACKING: each definition is what the accessor of include/gawipsol.h computes
 
@@ -86,6 +96,16 @@ lengthIn answer = bits 18 14 answer
 abbrev pub stepsIn : ℕ → ℕ
 stepsIn answer = bits 32 32 answer
 
+-- gawipsol_listing_inputs, gawipsol_listing_gates, gawipsol_listing_outputs
+abbrev pub inputsIn : ℕ → ℕ
+inputsIn answer = bits 6 7 answer
+
+abbrev pub listedGatesIn : ℕ → ℕ
+listedGatesIn answer = bits 13 12 answer
+
+abbrev pub outputsIn : ℕ → ℕ
+outputsIn answer = bits 25 9 answer
+
 -- 01: "A refusal belongs to one of three families: form, typing or run (1 to 9, 16 to 18, the rest)." So its number says which.
 abbrev pub refusalWith : ℕ → ℕ → Refusal
 refusalWith number place =
@@ -105,3 +125,8 @@ unpackedCheck answer = cond (eqb (numberIn answer) 0) (IsChecked (typeLengthIn a
 unfoldable pub unpackedRun : ℕ → RunAnswer
 unpackedRun answer =
     cond (eqb (numberIn answer) 0) (Finished (stepsIn answer) (gatesIn answer) (lengthIn answer)) (Refused (refusalIn answer))
+
+unfoldable pub unpackedListing : ℕ → ListingAnswer
+unpackedListing answer =
+    cond (eqb (numberIn answer) 0) (IsListed (inputsIn answer) (listedGatesIn answer) (outputsIn answer))
+    (NotListed (refusalIn answer))

@@ -1,8 +1,10 @@
 // The answer of each operation in one number, for callers outside. What the fields do not hold is cut off.
 // Believe: specs/Packed, each answer in one number, and what a caller reads in it.
-// Main theorems: unpacked-read, unpacked-check, unpacked-run (specs/Theorems/Unpacking), a caller gets back every answer.
+// Main theorems: unpacked-read, unpacked-check, unpacked-run, unpacked-listing (specs/Theorems/Unpacking), a caller gets back
+// every answer.
 // Called by cabinet.
 use check_program::CheckAnswer;
+use listing_check::ListingAnswer;
 use program::ReadAnswer;
 use refusals::Refusal;
 use refusals::number_of;
@@ -11,7 +13,7 @@ use run_answers::RunAnswer;
 ghost use mathlib.Core.Path.{_≡_};
 ghost use Rattle.refusals.specs.Refusals.{refusalNumber, refusalPlace};
 ghost use Rattle.cabinet_answers.specs.Packed.{packedRefusal, packedSizes, packedRan, packedRead, packedCheck};
-ghost use Rattle.cabinet_answers.specs.Packed.{packedRun};
+ghost use Rattle.cabinet_answers.specs.Packed.{packedRun, packedCounts, packedListing};
 
 // Number and place of a refusal.
 fn pack_refusal(refusal: Refusal) -> u64
@@ -36,6 +38,15 @@ fn pack_ran(steps: usize, gates: usize, length: usize) -> u64
     64 * ((gates % 4096) as u64)
         + 262144 * ((length % 16384) as u64)
         + 4294967296 * ((steps % 4294967296) as u64)
+}
+
+// Inputs, gates and outputs of a listing that is accepted.
+fn pack_counts(inputs: usize, gates: usize, outputs: usize) -> u64
+    ensures { λ r. ⌜ r ≡ packedCounts inputs gates outputs ⌝ }
+{
+    64 * ((inputs % 128) as u64)
+        + 8192 * ((gates % 4096) as u64)
+        + 33554432 * ((outputs % 512) as u64)
 }
 
 // The answer of a reading in one number.
@@ -73,5 +84,19 @@ pub fn pack_run(answer: RunAnswer) -> u64
             length,
         } => pack_ran(steps, gates, length),
         RunAnswer::Refused(refusal) => pack_refusal(refusal),
+    }
+}
+
+// The answer of a check of a listing in one number.
+pub fn pack_listing(answer: ListingAnswer) -> u64
+    ensures { λ r. ⌜ r ≡ packedListing answer ⌝ }
+{
+    match answer {
+        ListingAnswer::Accepted {
+            inputs,
+            gates,
+            outputs,
+        } => pack_counts(inputs, gates, outputs),
+        ListingAnswer::Refused(refusal) => pack_refusal(refusal),
     }
 }

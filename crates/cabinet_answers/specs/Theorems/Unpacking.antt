@@ -24,10 +24,15 @@ use Rattle.run_answers.specs.Theorems.Families.{most-places, ReadBounds, read-b
 use Rattle.run_answers.specs.Theorems.Running.{OfRun, of-check, RunBounds, run-bounds}
 use Rattle.run_answers.specs.declared.RunAnswer.{RunAnswer}
 use Rattle.run_answers.specs.declared.RunAnswer.the-variants.{Finished, Refused}
+use Rattle.listing_check.specs.Answers.{listing-lengths, listingCheckOf, listingCheckAnswer}
+use Rattle.listing_check.specs.Laws.Places.{most-listed, OfListing, ListingBounds, listing-bounds}
+use Rattle.listing_check.specs.declared.ListingAnswer.{ListingAnswer}
+use Rattle.listing_check.specs.declared.ListingAnswer.the-variants.{Accepted as IsListed, Refused as NotListed}
 use Rattle.cabinet_answers.specs.Packed.{packedRefusal, packedSizes, packedLength, packedRan, packedRead, packedCheck}
 use Rattle.cabinet_answers.specs.Packed.{packedRun, numberIn, placeIn, labelsIn, typesIn, termsIn, typeLengthIn}
 use Rattle.cabinet_answers.specs.Packed.{gatesIn, lengthIn, stepsIn, refusalWith, refusalIn, unpackedRead}
-use Rattle.cabinet_answers.specs.Packed.{unpackedCheck, unpackedRun}
+use Rattle.cabinet_answers.specs.Packed.{unpackedCheck, unpackedRun, packedCounts, packedListing, inputsIn}
+use Rattle.cabinet_answers.specs.Packed.{listedGatesIn, outputsIn, unpackedListing}
 
 -- REFUSALS
 
@@ -94,7 +99,7 @@ pub answer-back : {X : Type 0} (accepted refused : X) (answer : ℕ)
     → cond (eqb (numberIn answer) 0) accepted refused ≡ accepted
 answer-back accepted refused answer h = ap (λ n. cond (eqb n 0) accepted refused) h
 
--- The refusals of all operations fit.
+-- The refusals of the operations on programs fit.
 fits : (x : Refusal) → OfRun x → refusalPlace x ≤ most-places → RefusalFits x
 fits (Form number place) h p = (h .0, h .1, omega arith)
 fits (Typing number place) h p = (h .0, h .1, omega arith)
@@ -221,3 +226,53 @@ unpacked-run f limit buffers h =
     of : (b : Bool) (a : RunAnswer) → RunFits a → RunFits (cond b (Refused (Run 19 0)) a)
     of true a k = nineteen-fits
     of false a k = k
+
+-- THE CHECK OF A LISTING
+
+abbrev pub ListingFits : ListingAnswer → Type 0
+ListingFits (IsListed inputs gates outputs) = (inputs < 128) × (gates < 4096) × (outputs < 512)
+ListingFits (NotListed x) = RefusalFits x
+
+counts-back : (inputs gates outputs : ℕ)
+    → ListingFits (IsListed inputs gates outputs)
+    → (let answer = packedCounts inputs gates outputs in
+    (numberIn answer ≡ 0) × (inputsIn answer ≡ inputs) × (listedGatesIn answer ≡ gates) × (outputsIn answer ≡ outputs))
+unfolding packedCounts
+counts-back inputs gates outputs h = (omega arith, omega arith, omega arith, omega arith)
+
+pub listing-back : (a : ListingAnswer) → ListingFits a → unpackedListing (packedListing a) ≡ a
+unfolding unpackedListing
+listing-back (IsListed inputs gates outputs) h =
+    let answer = packedCounts inputs gates outputs in
+    let s = counts-back inputs gates outputs h in
+    answer-back (IsListed (inputsIn answer) (listedGatesIn answer) (outputsIn answer)) (NotListed (refusalIn answer))
+    answer (s .0)
+    ∙ (let i = s .1 in let g = s .2 in let o = s .3 in cc)
+listing-back (NotListed x) h =
+    let answer = packedRefusal (refusalNumber x) (refusalPlace x) in
+    refusal-back (IsListed (inputsIn answer) (listedGatesIn answer) (outputsIn answer)) NotListed x h
+
+-- The answer of a check of a listing whose working memory is long enough.
+listing-fits : (b : List ℕ) → ListingFits (listingCheckOf b)
+listing-fits b = of (listingCheckOf b) (listing-bounds b)
+  where
+    of-refusal : (x : Refusal) → OfListing x → refusalPlace x < most-listed → RefusalFits x
+    of-refusal (Form number place) h p = absurd h
+    of-refusal (Typing number place) h p = absurd h
+    of-refusal (Run number place) h p = (omega (arith, h .0), omega (arith, h .1), omega arith)
+
+    of : (a : ListingAnswer) → ListingBounds a → ListingFits a
+    of (IsListed inputs gates outputs) h = (omega (arith, h .0), omega (arith, h .1), omega (arith, h .2))
+    of (NotListed x) h = of-refusal x (h .0) (h .1)
+
+-- Every answer of a check of a listing comes back, 19 too.
+pub unpacked-listing : (b : List ℕ) (buffers : List (List ℕ))
+    → unpackedListing (packedListing (listingCheckAnswer b buffers)) ≡ listingCheckAnswer b buffers
+unfolding listingCheckAnswer
+unpacked-listing b buffers =
+    listing-back (listingCheckAnswer b buffers)
+    (of (tooShort listing-lengths buffers) (listingCheckOf b) (listing-fits b))
+  where
+    of : (t : Bool) (a : ListingAnswer) → ListingFits a → ListingFits (cond t (NotListed (Run 19 0)) a)
+    of true a h = nineteen-fits
+    of false a h = h
