@@ -1,12 +1,14 @@
-// What is exported to hosts: reading, check and run, each with its answer in one number. A static library has the exported
-// functions of its own crate only, so all stand here.
-// Believe: the three contracts, which speak in the definitions of the operations and of cabinet_answers.
+// What is exported to hosts: reading, check, run and the check of listings, each with its answer in one number. A static
+// library has the exported functions of its own crate only, so all stand here.
+// Believe: the four contracts, which speak in the definitions of the operations and of cabinet_answers.
 // No theorem beyond them.
 // Called by C hosts (include/gawipsol.h) and by the comparisons in tests/.
 use cabinet_answers::pack_check;
+use cabinet_answers::pack_listing;
 use cabinet_answers::pack_read;
 use cabinet_answers::pack_run;
 use check_program::check;
+use listing_check::check_listing;
 use program::read;
 use run::run;
 ghost use mathlib.Core.Path.{_≡_};
@@ -15,7 +17,8 @@ ghost use Rattle.lent.specs.Lent.{firstBytes, lastBytes};
 ghost use Rattle.program.specs.Reading.{readOf};
 ghost use Rattle.check_program.specs.Answers.{checkAnswer, checkBytes};
 ghost use Rattle.run_answers.specs.Answers.{runAnswer, runBytes};
-ghost use Rattle.cabinet_answers.specs.Packed.{packedRead, packedCheck, packedRun};
+ghost use Rattle.listing_check.specs.Answers.{listingCheckAnswer, listingCheckBytes};
+ghost use Rattle.cabinet_answers.specs.Packed.{packedRead, packedCheck, packedRun, packedListing};
 
 // The reading for callers outside, with its answer in one number.
 #[no_mangle]
@@ -69,4 +72,13 @@ pub extern "C" fn gawipsol_run(
         results2,
         results3,
     ))
+}
+
+// The check of a listing for callers outside, with its answer in one number.
+#[no_mangle]
+pub extern "C" fn gawipsol_check_listing(listing: &[u8], work: &mut [u8]) -> u64
+    ensures { λ r. let lent = work ∷ [] in
+        ⌜ r ≡ packedListing (listingCheckAnswer (now (listing .entry)) (firstBytes lent)) ⌝ ∗ ⌜ lastBytes lent ≡ listingCheckBytes (firstBytes lent) ⌝ }
+{
+    pack_listing(check_listing(listing, work))
 }
