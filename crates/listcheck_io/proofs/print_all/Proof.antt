@@ -1,17 +1,21 @@
+-- `listcheck_io::print_all` meets its contract: the text holds the line. Assumes nothing.
+use Prim.Native.Nat.{_≤_}
+use native.Mathlib.Omega.{arith}
+use lib.ListN.{length}
+use Rattle.wirelist_lines.specs.Least.{refusal-bytes}
+use Rattle.text.specs.Laws.Writing.{all-written}
 use borrow.Author.Needs.{needs}
 use Rattle.listcheck_io.proofs.print_all.Statement.{statement}
 use Rattle.listcheck_io.proofs.print_all.Tie as tie
-use Rattle.listcheck_io.proofs.print_all.Reads as reads
-use Rattle.listcheck_io.proofs.print_all.Lts as lts
-use Rattle.listcheck_io.proofs.print_line.Reads as print-line-reads
 
--- src/lib.rt:63:5
 print-line-requires : tie.Need-print-line-requires
 print-line-requires c κs = search needs
 
--- src/lib.rt:59:1
 returns : tie.Need-returns
-returns c = ?
+returns c =
+    let w = c .print-line .ensures in
+    let room : refusal-bytes ≤ length (c .before .before .before .args .text .now) = omega (arith, c .before .print-line-arg .given) in
+    (all-written (w .0) (omega arith), omega (arith, w .0 .place, c .print-line .kept .1 .0))
 
 pub print-all-spec : {M : Type 1} → statement M
 print-all-spec = tie.close (tie.spec print-line-requires returns)

@@ -1,41 +1,36 @@
+-- `listcheck_io::print_check` is safe and ends: what was read stands within the listing's buffer, and the line within its own. Assumes
+-- nothing.
+use native.Mathlib.Omega.{arith}
+use lib.ListN.{length-take}
 use borrow.Author.Needs.{needs}
 use Rattle.listcheck_io.proofs.print_check.Statement.{statement}
 use Rattle.listcheck_io.proofs.print_check.Tie as tie
-use Rattle.listcheck_io.proofs.print_check.Reads as reads
-use Rattle.listcheck_io.proofs.print_check.Lts as lts
-use Rattle.io.proofs.write_all.Reads as write-all-reads
-use Rattle.listcheck_io.proofs.print_all.Reads as print-all-reads
-use Rattle.listcheck_io.proofs.read_listing.Reads as read-listing-reads
 
--- src/lib.rt:76:9
 read-listing-requires : tie.Need-read-listing-requires
 read-listing-requires c κs = search needs
 
--- src/lib.rt:78:28
 array-share-prefix-listing : tie.Need-array-share-prefix-listing
 array-share-prefix-listing c = search needs
 
--- src/lib.rt:78:28
 slice-aggregate-print-all : tie.Need-slice-aggregate-print-all
-slice-aggregate-print-all c = ?
+slice-aggregate-print-all c =
+    let r = c .before .read-listing in
+    omega (arith, length-take (r .result) (r .last .1 .0), r .ensures)
 
--- src/lib.rt:78:9
 print-all-requires : tie.Need-print-all-requires
 print-all-requires c κs = search needs
 
--- src/lib.rt:79:27
 array-share-prefix-text : tie.Need-array-share-prefix-text
-array-share-prefix-text c = search needs
+array-share-prefix-text c = c .print-all .ensures .1
 
--- src/lib.rt:79:27
 slice-aggregate-write-all : tie.Need-slice-aggregate-write-all
-slice-aggregate-write-all c = ?
+slice-aggregate-write-all c =
+    let w = c .before .print-all in
+    omega (arith, length-take (w .result) (w .last .1 .0), w .ensures .1)
 
--- src/lib.rt:79:5
 write-all-requires : tie.Need-write-all-requires
 write-all-requires c κs = search needs
 
--- src/lib.rt:74:1
 returns : tie.Need-returns
 returns c = search needs
 

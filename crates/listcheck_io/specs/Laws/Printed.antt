@@ -41,11 +41,14 @@ module _ {answer : ListingAnswer} {l text : List ℕ} {at : ℕ} where
         subst (λ a. length (answerLine a) ≤ refusal-bytes) (sym kind) (subst (λ xs. length xs ≤ refusal-bytes) its fits),
       )
 
--- With working memory that is long enough the answer is the one to the bytes.
-pub answer-line : (b work : List ℕ) {answer : ListingAnswer}
-    → tooShort listing-lengths (work ∷ []) ≡ false
+-- With working memory that is long enough the line is the one for the bytes.
+pub answered-line : (b work : List ℕ) {answer : ListingAnswer} {l text : List ℕ} {at : ℕ}
     → answer ≡ listingCheckAnswer b (work ∷ [])
-    → answerLine answer ≡ checkedLine b
+    → Written l (answerLine answer) text at × (length (answerLine answer) ≤ refusal-bytes)
+    → tooShort listing-lengths (work ∷ []) ≡ false
+    → Written l (checkedLine b) text at × (length (checkedLine b) ≤ refusal-bytes)
 unfolding checkedLine listingCheckAnswer
-answer-line b work long is =
-    ap answerLine (is ∙ ap (λ t. cond t (Refused (Run 19 0)) (listingCheckOf b)) long)
+answered-line b work {l = l} {text = text} {at = at} is written long =
+    subst (λ a. Written l (answerLine a) text at × (length (answerLine a) ≤ refusal-bytes))
+    (is ∙ ap (λ t. cond t (Refused (Run 19 0)) (listingCheckOf b)) long)
+    written
