@@ -19,21 +19,22 @@ use words::word_at;
 ghost use Prim.Native.Nat.{ℕ, _≤_, _<_};
 ghost use mathlib.Core.Path.{_≡_};
 ghost use mathlib.Core.List.{List, [], _++_};
+ghost use mathlib.Core.Option.{some};
 ghost use lib.ListN.{length};
-ghost use Rattle.rules.specs.Types.{Wire, wireCode};
+ghost use Rattle.rules.specs.Types.{Wire};
 ghost use Rattle.rules.specs.Circuits.{outputs, taken};
 ghost use Rattle.rules.specs.Sizes.{most-labels, most-gates};
 ghost use Rattle.listing.specs.Reading.{inputCount, gateCount, inputType, inputsOf, gatesOf, outputsOf};
 ghost use Rattle.wire_table.specs.Wires.{firstWrongGate, maker, brokenAt};
-ghost use Rattle.wire_table.specs.Table.{Holds, oneMore};
+ghost use Rattle.wire_table.specs.Table.{wireByte, Holds};
 ghost use Rattle.listing_check.specs.Answers.{wiresJudged, most-wires};
 ghost use Rattle.listing_check.specs.Wires.{GatesRead, OutputsRead, Whole};
 
-// The code of an input's type, by its kind.
-fn input_code(kind: usize) -> u8
-    ensures { λ r. ⌜ r ≡ wireCode (inputType kind) ⌝ }
+// The byte of an input in the table, by its kind.
+fn input_byte(kind: usize) -> u8
+    ensures { λ r. ⌜ r ≡ wireByte (some (inputType kind)) ⌝ }
 {
-    if kind == BIT_INPUT { 0 } else { 1 }
+    if kind == BIT_INPUT { 1 } else { 2 }
 }
 
 // The inputs are made in an empty table.
@@ -44,7 +45,7 @@ fn make_inputs(listing: &[u8], table: &mut [u8])
     let count = input_count(listing);
     let mut i: usize = 0;
     while i < count {
-        make_wire(table, i, input_code(kind_at(listing, i)));
+        make_wire(table, i, input_byte(kind_at(listing, i)));
         i += 1;
     }
 }

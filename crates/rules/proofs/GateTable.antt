@@ -4,13 +4,13 @@ use Prim.Native.Nat.{ℕ, zero, suc, _≤_, _<_}
 use native.Mathlib.Omega.{arith}
 use mathlib.Core.Path.{_≡_, refl, sym, _∙_, ap}
 use mathlib.Core.Bool.{Bool, true, _&&_}
-use mathlib.Core.List.{List, [], _∷_, _++_, map}
+use mathlib.Core.List.{List, [], _∷_, map}
 use mathlib.Core.Option.{Option, none, some}
 use lib.Dec.{T as IsTrue, leb, ltb, leb→le, leb·zero, leb·suc-zero, leb·suc-suc}
 use lib.ListN.{length, getD, List·getD-eq-default}
-use Rattle.rules.specs.Gates.{GateType, _to_, nth, gateTable, gateType, isSome, isGate}
-use Rattle.rules.specs.GateCodes.{codeAt, circCodes, typeEntries, filled}
-use Rattle.rules.specs.Types.{typeCodes}
+use Rattle.rules.specs.Gates.{GateType, nth, gateTable, gateType, isSome}
+use Rattle.rules.specs.GateCodes.{codeAt, circCodes, typeCode, filled}
+use Rattle.rules.specs.Laws.GateCodes.{most-type}
 use Rattle.rules.specs.Laws.Booleans.{and-left, and-right}
 
 -- A test holds where there is no gate and at each gate of a list.
@@ -45,34 +45,32 @@ filled-at (suc k) [] (suc i) h = filled-at k [] i (omega arith)
 filled-at (suc k) (c ∷ codes) zero h = refl
 filled-at (suc k) (c ∷ codes) (suc i) h = filled-at k codes i (omega arith)
 
--- A table with a row of codes for each gate, filled up to a width that none of them exceeds: at a gate and a place of the row, and
--- what there is elsewhere.
-module _ (wide : ℕ) (codes : Option GateType → List ℕ) (fits : IsTrue (tests (λ g. leb (length (codes g)) wide) gateTable))
-    (n i : ℕ) where
-  pub code-inside : n < length gateTable
-      → i < wide
-      → getD (getD (map (λ g. filled wide (codes (some g))) gateTable) n []) i 0 ≡ codeAt (codes (gateType n)) i
-  code-inside h k =
-      ap (λ r. getD r i 0) (entry-at (λ g. filled wide (codes g)) [] gateTable n h)
-      ∙ filled-at wide (codes (gateType n)) i k
+-- The rows of the types in preorder.
+abbrev rowOf : Option GateType → List ℕ
+rowOf g = filled most-type (circCodes g)
 
-  pub no-such-gate : codes none ≡ [] → length gateTable ≤ n → 255 ≡ codeAt (codes (gateType n)) i
-  no-such-gate no-code h = of-no-gate (λ g. 255 ≡ codeAt (codes g) i) gateTable (ap (λ l. codeAt l i) (sym no-code)) n h
+-- The code's table at a gate and a place, and what there is elsewhere.
+pub code-inside : (n i : ℕ)
+    → n < length gateTable
+    → i < most-type
+    → getD (getD (map (λ g. rowOf (some g)) gateTable) n []) i 0 ≡ typeCode n i
+unfolding typeCode
+code-inside n i h k =
+    ap (λ r. getD r i 0) (entry-at rowOf [] gateTable n h) ∙ filled-at most-type (circCodes (gateType n)) i k
 
-  pub no-such-entry : wide ≤ i → 255 ≡ codeAt (codes (gateType n)) i
-  no-such-entry h =
-      let short : length (codes (gateType n)) ≤ wide
-      = leb→le (length (codes (gateType n))) wide (at-each (λ g. leb (length (codes g)) wide) gateTable fits n) in
-      sym (List·getD-eq-default (codes (gateType n)) 255 (omega arith))
+pub no-such-gate : (n i : ℕ) → length gateTable ≤ n → 255 ≡ typeCode n i
+unfolding typeCode
+no-such-gate n i h = of-no-gate (λ g. 255 ≡ codeAt (circCodes g) i) gateTable refl n h
 
--- The gates are the numbers whose type has entries.
-pub gate-has-entries : (n : ℕ) → ltb 0 (typeEntries n) ≡ isGate n
-unfolding typeEntries isGate
-gate-has-entries n = of (gateType n)
-  where
-    positive : (k : ℕ) → ltb 0 (suc k) ≡ true
-    positive k = leb·suc-suc 0 k ∙ leb·zero k
+pub no-such-entry : (n i : ℕ) → most-type ≤ i → 255 ≡ typeCode n i
+unfolding typeCode
+no-such-entry n i h =
+    let short : length (circCodes (gateType n)) ≤ most-type
+    = leb→le _ most-type (at-each (λ g. leb (length (circCodes g)) most-type) gateTable tt n) in
+    sym (List·getD-eq-default (circCodes (gateType n)) 255 (omega arith))
 
-    of : (g : Option GateType) → ltb 0 (length (circCodes g)) ≡ isSome g
-    of none = leb·suc-zero 0
-    of (some (T to U)) = positive (length (typeCodes T ++ typeCodes U))
+-- The gates are the numbers below the table's length.
+pub gate-below : (l : List GateType) (n : ℕ) → ltb n (length l) ≡ isSome (nth l n)
+gate-below [] n = leb·suc-zero n
+gate-below (g ∷ l) zero = leb·suc-suc 0 (length l) ∙ leb·zero (length l)
+gate-below (g ∷ l) (suc n) = leb·suc-suc (suc n) (length l) ∙ gate-below l n

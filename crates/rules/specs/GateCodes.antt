@@ -1,7 +1,7 @@
 -- The gates in numbers, as the code has them (01, "Forms for specific places": "a constant table of arity and type codes,
 -- looked up by reader, check and apply"). Everything is stated over `gateTable`.
-use Prim.Native.Nat.{ℕ, zero, suc}
-use mathlib.Core.List.{List, [], _∷_, map}
+use Prim.Native.Nat.{ℕ, zero, suc, _+_, _*_}
+use mathlib.Core.List.{List, [], _∷_}
 use mathlib.Core.Option.{Option, none, some}
 use lib.ListN.{length, getD}
 use Rattle.rules.specs.Types.{Wire, Circ, wires, wireCode, typeCodes}
@@ -30,12 +30,17 @@ wiresIn n = length (inputWires (gateType n))
 unfoldable pub wiresOut : ℕ → ℕ
 wiresOut n = length (outputWires (gateType n))
 
--- The type of the wire that a gate takes at a place, counted from the left, and of the wire that it makes.
-unfoldable pub wireIn : ℕ → ℕ → ℕ
-wireIn n k = codeAt (map wireCode (inputWires (gateType n))) k
+-- The types of wires in one number: digits of base 4, that of the first wire the lowest, one more than the code of its type.
+abbrev pub wiresCode : List Wire → ℕ
+wiresCode [] = 0
+wiresCode (α ∷ αs) = suc (wireCode α) + 4 * wiresCode αs
 
-unfoldable pub wireOut : ℕ → ℕ → ℕ
-wireOut n k = codeAt (map wireCode (outputWires (gateType n))) k
+-- Of the wires that a gate takes, and of those that it makes.
+unfoldable pub takenCode : ℕ → ℕ
+takenCode n = wiresCode (inputWires (gateType n))
+
+unfoldable pub madeCode : ℕ → ℕ
+madeCode n = wiresCode (outputWires (gateType n))
 
 -- How many entries the type of a gate has.
 unfoldable pub typeEntries : ℕ → ℕ

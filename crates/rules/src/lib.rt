@@ -7,9 +7,8 @@ pub mod kinds;
 pub mod sizes;
 pub mod slots;
 
-use slots::GATE_SLOTS;
 ghost use mathlib.Core.Path.{_≡_};
-ghost use Rattle.rules.specs.GateCodes.{wiresIn, wiresOut, wireIn, wireOut, typeEntries, typeCode};
+ghost use Rattle.rules.specs.GateCodes.{wiresIn, wiresOut, takenCode, madeCode, typeEntries, typeCode};
 ghost use Rattle.rules.specs.Gates.{isGate};
 
 // How many gates there are, and the most entries of a gate's type.
@@ -28,30 +27,11 @@ const WIRES_OUT: [u8; GATES] = [1, 1, 1, 1, 1, 2, 1, 2, 2];
 
 const TYPE_ENTRIES: [u8; GATES] = [3, 3, 3, 3, 3, 7, 3, 7, 7];
 
-// The types of the wires that each gate takes and makes, left to right: 0 Bit, 1 Qubit.
-const TYPES_IN: [[u8; GATE_SLOTS]; GATES] = [
-    [1, NONE, NONE],
-    [1, NONE, NONE],
-    [1, NONE, NONE],
-    [1, NONE, NONE],
-    [1, NONE, NONE],
-    [1, 1, NONE],
-    [1, NONE, NONE],
-    [0, 1, NONE],
-    [0, 1, NONE],
-];
+// The types of the wires that each gate takes and makes, in one number: digits of base 4, that of the first wire the lowest, 1 for
+// Bit and 2 for Qubit. One lookup gives all of them.
+const TAKEN_CODES: [u8; GATES] = [2, 2, 2, 2, 2, 10, 2, 9, 9];
 
-const TYPES_OUT: [[u8; GATE_SLOTS]; GATES] = [
-    [1, NONE, NONE],
-    [1, NONE, NONE],
-    [1, NONE, NONE],
-    [1, NONE, NONE],
-    [1, NONE, NONE],
-    [1, 1, NONE],
-    [0, NONE, NONE],
-    [0, 1, NONE],
-    [0, 1, NONE],
-];
+const MADE_CODES: [u8; GATES] = [2, 2, 2, 2, 2, 10, 1, 9, 9];
 
 // The type of each gate in preorder, by 01's type section: 0 Bit, 1 Qubit, 2 pair, 5 circuit.
 const TYPE_CODES: [[u8; MOST_TYPE]; GATES] = [
@@ -96,26 +76,18 @@ pub fn wires_out(n: usize) -> usize
     if n < GATES { wide(WIRES_OUT[n]) } else { 0 }
 }
 
-// The type of a wire that the gate takes, counted from the left; NONE where there is no such wire.
-pub fn wire_in(n: usize, k: usize) -> u8
-    ensures { λ r. ⌜ r ≡ wireIn n k ⌝ }
+// The types of the wires that the gate takes, in one number; 0 where there is no such gate.
+pub fn taken_code(n: usize) -> usize
+    ensures { λ r. ⌜ r ≡ takenCode n ⌝ }
 {
-    if n < GATES && k < GATE_SLOTS {
-        TYPES_IN[n][k]
-    } else {
-        NONE
-    }
+    if n < GATES { wide(TAKEN_CODES[n]) } else { 0 }
 }
 
-// The type of a wire that the gate makes, counted from the left; NONE where there is no such wire.
-pub fn wire_out(n: usize, k: usize) -> u8
-    ensures { λ r. ⌜ r ≡ wireOut n k ⌝ }
+// The types of the wires that the gate makes, in one number; 0 where there is no such gate.
+pub fn made_code(n: usize) -> usize
+    ensures { λ r. ⌜ r ≡ madeCode n ⌝ }
 {
-    if n < GATES && k < GATE_SLOTS {
-        TYPES_OUT[n][k]
-    } else {
-        NONE
-    }
+    if n < GATES { wide(MADE_CODES[n]) } else { 0 }
 }
 
 // How many entries the gate's type has, Circ from its input to its output; 0 where there is no such gate.
@@ -136,9 +108,9 @@ pub fn type_code(n: usize, i: usize) -> u8
     }
 }
 
-// Is this number a gate? The type of a gate has entries; a number behind the table has none.
+// Is this number a gate?
 pub fn is_gate(n: usize) -> bool
     ensures { λ r. ⌜ r ≡ isGate n ⌝ }
 {
-    0 < type_entries(n)
+    n < GATES
 }

@@ -41,17 +41,14 @@ pub fn take_wires(source: &[u8], from: usize, gate: usize, table: &mut [u8]) -> 
         → Holds (now (table .entry)) types gone
         → TakesAll types gone (wordsAt (now (source .entry)) from (wiresIn gate)) (inputWires (gateType gate)) (now (table .exit)) r) ⌝ }
 {
-    let count = rules::wires_in(gate);
-    let mut k: usize = 0;
-    while k < count {
-        if !take_wire(
-            table,
-            word_at(source, from + 2 * k),
-            rules::wire_in(gate, k) + 1,
-        ) {
+    let mut codes = rules::taken_code(gate);
+    let mut at = from;
+    while 0 < codes {
+        if !take_wire(table, word_at(source, at), (codes % 4) as u8) {
             return false;
         }
-        k += 1;
+        at += 2;
+        codes = codes / 4;
     }
     true
 }
@@ -68,13 +65,12 @@ pub fn take_any(table: &mut [u8], w: usize) -> bool
     take_wire(table, w, byte)
 }
 
-// One more wire, of this type: it gets the number that is given. Nothing changes where the table has no room.
-pub fn make_wire(table: &mut [u8], at: usize, code: u8)
-    requires { ⌜ code < 255 ⌝ }
-    ensures { λ r. ⌜ now (table .exit) ≡ set (now (table .entry)) at (code + 1) ⌝ }
+// One more wire, with this byte: it gets the number that is given. Nothing changes where the table has no room.
+pub fn make_wire(table: &mut [u8], at: usize, byte: u8)
+    ensures { λ r. ⌜ now (table .exit) ≡ set (now (table .entry)) at byte ⌝ }
 {
     if at < table.len() {
-        table[at] = code + 1;
+        table[at] = byte;
     }
 }
 
@@ -87,13 +83,14 @@ pub fn make_wires(gate: usize, table: &mut [u8], made: usize) -> usize
         → made + wiresOut gate ≤ length (now (table .entry))
         → MakesAll types gone (gateOutputs gate) (now (table .exit)) r) ⌝ }
 {
-    let count = rules::wires_out(gate);
-    let mut k: usize = 0;
-    while k < count {
-        make_wire(table, made + k, rules::wire_out(gate, k));
-        k += 1;
+    let mut codes = rules::made_code(gate);
+    let mut next = made;
+    while 0 < codes {
+        make_wire(table, next, (codes % 4) as u8);
+        next += 1;
+        codes = codes / 4;
     }
-    made + count
+    next
 }
 
 // The lowest of so many wires that is there: one more than its number, or 0 where none is.

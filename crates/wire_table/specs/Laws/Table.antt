@@ -1,20 +1,20 @@
 -- Laws of the table of wires: a wire is taken, a wire is made, and what is left.
-use Prim.Native.Nat.{ℕ, zero, suc, _+_, _-_, _*_, _≤_, _<_}
+use Prim.Native.Nat.{ℕ, zero, suc, _+_, _-_, _*_, _/_, _%_, _≤_, _<_}
 use native.Mathlib.Omega.{arith}
 use native.Mathlib.Decide.{decLt}
 use native.Mathlib.Nat.{add-zero}
 use mathlib.Core.Path.{_≡_, refl, sym, _∙_, ap, ap₂, subst}
 use mathlib.Core.Logic.{_≢_}
 use mathlib.Core.Bool.{Bool, true, false, _&&_, cond}
-use mathlib.Core.List.{List, [], _∷_, _++_, map, append-assoc, append-nil}
+use mathlib.Core.List.{List, [], _∷_, _++_, append-assoc, append-nil}
 use mathlib.Core.Option.{Option, none, some}
 use lib.Dec.{eqb, ltb}
-use lib.ListN.{length, getD, set, drop, length-append, length-set, List·getD-eq-default}
+use lib.ListN.{length, getD, set, length-append, length-set, List·getD-eq-default}
 use lib.Seq.{set-out, getD-set-same, getD-set-other}
 use borrow.Author.Tests.{eq-eqb, ne-eqb}
 use Rattle.rules.specs.Types.{Wire, Bit, Qubit, wireCode}
 use Rattle.rules.specs.Gates.{nth}
-use Rattle.rules.specs.GateCodes.{codeAt}
+use Rattle.rules.specs.GateCodes.{wiresCode}
 use Rattle.rules.specs.Circuits.{count, one-if, if-none}
 use Rattle.rules.specs.Laws.Wires.{Compared, equal, unequal, compared, count-append, nth-append-left, nth-append-right, nth-beyond}
 use Rattle.rules.specs.Laws.Wires.{nth-some-within, one-if-unequal}
@@ -210,33 +210,134 @@ module _ {types : List Wire} {gone : List ℕ} {αs : List Wire} {m : List ℕ} 
       let all = sym (append-nil (t .so-far)) ∙ t .joined in
       record { count-is = t .next-is ∙ ap length all; holds = subst (λ l. Holds m l gone) all (t .held) }
 
--- The types of wires that are left from one on, and the code of the first.
-pub record NextType (αs : List Wire) (k : ℕ) : Type 0 where
-  pub type-there : Wire
-  pub first : drop k αs ≡ type-there ∷ drop (k + 1) αs
-  pub code-is : codeAt (map wireCode αs) k ≡ wireCode type-there
+-- The types of wires from one on, and the first of them, by the number that has the types of all.
+pub record FirstOf (code : ℕ) (αs : List Wire) : Type 0 where
+  pub first : Wire
+  pub later : List Wire
+  pub split : αs ≡ first ∷ later
+  pub byte-is : code % 4 ≡ suc (wireCode first)
+  pub code-is : code / 4 ≡ wiresCode later
 
-pub next-type : (αs : List Wire) (k : ℕ) → k < length αs → NextType αs k
-next-type [] k h = absurd (omega arith)
-next-type (α ∷ αs) zero h = record { type-there = α; first = refl; code-is = refl }
-next-type (α ∷ αs) (suc k) h =
-    let n = next-type αs k (omega arith) in
-    let e : suc k + 1 ≡ suc (k + 1) = omega arith in
-    record {
-      type-there = n .type-there;
-      first = n .first ∙ ap (λ j. n .type-there ∷ drop j (α ∷ αs)) (sym e);
-      code-is = n .code-is;
-    }
+pub first-of : (code : ℕ) (αs : List Wire) → code ≡ wiresCode αs → 0 < code → FirstOf code αs
+first-of code [] e h = absurd (omega arith)
+first-of code (Bit ∷ αs) e h =
+    record { first = Bit; later = αs; split = refl; byte-is = omega arith; code-is = omega arith }
+first-of code (Qubit ∷ αs) e h =
+    record { first = Qubit; later = αs; split = refl; byte-is = omega arith; code-is = omega arith }
 
-pub none-left : (αs : List Wire) (k : ℕ) → length αs ≤ k → drop k αs ≡ []
-none-left [] zero h = refl
-none-left [] (suc k) h = refl
-none-left (α ∷ αs) zero h = absurd (omega arith)
-none-left (α ∷ αs) (suc k) h = none-left αs k (omega arith)
+-- Where the number is 0, none is left.
+pub none-of : (code : ℕ) (αs : List Wire) → code ≡ wiresCode αs → code ≤ 0 → αs ≡ []
+none-of code [] e h = refl
+none-of code (α ∷ αs) e h = absurd (omega arith)
 
-pub code-small : (α : Wire) → wireCode α < 255
-code-small Bit = omega arith
-code-small Qubit = omega arith
+-- Wires are left to take: words from a place on, as many as there are types.
+pub record LeftToTake (b : List ℕ) (from : ℕ) (αs : List Wire) (m₀ m : List ℕ) (at codes : ℕ) : Type 0 where
+  pub later : List Wire
+  pub codes-are : codes ≡ wiresCode later
+  pub place : at + 2 * length later ≡ from + 2 * length αs
+  pub taking : (types : List Wire) (gone : List ℕ)
+      → Holds m₀ types gone
+      → Taking types gone (wordsAt b from (length αs)) αs m (wordsAt b at (length later)) later
+
+pub all-left : (b : List ℕ) (from : ℕ) (αs : List Wire) (m : List ℕ) (codes : ℕ)
+    → codes ≡ wiresCode αs
+    → LeftToTake b from αs m m from codes
+all-left b from αs m codes e =
+    record { later = αs; codes-are = e; place = refl; taking = λ types gone h. taking-start h }
+
+module _ {b : List ℕ} {from : ℕ} {αs : List Wire} {m₀ m : List ℕ} {at codes : ℕ} (t : LeftToTake b from αs m₀ m at codes) where
+  module _ (some-left : 0 < codes) where
+    next : FirstOf codes (t .later)
+    next = first-of codes (t .later) (t .codes-are) some-left
+
+    opened : (types : List Wire) (gone : List ℕ)
+        → Holds m₀ types gone
+        → Taking types gone (wordsAt b from (length αs)) αs m
+        (wordAt b at ∷ wordsAt b (at + 2) (length (next .later))) (next .first ∷ next .later)
+    opened types gone h =
+        subst (λ l. Taking types gone (wordsAt b from (length αs)) αs m (wordsAt b at (length l)) l) (next .split)
+        (t .taking types gone h)
+
+    -- One more is there, and one is not.
+    pub taken-more : (m′ : List ℕ) (w : ℕ)
+        → w ≡ wordAt b at
+        → eqb (getD m w 0) (codes % 4) ≡ true
+        → m′ ≡ set m w 0
+        → LeftToTake b from αs m₀ m′ (at + 2) (codes / 4)
+    taken-more m′ w here e put =
+        record {
+          later = next .later;
+          codes-are = next .code-is;
+          place = omega (arith, ap length (next .split), t .place);
+          taking = λ types gone h.
+              taking-next m′ (ap₂ (λ v x. eqb (getD m v 0) x) (sym here) (sym (next .byte-is)) ∙ e)
+              (put ∙ ap (λ v. set m v 0) here) (opened types gone h);
+        }
+
+    pub taken-wrong : (m′ : List ℕ) (w : ℕ)
+        → w ≡ wordAt b at
+        → eqb (getD m w 0) (codes % 4) ≡ false
+        → (types : List Wire) (gone : List ℕ)
+        → Holds m₀ types gone
+        → TakesAll types gone (wordsAt b from (length αs)) αs m′ false
+    taken-wrong m′ w here e types gone h =
+        record {
+          answers = sym (taking-fails (ap₂ (λ v x. eqb (getD m v 0) x) (sym here) (sym (next .byte-is)) ∙ e) (opened types gone h));
+          holds = λ z. let y : _≡_ {A = ℕ} 0 1 = cc in absurd (omega arith);
+        }
+
+  -- None is left.
+  pub taken-all : codes ≤ 0
+      → (types : List Wire) (gone : List ℕ)
+      → Holds m₀ types gone
+      → TakesAll types gone (wordsAt b from (length αs)) αs m true
+  taken-all none-left types gone h =
+      taking-end
+      (subst (λ l. Taking types gone (wordsAt b from (length αs)) αs m (wordsAt b at (length l)) l)
+      (none-of codes (t .later) (t .codes-are) none-left) (t .taking types gone h))
+
+-- Wires are left to make.
+pub record LeftToMake (αs : List Wire) (m₀ m : List ℕ) (made at codes : ℕ) : Type 0 where
+  pub later : List Wire
+  pub codes-are : codes ≡ wiresCode later
+  pub place : at + length later ≡ made + length αs
+  pub making : (types : List Wire) (gone : List ℕ)
+      → Holds m₀ types gone
+      → made ≡ length types
+      → made + length αs ≤ length m₀
+      → Making types gone αs m at later
+
+pub none-made : (αs : List Wire) (m : List ℕ) (made codes : ℕ) → codes ≡ wiresCode αs → LeftToMake αs m m made made codes
+none-made αs m made codes e =
+    record { later = αs; codes-are = e; place = refl; making = λ types gone h is room. making-start is h }
+
+module _ {αs : List Wire} {m₀ m : List ℕ} {made at codes : ℕ} (t : LeftToMake αs m₀ m made at codes) where
+  pub made-more : (m′ : List ℕ)
+      → 0 < codes
+      → length m ≡ length m₀
+      → m′ ≡ set m at (codes % 4)
+      → LeftToMake αs m₀ m′ made (at + 1) (codes / 4)
+  made-more m′ some-left same put =
+      let n = first-of codes (t .later) (t .codes-are) some-left in
+      let rest = ap length (n .split) in
+      record {
+        later = n .later;
+        codes-are = n .code-is;
+        place = omega (arith, rest, t .place);
+        making = λ types gone h is room.
+            making-next m′ (codes % 4) (n .byte-is) (omega (arith, rest, t .place)) put
+            (subst (λ l. Making types gone αs m at l) (n .split) (t .making types gone h is room));
+      }
+
+  pub all-made : codes ≤ 0
+      → (types : List Wire) (gone : List ℕ)
+      → Holds m₀ types gone
+      → made ≡ length types
+      → made + length αs ≤ length m₀
+      → MakesAll types gone αs m at
+  all-made none-left types gone h is room =
+      making-end
+      (subst (λ l. Making types gone αs m at l) (none-of codes (t .later) (t .codes-are) none-left) (t .making types gone h is room))
 
 -- The words that are left from one on.
 pub next-word : (b : List ℕ) (from n k : ℕ)
@@ -245,65 +346,6 @@ pub next-word : (b : List ℕ) (from n k : ℕ)
 next-word b from n k h =
     let e : from + 2 * k + 2 ≡ from + 2 * (k + 1) = omega arith in
     ap (wordsAt b (from + 2 * k)) (one-left n k h) ∙ ap (λ j. wordAt b (from + 2 * k) ∷ wordsAt b j (n - (k + 1))) e
-
--- One more of the wires that are to be made.
-pub made-more : {types : List Wire} {gone m : List ℕ} (αs : List Wire) (made k code : ℕ) (m′ : List ℕ)
-    → k < length αs
-    → code ≡ codeAt (map wireCode αs) k
-    → made + k < length m
-    → m′ ≡ set m (made + k) (code + 1)
-    → Making types gone αs m (made + k) (drop k αs)
-    → Making types gone αs m′ (made + (k + 1)) (drop (k + 1) αs)
-made-more {types} {gone} {m} αs made k code m′ below is room put t =
-    let n = next-type αs k below in
-    let e : made + k + 1 ≡ made + (k + 1) = omega arith in
-    subst (λ j. Making types gone αs m′ j (drop (k + 1) αs)) e
-    (making-next m′ (code + 1) (omega (arith, is, n .code-is)) room put
-    (subst (λ l. Making types gone αs m (made + k) l) (n .first) t))
-
--- Of the wires that are to be taken, words from a place on, one more is there, one is not, and none is left.
-abbrev pub TakingAt : List Wire → List ℕ → List ℕ → ℕ → List Wire → ℕ → List ℕ → ℕ → Type 0
-TakingAt types gone b from αs n m k =
-    Taking types gone (wordsAt b from n) αs m (wordsAt b (from + 2 * k) (n - k)) (drop k αs)
-
-module _ {types : List Wire} {gone m : List ℕ} (b : List ℕ) (from : ℕ) (αs : List Wire) (n k : ℕ) (many : n ≡ length αs) where
-  module _ (code : ℕ) (below : k < n) (is : code ≡ codeAt (map wireCode αs) k) (t : TakingAt types gone b from αs n m k)
-    where
-      next : NextType αs k
-      next = next-type αs k (omega arith)
-
-      opened : Taking types gone (wordsAt b from n) αs m
-          (wordAt b (from + 2 * k) ∷ wordsAt b (from + 2 * (k + 1)) (n - (k + 1)))
-          (next .type-there ∷ drop (k + 1) αs)
-      opened =
-          subst (λ l. Taking types gone (wordsAt b from n) αs m l (next .type-there ∷ drop (k + 1) αs)) (next-word b from n k below)
-          (subst (λ l. Taking types gone (wordsAt b from n) αs m (wordsAt b (from + 2 * k) (n - k)) l) (next .first) t)
-
-      byte-is : code + 1 ≡ suc (wireCode (next .type-there))
-      byte-is = omega (arith, is, next .code-is)
-
-      pub taken-more : (m′ : List ℕ)
-          → eqb (getD m (wordAt b (from + 2 * k)) 0) (code + 1) ≡ true
-          → m′ ≡ set m (wordAt b (from + 2 * k)) 0
-          → TakingAt types gone b from αs n m′ (k + 1)
-      taken-more m′ e put =
-          taking-next m′ (ap (eqb (getD m (wordAt b (from + 2 * k)) 0)) (sym byte-is) ∙ e) put opened
-
-      pub taken-wrong : eqb (getD m (wordAt b (from + 2 * k)) 0) (code + 1) ≡ false
-          → (m′ : List ℕ)
-          → TakesAll types gone (wordsAt b from n) αs m′ false
-      taken-wrong e m′ =
-          record {
-            answers = sym (taking-fails (ap (eqb (getD m (wordAt b (from + 2 * k)) 0)) (sym byte-is) ∙ e) opened);
-            holds = λ z. let y : _≡_ {A = ℕ} 0 1 = cc in absurd (omega arith);
-          }
-
-  pub taken-all : n ≤ k → TakingAt types gone b from αs n m k → TakesAll types gone (wordsAt b from n) αs m true
-  taken-all past t =
-      let e : n - k ≡ 0 = omega arith in
-      taking-end
-      (subst (λ l. Taking types gone (wordsAt b from n) αs m l []) (ap (wordsAt b (from + 2 * k)) e)
-      (subst (λ l. Taking types gone (wordsAt b from n) αs m (wordsAt b (from + 2 * k) (n - k)) l) (none-left αs k (omega arith)) t))
 
 -- The lowest wire left, read in a table that has room for all wires.
 found-past : (test : ℕ → Bool) (n k : ℕ) → ((m : ℕ) → n ≤ m → test m ≡ false) → firstWhere test n k ≡ none

@@ -4,10 +4,10 @@ use native.Mathlib.Omega.{arith}
 use mathlib.Core.Path.{_≡_, refl, sym, _∙_, ap, subst}
 use mathlib.Core.List.{[]}
 use lib.ListN.{length}
-use Rattle.rules.specs.Types.{wireCode}
+use mathlib.Core.Option.{some}
 use Rattle.listing.specs.Reading.{inputCount, kindAt, inputType, inputsFrom, inputsOf}
-use Rattle.wire_table.specs.Table.{Holds}
-use Rattle.wire_table.specs.Laws.Table.{Making, making-start, making-next, making-end, code-small}
+use Rattle.wire_table.specs.Table.{wireByte}
+use Rattle.wire_table.specs.Laws.Table.{Making, making-start, making-next, making-end}
 use Rattle.listing_check.specs.Laws.Wires.{next-input}
 use borrow.Author.Needs.{needs}
 use Rattle.listing_check.proofs.wires.make_inputs.Statement.{statement}
@@ -37,11 +37,11 @@ loop-holds c =
 kind-at-requires : tie.Need-kind-at-requires Inv-loop μ-loop
 kind-at-requires c κs = search needs
 
-input-code-requires : tie.Need-input-code-requires Inv-loop μ-loop
-input-code-requires c κs = search needs
+input-byte-requires : tie.Need-input-byte-requires Inv-loop μ-loop
+input-byte-requires c κs = search needs
 
 make-wire-requires : tie.Need-make-wire-requires Inv-loop μ-loop
-make-wire-requires c κs = omega (arith, c .input-code .ensures, code-small (inputType (c .before .kind-at .result)))
+make-wire-requires c κs = search needs
 
 add-i : tie.Need-add-i Inv-loop μ-loop
 add-i c = search (needs, c .before .before .before .before .before .before .loop-test .taken)
@@ -56,10 +56,10 @@ loop-again c =
     let s = c .before .before .before .before .before .before .before .loop in
     let L = inputCount b in
     let below : s .i < L = omega (arith, c .before .before .before .before .before .before .loop-test .taken, c .before .before .before .before .before .before .before .before .input-count .ensures .0) in
-    let code : c .before .before .before .input-code .result ≡ wireCode (inputType (kindAt b (s .i))) = c .before .before .before .input-code .ensures ∙ ap (λ k. wireCode (inputType k)) (c .before .before .before .before .kind-at .ensures .0) in (
+    let byte : c .before .before .before .input-byte .result ≡ wireByte (some (inputType (kindAt b (s .i)))) = c .before .before .before .input-byte .ensures ∙ ap (λ k. wireByte (some (inputType k))) (c .before .before .before .before .kind-at .ensures .0) in (
       omega (arith, c .before .before .before .before .before .before .loop-test .taken),
       c .before .before .make-wire .kept .0 ∙ s .inv .1,
-      making-next _ (c .before .before .before .input-code .result + 1) (omega (arith, code)) (omega (arith, below, s .inv .1, c .before .before .before .before .before .before .before .before .before .before .before .pre .1 .room, c .before .before .before .before .before .before .before .before .before .before .before .pre .1 .few-inputs)) (c .before .before .make-wire .ensures)
+      making-next (c .before .before .make-wire .last .0) (c .before .before .before .input-byte .result) byte (omega (arith, below, s .inv .1, c .before .before .before .before .before .before .before .before .before .before .before .pre .1 .room, c .before .before .before .before .before .before .before .before .before .before .before .pre .1 .few-inputs)) (c .before .before .make-wire .ensures)
           (subst (λ l. Making [] [] (inputsOf b) (s .table) (s .i) l) (next-input b L (s .i) below) (s .inv .2)),
     )
 
@@ -83,7 +83,7 @@ make-inputs-spec =
     input-count-requires
     loop-holds
     kind-at-requires
-    input-code-requires
+    input-byte-requires
     make-wire-requires
     add-i
     loop-less
