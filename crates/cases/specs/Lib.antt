@@ -5,4 +5,5 @@ pub mod CopiedPairs
 pub mod Table
 pub mod Listings
 pub mod Answers
+pub mod Laws
 pub mod Theorems

@@ -1,9 +1,10 @@
 -- 02, ticket 3: listings and what a check of them answers, accepted ones and one or more for each way to be refused. 01, "Listing":
 -- sizes, a kind for each entry, two slots for each entry, outputs.
-use Prim.Native.Nat.{ℕ, zero, suc, _*_}
+use Prim.Native.Nat.{ℕ, _*_}
 use mathlib.Core.Path.{_≡_}
 use mathlib.Core.List.{List, [], _∷_, _++_, map, flatMap}
 use lib.ListN.{take, replicate}
+use Rattle.rules.specs.Circuits.{numbers}
 use Rattle.refusals.specs.declared.Refusal.the-variants.{Run}
 use Rattle.listing.specs.Listing.{bytesOf}
 use Rattle.listing_check.specs.declared.ListingAnswer.{ListingAnswer}
@@ -42,11 +43,6 @@ words ns = flatMap bytesOf ns
 abbrev pub listed : List ℕ → List ℕ → List ℕ → List ℕ → List ℕ
 listed sizes kinds slots outputs = words sizes ++ (kinds ++ (words slots ++ words outputs))
 
--- So many numbers from n on.
-abbrev pub numbersFrom : ℕ → ℕ → List ℕ
-numbersFrom n zero = []
-numbersFrom n (suc k) = n ∷ numbersFrom (suc n) k
-
 -- ACCEPTED
 -- Kinds: 128 Bit, 129 Qubit, 0 H, 1 X, 5 CNOT, 6 Meas, 7 BX. Wires: the inputs from 0 on, then what each gate makes.
 
@@ -80,7 +76,7 @@ passing =
 
 -- So many inputs, Qubits that all pass.
 abbrev pub many-inputs : ℕ → List ℕ
-many-inputs n = listed (n ∷ 0 ∷ n ∷ []) (replicate n 129) (replicate (2 * n) 65535) (numbersFrom 0 n)
+many-inputs n = listed (n ∷ 0 ∷ n ∷ []) (replicate n 129) (replicate (2 * n) 65535) (numbers 0 n)
 
 -- Every wire goes once: inputs, gates and outputs are answered.
 abbrev pub accepted-listings : List ListingCase

@@ -22,6 +22,7 @@ use Rattle.cases.specs.Case.{CheckResult, LimitedRun, limit_gives_, Case
 use Rattle.cases.specs.BaseCases.{base-cases}
 use Rattle.cases.specs.FirstFaults.{in-parts, behind-later-numbers, nested, first-fault-cases}
 use Rattle.cases.specs.CopiedPairs.{copied-pairs, linear-pairs, pair-cases}
+use Rattle.cases.specs.Laws.Tables.{both-hold}
 use Rattle.cases.specs.Table.{table}
 use Rattle.cases.specs.Answers.{checkAnswerTo, checkOutTo, RunsAnswer, Answers, AllAnswer}
 
@@ -56,20 +57,13 @@ pub linear-pairs-hold : AllHold linear-pairs
 unfolding opened
 linear-pairs-hold = refl
 
-both-hold : (cs ds : List Case) → AllHold cs → AllHold ds → AllHold (cs ++ ds)
-both-hold [] ds h k = k
-both-hold (c ∷ cs) ds h k =
-    let this : computed c ≡ c = cc in
-    let those : map computed cs ≡ cs = cc in
-    ap₂ _∷_ this (both-hold cs ds those k)
-
 pub all-hold : AllHold table
 all-hold =
-    both-hold base-cases (first-fault-cases ++ pair-cases) base-hold
-    (both-hold first-fault-cases pair-cases
-    (both-hold in-parts (behind-later-numbers ++ nested) in-parts-hold
-    (both-hold behind-later-numbers nested behind-later-hold nested-hold))
-    (both-hold copied-pairs linear-pairs copied-pairs-hold linear-pairs-hold))
+    both-hold computed base-cases (first-fault-cases ++ pair-cases) base-hold
+    (both-hold computed first-fault-cases pair-cases
+    (both-hold computed in-parts (behind-later-numbers ++ nested) in-parts-hold
+    (both-hold computed behind-later-numbers nested behind-later-hold nested-hold))
+    (both-hold computed copied-pairs linear-pairs copied-pairs-hold linear-pairs-hold))
 
 -- The answer to a judgement, by what the table has of it.
 same-answer : (j : Judged) → judgedAnswer j ≡ checkAnswerTo (checkedAs j)

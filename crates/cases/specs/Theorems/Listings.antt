@@ -17,6 +17,7 @@ use Rattle.listing_check.specs.declared.ListingAnswer.{ListingAnswer}
 use Rattle.listing_check.specs.declared.ListingAnswer.the-variants.{Refused}
 use Rattle.listing_check.specs.Answers.{listingCheckOf, most-wires, listing-lengths, listingCheckAnswer, listingCheckBytes}
 use Rattle.cases.specs.Listings.{ListingCase, judged, ListingsHold, ListingsAnswer, accepted-listings, wrong-sizes}
+use Rattle.cases.specs.Laws.Tables.{both-hold}
 use Rattle.cases.specs.Listings.{most-sizes, wrong-entries, wrong-gates, wrong-ends, two-faults, listing-cases}
 
 -- `listingCheckOf` with every definition of the check open: a line `unfolding opened` below opens them all.
@@ -54,13 +55,6 @@ pub order-holds : ListingsHold two-faults
 unfolding opened
 order-holds = refl
 
-both-hold : (cs ds : List ListingCase) → ListingsHold cs → ListingsHold ds → ListingsHold (cs ++ ds)
-both-hold [] ds h k = k
-both-hold (c ∷ cs) ds h k =
-    let this : judged c ≡ c = cc in
-    let those : map judged cs ≡ cs = cc in
-    ap₂ _∷_ this (both-hold cs ds those k)
-
 -- The parts of the table from one on.
 abbrev from-ends : List ListingCase
 from-ends = wrong-ends ++ two-faults
@@ -76,12 +70,12 @@ from-most = most-sizes ++ from-entries
 
 pub listings-hold : ListingsHold listing-cases
 listings-hold =
-    both-hold accepted-listings (wrong-sizes ++ from-most) accepted-hold
-    (both-hold wrong-sizes from-most sizes-hold
-    (both-hold most-sizes from-entries most-hold
-    (both-hold wrong-entries from-gates entries-hold
-    (both-hold wrong-gates from-ends gates-hold
-    (both-hold wrong-ends two-faults ends-hold order-holds)))))
+    both-hold judged accepted-listings (wrong-sizes ++ from-most) accepted-hold
+    (both-hold judged wrong-sizes from-most sizes-hold
+    (both-hold judged most-sizes from-entries most-hold
+    (both-hold judged wrong-entries from-gates entries-hold
+    (both-hold judged wrong-gates from-ends gates-hold
+    (both-hold judged wrong-ends two-faults ends-hold order-holds)))))
 
 module _ (work : List ℕ) (room : most-wires ≤ length work) where
   long : tooShort listing-lengths (work ∷ []) ≡ false
