@@ -16,18 +16,17 @@ use wire_table::make_wires;
 use wire_table::take_any;
 use wire_table::take_wires;
 use words::word_at;
-ghost use Prim.Native.Nat.{ℕ, _≤_, _<_};
+ghost use Prim.Native.Nat.{ℕ, _<_};
 ghost use mathlib.Core.Path.{_≡_};
 ghost use mathlib.Core.List.{List, [], _++_};
 ghost use mathlib.Core.Option.{some};
 ghost use lib.ListN.{length};
 ghost use Rattle.rules.specs.Types.{Wire};
-ghost use Rattle.rules.specs.Circuits.{outputs, taken};
-ghost use Rattle.rules.specs.Sizes.{most-labels, most-gates};
-ghost use Rattle.listing.specs.Reading.{inputCount, gateCount, inputType, inputsOf, gatesOf, outputsOf};
-ghost use Rattle.wire_table.specs.Wires.{firstWrongGate, maker, brokenAt};
+ghost use Rattle.rules.specs.Circuits.{outputs};
+ghost use Rattle.listing.specs.Reading.{inputType, inputsOf, gatesOf, outputsOf};
+ghost use Rattle.wire_table.specs.Wires.{maker, brokenAt};
 ghost use Rattle.wire_table.specs.Table.{wireByte, Holds};
-ghost use Rattle.listing_check.specs.Answers.{wiresJudged, most-wires};
+ghost use Rattle.listing_check.specs.Answers.{wiresJudged};
 ghost use Rattle.listing_check.specs.Wires.{GatesRead, OutputsRead, Whole};
 
 // The byte of an input in the table, by its kind.

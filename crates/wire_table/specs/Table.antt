@@ -1,13 +1,11 @@
 -- The table of a circuit's wires in lent memory: one byte a wire.
-use Prim.Native.Nat.{ℕ, zero, suc, _+_, _≤_, _<_}
+use Prim.Native.Nat.{ℕ, suc, _+_, _≤_, _<_}
 use mathlib.Core.Path.{_≡_}
-use mathlib.Core.Bool.{Bool, true, cond}
-use mathlib.Core.List.{List, _∷_, _++_}
+use mathlib.Core.Bool.{Bool, true}
+use mathlib.Core.List.{List, _++_}
 use mathlib.Core.Option.{Option, none, some}
 use lib.ListN.{length, getD}
 use Rattle.rules.specs.Types.{Wire, wireCode}
-use Rattle.rules.specs.Gates.{gateType, gateOutputs}
-use Rattle.rules.specs.GateCodes.{inputWires}
 use Rattle.rules.specs.Circuits.{count}
 use Rattle.wire_table.specs.Wires.{there, allThere}
 

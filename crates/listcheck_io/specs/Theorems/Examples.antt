@@ -1,6 +1,6 @@
 -- What is printed, by computation: for c2's listing, for six zero bytes, for nothing, and for c2's listing without its output.
 use mathlib.Core.Path.{_≡_, refl}
-use mathlib.Core.List.{List, [], _∷_, flatMap}
+use mathlib.Core.List.{List, [], _∷_}
 use Prim.Native.Nat.{ℕ}
 use Rattle.rules.specs.Gates.{isGate}
 use Rattle.rules.specs.GateCodes.{wiresIn}

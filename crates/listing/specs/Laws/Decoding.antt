@@ -29,7 +29,7 @@ use Rattle.listing.specs.Laws.ReadBack.{input-kind-is, input-is, gate-is
 -- of an input and in those that a gate does not take.
 pub record InForm (b : List ℕ) : Type 0 where
   pub whole : length b ≡ listingLength (inputCount b) (gateCount b) (outputCount b)
-  pub input-kinds : (i : ℕ) → i < inputCount b → (kindAt b i ≡ 128) ⊎ (kindAt b i ≡ 129)
+  pub input-kinds : (i : ℕ) → i < inputCount b → (kindAt b i ≡ inputKind Bit) ⊎ (kindAt b i ≡ inputKind Qubit)
   pub input-slots : (i k : ℕ) → i < inputCount b → k < entry-slots → slotAt b i k ≡ no-wire
   pub gate-kinds : (j : ℕ) → j < gateCount b → IsTrue (isGate (kindAt b (inputCount b + j)))
   pub unused-slots : (j k : ℕ)
@@ -181,7 +181,7 @@ flat-flat g f [] = refl
 flat-flat g f (x ∷ xs) = ap (λ l. flatMap g (f x) ++ l) (flat-flat g f xs) ∙ sym (flat-append g (f x) (flatMap f xs))
 
 -- The kind of an input by its type.
-kind-of-type : (kind : ℕ) → (kind ≡ 128) ⊎ (kind ≡ 129) → inputKind (inputType kind) ≡ kind
+kind-of-type : (kind : ℕ) → (kind ≡ inputKind Bit) ⊎ (kind ≡ inputKind Qubit) → inputKind (inputType kind) ≡ kind
 kind-of-type kind (inl e) = ap (λ k. inputKind (inputType k)) e ∙ sym e
 kind-of-type kind (inr e) = ap (λ k. inputKind (inputType k)) e ∙ sym e
 
@@ -317,7 +317,7 @@ gate-of-parts : (g : Gate) → (gateKind g on wiresOf g) ≡ g
 gate-of-parts (n on ws) = refl
 
 -- The kind of an input is one of the two.
-input-kind-known : (α : Wire) → (inputKind α ≡ 128) ⊎ (inputKind α ≡ 129)
+input-kind-known : (α : Wire) → (inputKind α ≡ inputKind Bit) ⊎ (inputKind α ≡ inputKind Qubit)
 input-kind-known Bit = inl refl
 input-kind-known Qubit = inr refl
 
@@ -371,7 +371,7 @@ module _ (I : List Wire) (gs : List Gate) (outs b : List ℕ) (same : b ≡ list
             ∙ ap₂ (λ l m. listingLength l m (length outs)) (sym inputs) (sym gates)
             ∙ ap (listingLength (inputCount b) (gateCount b)) (sym outputs);
         input-kinds = λ i below.
-            subst (λ k. (k ≡ 128) ⊎ (k ≡ 129)) (sym (input-kind-is I gs outs [] b nothing-behind i (omega (arith, inputs))))
+            subst (λ k. (k ≡ inputKind Bit) ⊎ (k ≡ inputKind Qubit)) (sym (input-kind-is I gs outs [] b nothing-behind i (omega (arith, inputs))))
             (input-kind-known (getD I i Bit));
         input-slots = λ i k below inside. input-slot-is I gs outs [] b nothing-behind i k (omega (arith, inputs)) inside;
         gate-kinds = λ j below.

@@ -3,14 +3,12 @@ use Prim.Native.Nat.{ℕ, suc, _+_, _*_, _≤_, _<_}
 use native.Mathlib.Omega.{arith}
 use native.Mathlib.Decide.{decLt}
 use mathlib.Core.Path.{_≡_, refl, sym, _∙_, ap, ap₂, subst}
-use mathlib.Core.Bool.{Bool}
 use mathlib.Core.List.{List, [], _∷_, _++_, map, flatMap, append-assoc, reverse-cons}
-use mathlib.Core.Option.{Option, none, some}
-use lib.Dec.{leb, leb→le}
+use mathlib.Core.Option.{some}
 use lib.ListN.{length, getD, length-append, length-map, List·getD-append}
 use lib.Seq.{getD-append-add, getD-at}
 use Rattle.rules.specs.Types.{Wire, Bit, Qubit, Ty, wires}
-use Rattle.rules.specs.Gates.{GateType, _to_, gateTable, gateType}
+use Rattle.rules.specs.Gates.{_to_, gateType}
 use Rattle.rules.specs.GateCodes.{inputWires, wiresIn, wiresOut, wiresOf}
 use Rattle.rules.specs.Terms.{Gate, _on_}
 use Rattle.rules.specs.Slots.{no-wire}

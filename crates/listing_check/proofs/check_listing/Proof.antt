@@ -1,6 +1,5 @@
 -- `listing_check::check_listing` meets its contract: 19, or the core and then the clearing. Assumes nothing.
-use native.Mathlib.Omega.{arith}
-use mathlib.Core.Path.{_≡_, sym, _∙_}
+use mathlib.Core.Path.{_∙_}
 use Rattle.listing_check.specs.Laws.Answering.{short-answered, short-untouched, long-cleared}
 use Rattle.listing_check.specs.Theorems.Listings.{listing-means}
 use borrow.Author.Needs.{needs}

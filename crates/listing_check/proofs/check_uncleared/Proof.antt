@@ -1,7 +1,6 @@
 -- `listing_check::check_uncleared` meets its contract: the sizes, the entries, the wires. Assumes nothing.
 use native.Mathlib.Omega.{arith}
-use mathlib.Core.Path.{_≡_, sym, _∙_}
-use mathlib.Core.Bool.{false}
+use mathlib.Core.Path.{sym, _∙_}
 use lib.ListN.{length}
 use Rattle.listing_check.specs.Laws.Answering.{cleared-table, sizes-fit, short-answered, sizes-answered, entry-answered, wires-answered}
 use borrow.Author.Needs.{needs}

@@ -2,12 +2,12 @@
 use Prim.Native.Nat.{ℕ, _-_, _≤_, _<_}
 use native.Mathlib.Omega.{arith}
 use native.Mathlib.Decide.{decLt}
-use mathlib.Core.Path.{_≡_, refl, sym, _∙_, ap}
-use mathlib.Core.Bool.{Bool, true, false, cond}
+use mathlib.Core.Path.{_≡_, sym, _∙_, ap}
+use mathlib.Core.Bool.{true, false, cond}
 use mathlib.Core.List.{List, [], _∷_}
 use mathlib.Core.Option.{Option, none, some}
 use lib.ListN.{length, getD, replicate, length-replicate, getD-replicate, List·getD-eq-default}
-use Rattle.lent.specs.Lent.{tooShort, zeroed}
+use Rattle.lent.specs.Lent.{tooShort}
 use Rattle.lent.specs.Laws.Lent.{below-here, below-later, short-memory, long-memory}
 use Rattle.refusals.specs.declared.Refusal.the-variants.{Run}
 use Rattle.listing.specs.Reading.{entryCount, inputsOf, gatesOf, outputsOf}
@@ -18,7 +18,7 @@ use Rattle.listing_check.specs.declared.ListingAnswer.{ListingAnswer}
 use Rattle.listing_check.specs.declared.ListingAnswer.the-variants.{Refused}
 use Rattle.listing_check.specs.Answers.{sizesWrong, entryWrong, entriesJudged, wiresJudged, listingCheckOf, most-wires}
 use Rattle.listing_check.specs.Answers.{listing-lengths, listingCheckAnswer, listingCheckBytes}
-use Rattle.listing_check.specs.Meaning.{SizesWrong, many-inputs, many-gates}
+use Rattle.listing_check.specs.Meaning.{many-inputs, many-gates}
 use Rattle.listing_check.specs.Wires.{Whole, refusedWith}
 use Rattle.listing_check.specs.Laws.Judging.{at-most, sizes-tested-right}
 use Rattle.listing_check.specs.Laws.Wires.{found-some, found-none}

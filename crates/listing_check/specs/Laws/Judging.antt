@@ -280,7 +280,7 @@ form-right : (b : List ℕ) → InForm b → NoSuch (WrongEntry b)
 form-right b form i h = of-wrong (h .0) (h .1)
   where
     of-kind : (kindAt b i ≡ inputKind Bit → ⊥) → (kindAt b i ≡ inputKind Qubit → ⊥)
-        → (kindAt b i ≡ 128) ⊎ (kindAt b i ≡ 129) → ⊥
+        → (kindAt b i ≡ inputKind Bit) ⊎ (kindAt b i ≡ inputKind Qubit) → ⊥
     of-kind f g (inl e) = f e
     of-kind f g (inr e) = g e
 
@@ -311,10 +311,10 @@ right-form b sizes entries =
       whole = equal-if (length b) (listingLength (inputCount b) (gateCount b) (outputCount b)) (λ f. sizes (other-length f));
       input-kinds = λ i below.
           of-kind i below
-          (eqb (kindAt b i) 128)
-          (eqb (kindAt b i) 129)
-          (equal-told (kindAt b i) 128)
-          (equal-told (kindAt b i) 129);
+          (eqb (kindAt b i) (inputKind Bit))
+          (eqb (kindAt b i) (inputKind Qubit))
+          (equal-told (kindAt b i) (inputKind Bit))
+          (equal-told (kindAt b i) (inputKind Qubit));
       input-slots = λ i k below inside.
           equal-if (slotAt b i k) no-wire
           (λ f. entries i (
@@ -330,8 +330,8 @@ right-form b sizes entries =
           ));
     }
   where
-    of-kind : (i : ℕ) → i < inputCount b → (s t : Bool) → Says (kindAt b i ≡ 128) s → Says (kindAt b i ≡ 129) t
-        → (kindAt b i ≡ 128) ⊎ (kindAt b i ≡ 129)
+    of-kind : (i : ℕ) → i < inputCount b → (s t : Bool) → Says (kindAt b i ≡ inputKind Bit) s → Says (kindAt b i ≡ inputKind Qubit) t
+        → (kindAt b i ≡ inputKind Bit) ⊎ (kindAt b i ≡ inputKind Qubit)
     of-kind i below _ t (says-yes e) q = inl e
     of-kind i below _ _ (says-no f) (says-yes e) = inr e
     of-kind i below _ _ (says-no f) (says-no g) = absurd (entries i (omega arith, input-kind below f g))

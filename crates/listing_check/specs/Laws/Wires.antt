@@ -13,19 +13,18 @@ use Rattle.rules.specs.Gates.{gateType, gateOutputs}
 use Rattle.rules.specs.GateCodes.{inputWires, wiresIn, wiresOut}
 use Rattle.rules.specs.Terms.{Gate}
 use Rattle.rules.specs.Circuits.{outputs, taken, count}
-use Rattle.rules.specs.Sizes.{most-labels, most-gates}
 use Rattle.rules.specs.Laws.Wires.{count-append}
-use Rattle.words.specs.Numbers.{wordAt, wordsAt}
+use Rattle.words.specs.Numbers.{wordsAt}
 use Rattle.words.specs.Laws.Numbers.{one-left}
 use Rattle.listing.specs.Listing.{entry-slots}
-use Rattle.listing.specs.Reading.{inputCount, gateCount, outputCount, kindAt, slotsFrom, inputType, inputsFrom, inputsOf, gateOfEntry}
+use Rattle.listing.specs.Reading.{inputCount, gateCount, outputCount, kindAt, slotsFrom, inputType, inputsFrom, inputsOf}
 use Rattle.listing.specs.Reading.{firstGates, gatesOf, outputsOf}
 use Rattle.listing.specs.Laws.ReadBack.{made-fit}
 use Rattle.listing.specs.Laws.Decoding.{length-inputs, length-first}
-use Rattle.wire_table.specs.Wires.{there, isThere, allThere, or-else, firstWrongGate, firstWrongOutput, firstWhere, lowestLeft}
+use Rattle.wire_table.specs.Wires.{there, isThere, or-else, firstWrongGate, firstWrongOutput, firstWhere, lowestLeft}
 use Rattle.wire_table.specs.Wires.{placed, maker, brokenAt}
 use Rattle.wire_table.specs.Table.{Holds, oneMore, TakesAll, MakesAll}
-use Rattle.wire_table.specs.Laws.Table.{byte-there, taken-out, same-gone, lowest-read, next-word}
+use Rattle.wire_table.specs.Laws.Table.{byte-there, taken-out, same-gone, lowest-read}
 use Rattle.listing_check.specs.declared.ListingAnswer.{ListingAnswer}
 use Rattle.listing_check.specs.declared.ListingAnswer.the-variants.{Accepted}
 use Rattle.listing_check.specs.Answers.{wiresJudged, most-wires}

@@ -2,22 +2,17 @@
 use Prim.Native.Nat.{ℕ, zero, suc, _+_, _≤_, _<_}
 use native.Mathlib.Omega.{arith}
 use mathlib.Core.Path.{_≡_, refl, sym, _∙_, ap, ap₂}
-use mathlib.Core.Bool.{Bool, _&&_}
 use mathlib.Core.List.{List, [], _∷_, _++_, map}
-use mathlib.Core.Option.{Option, none, some}
-use lib.Dec.{T as IsTrue, leb, leb→le}
 use lib.ListN.{length, getD, take, length-take, length-append, List·getD-eq-default, length-map}
 use lib.Seq.{getD-take}
-use Rattle.rules.specs.Types.{wires}
-use Rattle.rules.specs.Gates.{GateType, _to_, gateTable, gateType, outputWires, gateOutputs}
-use Rattle.rules.specs.GateCodes.{wiresIn, wiresOut, inputWires, wiresOf}
+use Rattle.rules.specs.Gates.{gateOutputs}
+use Rattle.rules.specs.GateCodes.{wiresIn, wiresOut, wiresOf}
 use Rattle.rules.specs.Terms.{Gate, _on_}
 use Rattle.rules.specs.Circuits.{outputs, rename, renameGate}
 use Rattle.rules.specs.Laws.KnownGates.{few-wires}
 use Rattle.words.specs.Quadwords.{Quadword, quadword, quadwordAt, wordIn}
 use Rattle.machine_circuits.specs.Layout.{gateOf, slotOf, gateWords, gatesIn}
 use Rattle.rules.specs.Slots.{no-wire, gate-slots}
-use Rattle.rules.specs.Laws.Booleans.{and-left, and-right}
 
 -- No gate takes or makes more wires than a quadword has slots.
 pub few-in : (n : ℕ) → wiresIn n ≤ gate-slots

@@ -1,5 +1,4 @@
 -- `wire_table::make_wires` meets its contract. The loop's invariant: the table has the wires made so far, and the others are left.
-use Prim.Native.Nat.{_+_, _*_, _≤_, _<_}
 use native.Mathlib.Omega.{arith}
 use mathlib.Core.Path.{_≡_, refl, _∙_}
 use lib.ListN.{length}

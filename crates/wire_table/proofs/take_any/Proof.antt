@@ -1,10 +1,8 @@
 -- `wire_table::take_any` meets its contract: the wire is taken with the byte that it has.
 use native.Mathlib.Omega.{arith}
-use Prim.Native.Nat.{_<_}
-use mathlib.Core.Path.{_≡_, refl, sym, _∙_, ap}
-use mathlib.Core.Bool.{true, false, cond}
-use lib.Dec.{eqb, ltb}
-use lib.ListN.{getD, set}
+use mathlib.Core.Path.{_≡_, refl, sym, _∙_}
+use mathlib.Core.Bool.{true}
+use lib.ListN.{getD}
 use borrow.Author.Tests.{lt-ltb, le-ltb, eq-eqb}
 use borrow.Author.Needs.{needs}
 use Rattle.wire_table.proofs.take_any.Statement.{statement}

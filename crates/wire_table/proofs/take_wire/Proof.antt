@@ -1,12 +1,8 @@
 -- `wire_table::take_wire` meets its contract. Past the end stands 0, and setting it changes nothing.
 use native.Mathlib.Omega.{arith}
-use mathlib.Core.Path.{_≡_, refl, sym, _∙_, ap, ap₂}
-use mathlib.Core.Bool.{Bool, true, false, cond}
-use mathlib.Core.List.{List}
-use Prim.Native.Nat.{ℕ, _≤_}
+use mathlib.Core.Path.{refl, sym, _∙_, ap}
 use lib.Dec.{eqb}
-use lib.ListN.{length, set, getD, List·getD-eq-default}
-use lib.Seq.{set-out}
+use lib.ListN.{getD, List·getD-eq-default}
 use borrow.Author.Tests.{eq-eqb, ne-eqb}
 use Rattle.wire_table.specs.Laws.Table.{past-same, eqb-swap}
 use borrow.Author.Needs.{needs}

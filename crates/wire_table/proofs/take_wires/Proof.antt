@@ -1,5 +1,4 @@
 -- `wire_table::take_wires` meets its contract. The loop's invariant: the wires so far were there and are gone, and the others are left.
-use Prim.Native.Nat.{_+_, _*_, _≤_, _<_, _%_}
 use native.Mathlib.Omega.{arith}
 use mathlib.Core.Path.{_≡_, refl, sym, _∙_, ap}
 use mathlib.Core.Bool.{cond}

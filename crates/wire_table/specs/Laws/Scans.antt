@@ -1,7 +1,7 @@
 -- Laws of a scan for the first number that passes a test: where it stands, where it does not, and at the end.
 use Prim.Native.Nat.{ℕ, suc, _+_, _-_, _≤_, _<_}
 use native.Mathlib.Omega.{arith}
-use mathlib.Core.Path.{_≡_, refl, _∙_, ap, ap₂}
+use mathlib.Core.Path.{_≡_, _∙_, ap}
 use mathlib.Core.Bool.{Bool, true, false, cond}
 use mathlib.Core.Option.{none, some}
 use Rattle.words.specs.Laws.Numbers.{one-left}

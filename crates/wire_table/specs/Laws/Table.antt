@@ -2,9 +2,7 @@
 use Prim.Native.Nat.{ℕ, zero, suc, _+_, _-_, _*_, _/_, _%_, _≤_, _<_}
 use native.Mathlib.Omega.{arith}
 use native.Mathlib.Decide.{decLt}
-use native.Mathlib.Nat.{add-zero}
 use mathlib.Core.Path.{_≡_, refl, sym, _∙_, ap, ap₂, subst}
-use mathlib.Core.Logic.{_≢_}
 use mathlib.Core.Bool.{Bool, true, false, _&&_, cond}
 use mathlib.Core.List.{List, [], _∷_, _++_, append-assoc, append-nil}
 use mathlib.Core.Option.{Option, none, some}
@@ -21,7 +19,7 @@ use Rattle.rules.specs.Laws.Wires.{nth-some-within, one-if-unequal}
 use Rattle.words.specs.Numbers.{wordAt, wordsAt}
 use Rattle.words.specs.Laws.Numbers.{one-left}
 use Rattle.wire_table.specs.Wires.{there, isThere, isOfType, allThere, firstWhere, lowestLeft}
-use Rattle.wire_table.specs.Table.{wireByte, Holds, oneMore, TakesAll, MakesAll}
+use Rattle.wire_table.specs.Table.{wireByte, Holds, TakesAll, MakesAll}
 
 -- What a byte of the table says of its wire.
 pub byte-of-type : (α : Wire) (o : Option Wire) → eqb (wireByte o) (suc (wireCode α)) ≡ isOfType α o

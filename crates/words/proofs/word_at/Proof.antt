@@ -1,5 +1,5 @@
 -- `words::word_at` meets its contract. Where the word is not whole, its high byte is past the end, and 0.
-use Prim.Native.Nat.{_+_, _≤_}
+use Prim.Native.Nat.{_+_}
 use native.Mathlib.Omega.{arith}
 use mathlib.Core.Path.{_≡_, sym, _∙_}
 use lib.ListN.{length, getD}

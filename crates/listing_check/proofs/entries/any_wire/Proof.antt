@@ -1,8 +1,8 @@
 -- `listing_check::entries::any_wire` meets its contract. The loop's invariant: a wire is in a slot from k on exactly if it is in one
 -- from this slot on.
-use Prim.Native.Nat.{_+_, _-_, _*_, _≤_}
+use Prim.Native.Nat.{_-_, _≤_}
 use native.Mathlib.Omega.{arith}
-use mathlib.Core.Path.{_≡_, refl, sym, _∙_, ap}
+use mathlib.Core.Path.{_≡_, refl, sym, _∙_}
 use Rattle.listing.specs.Listing.{entry-slots}
 use Rattle.listing_check.specs.Answers.{anyWire}
 use Rattle.listing_check.specs.Laws.Entries.{wire-here, wire-later, wire-nowhere}

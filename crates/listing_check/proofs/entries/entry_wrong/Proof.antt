@@ -1,7 +1,7 @@
 -- `listing_check::entries::entry_wrong` meets its contract: by the kind, and by the slots that the entry does not use.
 use Prim.Native.Nat.{_-_}
 use native.Mathlib.Omega.{arith}
-use mathlib.Core.Path.{_≡_, sym, _∙_, ap, ap₂}
+use mathlib.Core.Path.{sym, _∙_, ap, ap₂}
 use mathlib.Core.Bool.{_||_}
 use lib.Dec.{eqb}
 use Rattle.rules.specs.Types.{Bit, Qubit}

@@ -1,12 +1,4 @@
 -- `listing_check::entries::sizes_wrong` meets its contract: it is the test itself, with the sizes that were read.
-use mathlib.Core.Path.{_≡_, refl, sym, _∙_, ap, ap₂}
-use mathlib.Core.Bool.{not, _||_}
-use lib.Dec.{eqb, ltb}
-use lib.ListN.{length}
-use Rattle.rules.specs.Sizes.{most-labels, most-gates}
-use Rattle.listing.specs.Listing.{listingLength, most-outputs}
-use Rattle.listing.specs.Reading.{inputCount, gateCount}
-use Rattle.listing_check.specs.Answers.{sizesWrong}
 use Rattle.listing_check.specs.Laws.Entries.{sizes-tested}
 use borrow.Author.Needs.{needs}
 use Rattle.listing_check.proofs.entries.sizes_wrong.Statement.{statement}

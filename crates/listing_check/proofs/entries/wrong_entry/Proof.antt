@@ -1,8 +1,8 @@
 -- `listing_check::entries::wrong_entry` meets its contract. The loop's invariant: the first wrong entry is the first from entry i on.
-use Prim.Native.Nat.{_+_, _-_, _*_, _≤_}
+use Prim.Native.Nat.{_-_, _≤_}
 use native.Mathlib.Omega.{arith}
-use mathlib.Core.Path.{_≡_, refl, sym, _∙_, ap}
-use Rattle.listing.specs.Reading.{inputCount, entryCount, slotsFrom}
+use mathlib.Core.Path.{_≡_, sym, _∙_, ap}
+use Rattle.listing.specs.Reading.{entryCount, slotsFrom}
 use Rattle.wire_table.specs.Wires.{firstWhere}
 use Rattle.wire_table.specs.Table.{oneMore}
 use Rattle.wire_table.specs.Laws.Scans.{found-start, found-here, found-later, found-nowhere}

@@ -1,12 +1,12 @@
 -- `listing_check::wires::check_wires` meets its contract: the gates, the outputs, and what is left, one after the other.
-use Prim.Native.Nat.{_+_, _-_, _<_}
+use Prim.Native.Nat.{_+_, _-_}
 use native.Mathlib.Omega.{arith}
-use mathlib.Core.Path.{_≡_, sym, _∙_, ap}
+use mathlib.Core.Path.{_≡_, _∙_}
 use mathlib.Core.List.{_++_}
 use Rattle.rules.specs.Circuits.{outputs, taken}
 use Rattle.listing.specs.Reading.{inputsOf, gatesOf, outputsOf, outputsFrom, outputCount}
 use Rattle.listing.specs.Laws.Decoding.{length-words}
-use Rattle.listing_check.specs.Wires.{Whole, OutputsRead}
+use Rattle.listing_check.specs.Wires.{OutputsRead}
 use Rattle.listing_check.specs.Laws.Wires.{whole-kept, gate-answered, output-answered, left-made, left-answered, all-answered}
 use borrow.Author.Needs.{needs}
 use Rattle.listing_check.proofs.wires.check_wires.Statement.{statement}

@@ -1,12 +1,11 @@
 -- `listing_check::wires::input_byte` meets its contract.
-use mathlib.Core.Path.{_≡_, sym, ap}
+use mathlib.Core.Path.{sym, ap}
 use mathlib.Core.Bool.{cond}
 use mathlib.Core.Option.{some}
 use Rattle.rules.specs.Types.{Bit, Qubit}
 use borrow.Author.Tests.{eq-eqb, ne-eqb}
 use Rattle.listing.specs.Listing.{inputKind}
 use Rattle.wire_table.specs.Table.{wireByte}
-use borrow.Author.Needs.{needs}
 use Rattle.listing_check.proofs.wires.input_byte.Statement.{statement}
 use Rattle.listing_check.proofs.wires.input_byte.Tie as tie
 

@@ -1,7 +1,7 @@
 -- `listing_check::wires::make_inputs` meets its contract. The loop's invariant: the first inputs are made, the others are left.
-use Prim.Native.Nat.{_+_, _-_, _≤_, _<_}
+use Prim.Native.Nat.{_-_, _≤_, _<_}
 use native.Mathlib.Omega.{arith}
-use mathlib.Core.Path.{_≡_, refl, sym, _∙_, ap, subst}
+use mathlib.Core.Path.{_≡_, refl, _∙_, ap, subst}
 use mathlib.Core.List.{[]}
 use lib.ListN.{length}
 use mathlib.Core.Option.{some}

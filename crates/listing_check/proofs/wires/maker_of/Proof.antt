@@ -1,7 +1,7 @@
 -- `listing_check::wires::maker_of` meets its contract. The loop's invariant: the inputs and the first gates did not make the wire.
-use Prim.Native.Nat.{_+_, _-_, _*_, _≤_, _<_}
+use Prim.Native.Nat.{_+_, _-_, _*_, _≤_}
 use native.Mathlib.Omega.{arith}
-use mathlib.Core.Path.{_≡_, refl, sym, _∙_, ap}
+use mathlib.Core.Path.{_≡_, _∙_, ap}
 use mathlib.Core.List.{[], _++_}
 use lib.ListN.{length, length-append}
 use Rattle.rules.specs.Slots.{gate-slots}

@@ -1,17 +1,16 @@
 -- `listing_check::wires::wrong_gate` meets its contract. The loop's invariant: the first gates took their wires rightly, and the table
 -- has the wires that are there after them.
-use Prim.Native.Nat.{_+_, _-_, _*_, _≤_, _<_}
+use Prim.Native.Nat.{_+_, _-_, _≤_, _<_}
 use native.Mathlib.Omega.{arith}
-use mathlib.Core.Path.{_≡_, refl, sym, _∙_, ap, subst}
-use mathlib.Core.List.{List, _++_}
+use mathlib.Core.Path.{_≡_, refl, _∙_, ap, subst}
+use mathlib.Core.List.{_++_}
 use lib.ListN.{length}
 use borrow.Author.Tests.{not-true, not-false}
 use Rattle.rules.specs.Gates.{gateType, gateOutputs}
 use Rattle.rules.specs.GateCodes.{inputWires, wiresIn, wiresOut}
 use Rattle.rules.specs.Circuits.{outputs, taken}
 use Rattle.words.specs.Numbers.{wordsAt}
-use Rattle.listing.specs.Listing.{entry-slots}
-use Rattle.listing.specs.Reading.{inputCount, gateCount, kindAt, slotsFrom, entryCount, inputsOf, firstGates}
+use Rattle.listing.specs.Reading.{inputCount, gateCount, kindAt, slotsFrom, inputsOf, firstGates}
 use Rattle.wire_table.specs.Table.{TakesAll, MakesAll}
 use Rattle.listing_check.specs.Laws.Wires.{GatesSoFar, GateTakes, gates-start, gate-right, gate-wrong, gates-end, few-made, one-more-gate}
 use borrow.Author.Needs.{needs}

@@ -14,7 +14,6 @@ use Rattle.listing.specs.Reading.{outputCount, outputsFrom, outputsOf}
 use Rattle.listing.specs.Laws.Decoding.{length-words}
 use Rattle.wire_table.specs.Table.{Holds}
 use Rattle.wire_table.specs.Laws.Table.{next-word}
-use Rattle.listing_check.specs.Wires.{OutputsRead}
 use Rattle.listing_check.specs.Laws.Wires.{Leaving, leaving-start, leaving-next, leaving-wrong, leaving-end}
 use borrow.Author.Needs.{needs}
 use Rattle.listing_check.proofs.wires.wrong_output.Statement.{statement}
