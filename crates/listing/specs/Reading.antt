@@ -5,7 +5,7 @@ use mathlib.Core.List.{List, [], _∷_}
 use lib.Dec.{eqb}
 use lib.ListN.{getD}
 use Rattle.rules.specs.Types.{Wire, Bit, Qubit}
-use Rattle.rules.specs.GateCodes.{wiresIn, wiresOut}
+use Rattle.rules.specs.Gates.{wiresIn}
 use Rattle.rules.specs.Terms.{Gate, _on_}
 use Rattle.listing.specs.Listing.{inputKind, entry-slots}
 use Rattle.words.specs.Numbers.{wordAt, wordsAt}
@@ -65,8 +65,3 @@ gatesOf b = firstGates b (gateCount b)
 -- "then the O output wires".
 abbrev pub outputsOf : List ℕ → List ℕ
 outputsOf b = wordsAt b (outputsFrom b) (outputCount b)
-
--- How many wires the inputs and the first gates make.
-abbrev pub madeBefore : List ℕ → ℕ → ℕ
-madeBefore b zero = inputCount b
-madeBefore b (suc gate) = madeBefore b gate + wiresOut (kindAt b (inputCount b + gate))

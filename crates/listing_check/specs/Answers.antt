@@ -7,8 +7,7 @@ use mathlib.Core.Option.{Option, none, some}
 use lib.Dec.{eqb, ltb}
 use lib.ListN.{length}
 use Rattle.rules.specs.Types.{Bit, Qubit}
-use Rattle.rules.specs.Gates.{isGate}
-use Rattle.rules.specs.GateCodes.{wiresIn}
+use Rattle.rules.specs.Gates.{isGate, wiresIn}
 use Rattle.rules.specs.Slots.{no-wire}
 use Rattle.rules.specs.Sizes.{most-labels, most-gates}
 use Rattle.lent.specs.Lent.{tooShort, memoryLeft}

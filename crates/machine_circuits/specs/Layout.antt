@@ -4,7 +4,7 @@ use mathlib.Core.Path.{_≡_}
 use mathlib.Core.List.{List, [], _∷_, _++_}
 use lib.ListN.{length, getD, take}
 use Rattle.rules.specs.Types.{Ty, most-entries}
-use Rattle.rules.specs.GateCodes.{wiresIn}
+use Rattle.rules.specs.Gates.{wiresIn}
 use Rattle.rules.specs.Terms.{Tuple, single, both, Gate, _on_, Boxed, boxed}
 use Rattle.rules.specs.Circuits.{Circuit, circuit}
 use Rattle.rules.specs.Sizes.{closedGates, most-types, most-gates, most-boxes}

@@ -7,7 +7,7 @@ use words::runs_past;
 ghost use Prim.Native.Nat.{ℕ, _+_, _%_, _≤_, _<_};
 ghost use mathlib.Core.Path.{_≡_};
 ghost use lib.ListN.{length, getD, set, take};
-ghost use Rattle.rules.specs.GateCodes.{wiresIn};
+ghost use Rattle.rules.specs.Gates.{wiresIn};
 ghost use Rattle.rules.specs.Terms.{_on_};
 ghost use Rattle.rules.specs.Circuits.{outputs, rename, renameGate};
 ghost use Rattle.words.specs.Words.{words, putWords};

@@ -4,31 +4,18 @@ use Prim.Native.Nat.{ℕ, zero, suc, _+_, _*_}
 use mathlib.Core.List.{List, [], _∷_}
 use mathlib.Core.Option.{Option, none, some}
 use lib.ListN.{length, getD}
-use Rattle.rules.specs.Types.{Wire, Circ, wires, wireCode, typeCodes}
-use Rattle.rules.specs.Gates.{GateType, _to_, gateType, outputWires}
+use Rattle.rules.specs.Types.{Wire, Circ, wireCode, typeCodes}
+use Rattle.rules.specs.Gates.{GateType, _to_, gateType, outputWires, inputWires}
 use Rattle.rules.specs.Terms.{Gate, _on_}
 
 -- What stands at a place of a list of codes; 255 behind its end.
 abbrev pub codeAt : List ℕ → ℕ → ℕ
 codeAt codes i = getD codes i 255
 
--- The wires of a gate's input type, if there is a gate.
-abbrev pub inputWires : Option GateType → List Wire
-inputWires none = []
-inputWires (some (T to U)) = wires T
-
 -- 01: "Gate types are Circ of these."
 abbrev pub circCodes : Option GateType → List ℕ
 circCodes none = []
 circCodes (some (T to U)) = typeCodes (Circ T U)
-
--- How many wires a gate takes. Here and below, a number that is no gate has none of anything.
-unfoldable pub wiresIn : ℕ → ℕ
-wiresIn n = length (inputWires (gateType n))
-
--- How many wires a gate makes.
-unfoldable pub wiresOut : ℕ → ℕ
-wiresOut n = length (outputWires (gateType n))
 
 -- The types of wires in one number: digits of base 4, that of the first wire the lowest, one more than the code of its type.
 abbrev pub wiresCode : List Wire → ℕ
@@ -42,7 +29,7 @@ takenCode n = wiresCode (inputWires (gateType n))
 unfoldable pub madeCode : ℕ → ℕ
 madeCode n = wiresCode (outputWires (gateType n))
 
--- How many entries the type of a gate has.
+-- How many entries the type of a gate has. Here and below, a number that is no gate has none of anything.
 unfoldable pub typeEntries : ℕ → ℕ
 typeEntries n = length (circCodes (gateType n))
 

@@ -3,6 +3,7 @@ use Prim.Native.Nat.{ℕ, zero, suc}
 use mathlib.Core.Bool.{Bool, true, false}
 use mathlib.Core.List.{List, [], _∷_}
 use mathlib.Core.Option.{Option, none, some}
+use lib.ListN.{length}
 use Rattle.rules.specs.Types.{Wire, Bit, Qubit, Ty, wire, _⊗_, wires}
 
 -- The types of a gate: it is a constant of type Circ from input to output (01: "Gate types are Circ of these").
@@ -52,3 +53,15 @@ outputWires (some (T to U)) = wires U
 -- The wires that a gate makes, left to right.
 abbrev pub gateOutputs : ℕ → List Wire
 gateOutputs n = outputWires (gateType n)
+
+-- The wires of a gate's input type, if there is a gate.
+abbrev pub inputWires : Option GateType → List Wire
+inputWires none = []
+inputWires (some (T to U)) = wires T
+
+-- How many wires a gate takes, and how many it makes; none where there is no such gate.
+unfoldable pub wiresIn : ℕ → ℕ
+wiresIn n = length (inputWires (gateType n))
+
+unfoldable pub wiresOut : ℕ → ℕ
+wiresOut n = length (outputWires (gateType n))

@@ -8,7 +8,8 @@ pub mod sizes;
 pub mod slots;
 
 ghost use mathlib.Core.Path.{_≡_};
-ghost use Rattle.rules.specs.GateCodes.{wiresIn, wiresOut, takenCode, madeCode, typeEntries, typeCode};
+ghost use Rattle.rules.specs.Gates.{wiresIn, wiresOut};
+ghost use Rattle.rules.specs.GateCodes.{takenCode, madeCode, typeEntries, typeCode};
 ghost use Rattle.rules.specs.Gates.{isGate};
 
 // How many gates there are, and the most entries of a gate's type.

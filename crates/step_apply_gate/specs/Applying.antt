@@ -5,8 +5,7 @@ use mathlib.Core.List.{List}
 use mathlib.Core.Option.{some}
 use lib.ListN.{length, set, take}
 use Rattle.rules.specs.Types.{Ty, wires, entries}
-use Rattle.rules.specs.Gates.{_to_, gateType}
-use Rattle.rules.specs.GateCodes.{wiresIn}
+use Rattle.rules.specs.Gates.{_to_, gateType, wiresIn}
 use Rattle.rules.specs.Terms.{Tuple, tupleFrom, _on_}
 use Rattle.machine_terms.specs.Trees.{Node, Tree, preorder, tupleOfTree, tupleTree}
 use Rattle.words.specs.Regions.{over, Stands}

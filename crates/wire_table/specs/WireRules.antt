@@ -6,8 +6,7 @@ use mathlib.Core.List.{List, [], _∷_, _++_}
 use mathlib.Core.Option.{some}
 use lib.ListN.{length}
 use Rattle.rules.specs.Types.{Wire}
-use Rattle.rules.specs.Gates.{nth, gateType}
-use Rattle.rules.specs.GateCodes.{inputWires}
+use Rattle.rules.specs.Gates.{nth, gateType, inputWires}
 use Rattle.rules.specs.Terms.{Gate, _on_}
 use Rattle.rules.specs.Circuits.{outputs, taken, count, Sound, GoneOnce}
 

@@ -7,8 +7,7 @@ use mathlib.Core.Option.{Option, none, some}
 use lib.Dec.{eqb, ltb}
 use lib.ListN.{length}
 use Rattle.rules.specs.Types.{Wire, wireCode}
-use Rattle.rules.specs.Gates.{nth, gateType}
-use Rattle.rules.specs.GateCodes.{inputWires}
+use Rattle.rules.specs.Gates.{nth, gateType, inputWires}
 use Rattle.rules.specs.Terms.{Gate, _on_}
 use Rattle.rules.specs.Circuits.{outputs, taken, count, if-none}
 

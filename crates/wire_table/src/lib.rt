@@ -14,8 +14,7 @@ ghost use lib.Dec.{eqb, ltb};
 ghost use lib.ListN.{length, getD, set};
 ghost use Rattle.words.specs.Numbers.{wordsAt};
 ghost use Rattle.rules.specs.Types.{Wire};
-ghost use Rattle.rules.specs.Gates.{gateType, gateOutputs};
-ghost use Rattle.rules.specs.GateCodes.{wiresIn, wiresOut, inputWires};
+ghost use Rattle.rules.specs.Gates.{gateType, gateOutputs, wiresIn, wiresOut, inputWires};
 ghost use Rattle.wire_table.specs.Wires.{firstWhere};
 ghost use Rattle.wire_table.specs.Table.{Holds, oneMore, TakesAll, MakesAll};
 

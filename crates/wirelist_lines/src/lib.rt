@@ -20,7 +20,7 @@ use text::put_bytes;
 use text::put_number;
 ghost use Prim.Native.Nat.{_≤_, _<_};
 ghost use lib.ListN.{length};
-ghost use Rattle.rules.specs.GateCodes.{wiresIn, wiresOut};
+ghost use Rattle.rules.specs.Gates.{wiresIn, wiresOut};
 ghost use Rattle.rules.specs.Circuits.{numbers};
 ghost use Rattle.listing.specs.Pieces.{pieces};
 ghost use Rattle.wirelist_lines.specs.Lines.{gateLine, stepsLine, refusedLine};

@@ -5,8 +5,7 @@ use mathlib.Core.Path.{_≡_, refl, sym, ap, ap₂}
 use mathlib.Core.Bool.{false, cond}
 use mathlib.Core.List.{List, [], _∷_, _++_, map, flatMap}
 use lib.ListN.{length}
-use Rattle.rules.specs.Gates.{isGate}
-use Rattle.rules.specs.GateCodes.{wiresIn}
+use Rattle.rules.specs.Gates.{isGate, wiresIn}
 use Rattle.lent.specs.Lent.{tooShort, zeroed}
 use Rattle.lent.specs.Laws.Lent.{below-later, long-memory}
 use Rattle.words.specs.Numbers.{wordAt}

@@ -2,8 +2,7 @@
 use mathlib.Core.Path.{_≡_, refl}
 use mathlib.Core.List.{List, [], _∷_}
 use Prim.Native.Nat.{ℕ}
-use Rattle.rules.specs.Gates.{isGate}
-use Rattle.rules.specs.GateCodes.{wiresIn}
+use Rattle.rules.specs.Gates.{isGate, wiresIn}
 use Rattle.words.specs.Numbers.{wordAt}
 use Rattle.listing.specs.Reading.{kindAt}
 use Rattle.wire_table.specs.Wires.{brokenAt}

@@ -8,8 +8,8 @@ use lib.Dec.{T as IsTrue}
 use lib.ListN.{length, getD, drop}
 use lib.Seq.{drop-cons, drop-length}
 use Rattle.rules.specs.Types.{Wire, Bit, Qubit}
-use Rattle.rules.specs.Gates.{isGate}
-use Rattle.rules.specs.GateCodes.{wiresIn, wiresOf}
+use Rattle.rules.specs.Gates.{isGate, wiresIn}
+use Rattle.rules.specs.GateCodes.{wiresOf}
 use Rattle.rules.specs.Terms.{Gate, _on_}
 use Rattle.rules.specs.Slots.{no-wire}
 use Rattle.rules.specs.Laws.KnownGates.{KnownGates}

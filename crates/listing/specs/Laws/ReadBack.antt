@@ -8,8 +8,8 @@ use mathlib.Core.Option.{some}
 use lib.ListN.{length, getD, length-append, length-map, List·getD-append}
 use lib.Seq.{getD-append-add, getD-at}
 use Rattle.rules.specs.Types.{Wire, Bit, Qubit, Ty, wires}
-use Rattle.rules.specs.Gates.{_to_, gateType}
-use Rattle.rules.specs.GateCodes.{inputWires, wiresIn, wiresOut, wiresOf}
+use Rattle.rules.specs.Gates.{_to_, gateType, inputWires, wiresIn, wiresOut}
+use Rattle.rules.specs.GateCodes.{wiresOf}
 use Rattle.rules.specs.Terms.{Gate, _on_}
 use Rattle.rules.specs.Slots.{no-wire}
 use Rattle.rules.specs.Circuits.{OfTypes, wires-end, next-wire, TakesEarlier, no-gate, next-gate}

@@ -8,8 +8,7 @@ use lib.Dec.{eqb, ltb}
 use lib.ListN.{length}
 use borrow.Author.Tests.{lt-ltb, le-ltb, eq-eqb, ne-eqb}
 use Rattle.rules.specs.Types.{Bit, Qubit}
-use Rattle.rules.specs.Gates.{isGate}
-use Rattle.rules.specs.GateCodes.{wiresIn}
+use Rattle.rules.specs.Gates.{isGate, wiresIn}
 use Rattle.rules.specs.Slots.{no-wire}
 use Rattle.rules.specs.Sizes.{most-labels, most-gates}
 use Rattle.words.specs.Numbers.{wordAt}

@@ -10,8 +10,7 @@ use lib.Dec.{T as IsTrue, eqb, ltb}
 use lib.ListN.{length}
 use borrow.Author.Tests.{ltb-true, ltb-false, lt-ltb, le-ltb}
 use Rattle.rules.specs.Types.{Wire, Bit, Qubit}
-use Rattle.rules.specs.Gates.{isSome, isGate}
-use Rattle.rules.specs.GateCodes.{wiresIn}
+use Rattle.rules.specs.Gates.{isSome, isGate, wiresIn}
 use Rattle.rules.specs.Slots.{no-wire}
 use Rattle.rules.specs.Terms.{Gate, _on_}
 use Rattle.rules.specs.Circuits.{TakesEarlier, no-gate, next-gate}

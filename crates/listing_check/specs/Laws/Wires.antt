@@ -9,8 +9,7 @@ use lib.Dec.{ltb}
 use lib.ListN.{length, getD, set, length-append}
 use borrow.Author.Tests.{lt-ltb, le-ltb}
 use Rattle.rules.specs.Types.{Wire}
-use Rattle.rules.specs.Gates.{gateType, gateOutputs}
-use Rattle.rules.specs.GateCodes.{inputWires, wiresIn, wiresOut}
+use Rattle.rules.specs.Gates.{gateType, gateOutputs, inputWires, wiresIn, wiresOut}
 use Rattle.rules.specs.Terms.{Gate}
 use Rattle.rules.specs.Circuits.{outputs, taken, count}
 use Rattle.rules.specs.Laws.Wires.{count-append}

@@ -8,7 +8,7 @@ use mathlib.Core.List.{List, [], _∷_, _++_, map, flatMap, reverse, reverse-con
 use mathlib.Core.Option.{some}
 use lib.ListN.{length, getD, take, length-map, List·getD-map}
 use Rattle.rules.specs.Types.{Wire, Bit, Qubit, wireCode}
-use Rattle.rules.specs.GateCodes.{wiresIn}
+use Rattle.rules.specs.Gates.{wiresIn}
 use Rattle.rules.specs.Terms.{Tuple, labels, Gate}
 use Rattle.rules.specs.Circuits.{circuit}
 use Rattle.machine_terms.specs.Trees.{Node, Tree, preorder, tupleOfTree}

@@ -8,8 +8,7 @@ use mathlib.Core.Option.{some}
 use lib.ListN.{length, set, take, length-map, length-append}
 use lib.Seq.{getD-set-same, getD-set-other}
 use Rattle.rules.specs.Types.{Wire, Ty, wire, _⊗_, _⊸_, !_, Circ, wires}
-use Rattle.rules.specs.Gates.{_to_, gateTable, gateType, gateOutputs}
-use Rattle.rules.specs.GateCodes.{wiresIn, wiresOut, inputWires}
+use Rattle.rules.specs.Gates.{_to_, gateTable, gateType, gateOutputs, wiresIn, wiresOut, inputWires}
 use Rattle.rules.specs.Terms.{Tuple, single, both, labels, tupleFrom, Gate, _on_, Boxed, boxed}
 use Rattle.rules.specs.Circuits.{Circuit, circuit, wireCount, outputs, numbers, rename, renameGate, renameTuple, appended}
 use Rattle.rules.specs.Circuits.{returned, gateBoxed}

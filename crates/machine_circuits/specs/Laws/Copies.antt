@@ -7,7 +7,8 @@ use mathlib.Core.Logic.{_⊎_, inl, inr, ⊎-elim}
 use mathlib.Core.List.{List, [], _∷_, map}
 use lib.ListN.{length, getD, take, set}
 use lib.Seq.{getD-set-same, getD-set-other, getD-take, length-take-le}
-use Rattle.rules.specs.GateCodes.{wiresIn, wiresOf}
+use Rattle.rules.specs.Gates.{wiresIn}
+use Rattle.rules.specs.GateCodes.{wiresOf}
 use Rattle.rules.specs.Terms.{Gate, _on_}
 use Rattle.rules.specs.Circuits.{rename, renameGate}
 use Rattle.words.specs.Words.{words}

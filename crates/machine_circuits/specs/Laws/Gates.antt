@@ -5,8 +5,8 @@ use mathlib.Core.Path.{_≡_, refl, sym, _∙_, ap, ap₂}
 use mathlib.Core.List.{List, [], _∷_, _++_, map}
 use lib.ListN.{length, getD, take, length-take, length-append, List·getD-eq-default, length-map}
 use lib.Seq.{getD-take}
-use Rattle.rules.specs.Gates.{gateOutputs}
-use Rattle.rules.specs.GateCodes.{wiresIn, wiresOut, wiresOf}
+use Rattle.rules.specs.Gates.{gateOutputs, wiresIn, wiresOut}
+use Rattle.rules.specs.GateCodes.{wiresOf}
 use Rattle.rules.specs.Terms.{Gate, _on_}
 use Rattle.rules.specs.Circuits.{outputs, rename, renameGate}
 use Rattle.rules.specs.Laws.KnownGates.{few-wires}

@@ -6,8 +6,7 @@ use mathlib.Core.List.{List, [], _∷_, _++_, append-assoc}
 use mathlib.Core.Option.{some}
 use lib.ListN.{length, length-append}
 use Rattle.rules.specs.Types.{Wire, Ty, Circ, wires, entries, most-entries}
-use Rattle.rules.specs.Gates.{nth, gateOutputs}
-use Rattle.rules.specs.GateCodes.{wiresOut}
+use Rattle.rules.specs.Gates.{nth, gateOutputs, wiresOut}
 use Rattle.rules.specs.Terms.{Tuple, single, both, labels, Gate, _on_, boxed, constant, tuple}
 use Rattle.rules.specs.Circuits.{outputs, count, taken, OfTypes, wires-end, next-wire, TakesEarlier, no-gate, next-gate}
 use Rattle.rules.specs.Circuits.{if-none, loose}

@@ -2,8 +2,8 @@
 -- Assumes nothing.
 use mathlib.Core.Path.{_≡_, refl, _∙_}
 use borrow.Author.Needs.{needs}
-use Rattle.rules.specs.Gates.{gateTable}
-use Rattle.rules.specs.GateCodes.{wiresCode, inputWires, takenCode}
+use Rattle.rules.specs.Gates.{gateTable, inputWires}
+use Rattle.rules.specs.GateCodes.{wiresCode, takenCode}
 use Rattle.rules.proofs.GateTable.{of-no-gate, entry-at}
 use Rattle.rules.proofs.taken_code.Statement.{statement}
 use Rattle.rules.proofs.taken_code.Tie as tie

@@ -3,8 +3,7 @@
 use mathlib.Core.Path.{_≡_, refl, _∙_}
 use lib.ListN.{length}
 use borrow.Author.Needs.{needs}
-use Rattle.rules.specs.Gates.{gateTable}
-use Rattle.rules.specs.GateCodes.{inputWires, wiresIn}
+use Rattle.rules.specs.Gates.{gateTable, inputWires, wiresIn}
 use Rattle.rules.proofs.GateTable.{of-no-gate, entry-at}
 use Rattle.rules.proofs.wires_in.Statement.{statement}
 use Rattle.rules.proofs.wires_in.Tie as tie

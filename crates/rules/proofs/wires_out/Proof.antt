@@ -3,8 +3,7 @@
 use mathlib.Core.Path.{_≡_, refl, _∙_}
 use lib.ListN.{length}
 use borrow.Author.Needs.{needs}
-use Rattle.rules.specs.Gates.{gateTable, outputWires}
-use Rattle.rules.specs.GateCodes.{wiresOut}
+use Rattle.rules.specs.Gates.{gateTable, outputWires, wiresOut}
 use Rattle.rules.proofs.GateTable.{of-no-gate, entry-at}
 use Rattle.rules.proofs.wires_out.Statement.{statement}
 use Rattle.rules.proofs.wires_out.Tie as tie

@@ -8,8 +8,7 @@ use mathlib.Core.Option.{Option, none, some}
 use lib.Dec.{T as IsTrue, leb, leb→le}
 use lib.ListN.{length}
 use Rattle.rules.specs.Types.{wires}
-use Rattle.rules.specs.Gates.{GateType, _to_, gateTable, gateType, isGate, outputWires}
-use Rattle.rules.specs.GateCodes.{inputWires, wiresIn, wiresOut}
+use Rattle.rules.specs.Gates.{GateType, _to_, gateTable, gateType, isGate, outputWires, inputWires, wiresIn, wiresOut}
 use Rattle.rules.specs.Terms.{Gate, _on_}
 use Rattle.rules.specs.Laws.Booleans.{and-left, and-right}
 use Rattle.rules.specs.Laws.Wires.{every, every-nth}

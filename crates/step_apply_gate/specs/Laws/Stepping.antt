@@ -8,8 +8,7 @@ use mathlib.Core.Option.{some}
 use lib.ListN.{length, set, take, drop, length-append, length-drop, length-set}
 use Rattle.rules.specs.Kinds.{gate-kind}
 use Rattle.rules.specs.Types.{Wire, Ty, wires, entries, most-entries}
-use Rattle.rules.specs.Gates.{_to_, gateType, outputWires}
-use Rattle.rules.specs.GateCodes.{wiresIn, wiresOut}
+use Rattle.rules.specs.Gates.{_to_, gateType, outputWires, wiresIn, wiresOut}
 use Rattle.rules.specs.Terms.{Tuple, labels, tupleFrom, Gate, _on_, Boxed}
 use Rattle.rules.specs.Circuits.{Circuit, circuit, wireCount, appended, returned, gateBoxed}
 use Rattle.rules.specs.Sizes.{closedGates, most-nodes, most-gates}

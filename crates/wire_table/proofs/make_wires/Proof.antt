@@ -2,9 +2,9 @@
 use native.Mathlib.Omega.{arith}
 use mathlib.Core.Path.{_≡_, refl, _∙_}
 use lib.ListN.{length}
-use Rattle.rules.specs.Gates.{gateOutputs}
+use Rattle.rules.specs.Gates.{gateOutputs, wiresOut}
 use Rattle.rules.specs.Slots.{gate-slots}
-use Rattle.rules.specs.GateCodes.{wiresOut, madeCode}
+use Rattle.rules.specs.GateCodes.{madeCode}
 use Rattle.rules.specs.Laws.KnownGates.{few-wires}
 use Rattle.wire_table.specs.Laws.Table.{LeftToMake, none-made, made-more, all-made}
 use borrow.Author.Needs.{needs}

@@ -4,9 +4,9 @@ use mathlib.Core.Path.{_≡_, refl, sym, _∙_, ap}
 use mathlib.Core.Bool.{cond}
 use lib.ListN.{length, set}
 use borrow.Author.Tests.{not-true, not-false}
-use Rattle.rules.specs.Gates.{gateType}
+use Rattle.rules.specs.Gates.{gateType, inputWires, wiresIn}
 use Rattle.rules.specs.Slots.{gate-slots}
-use Rattle.rules.specs.GateCodes.{inputWires, wiresIn, takenCode}
+use Rattle.rules.specs.GateCodes.{takenCode}
 use Rattle.rules.specs.Laws.KnownGates.{few-wires}
 use Rattle.wire_table.specs.Laws.Table.{LeftToTake, all-left, taken-more, taken-wrong, taken-all}
 use borrow.Author.Needs.{needs}

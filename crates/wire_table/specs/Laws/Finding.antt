@@ -10,8 +10,7 @@ use native.Mathlib.Decide.{decLt}
 use lib.Dec.{eqb}
 use lib.ListN.{length}
 use Rattle.rules.specs.Types.{Wire, Bit, Qubit, wireCode}
-use Rattle.rules.specs.Gates.{nth, gateType}
-use Rattle.rules.specs.GateCodes.{inputWires, wiresIn}
+use Rattle.rules.specs.Gates.{nth, gateType, inputWires, wiresIn}
 use Rattle.rules.specs.Terms.{Gate, _on_}
 use Rattle.rules.specs.Circuits.{outputs, taken, count, if-none}
 use Rattle.rules.specs.Laws.Wires.{Compared, equal, unequal, compared, nth-within, nth-some-within}

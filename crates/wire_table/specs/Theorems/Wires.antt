@@ -10,8 +10,7 @@ use lib.Dec.{T as IsTrue, eqb, ltb}
 use lib.ListN.{length, length-append}
 use borrow.Author.Tests.{ltb-true, ltb-false, lt-ltb, le-ltb}
 use Rattle.rules.specs.Types.{Wire, Ty}
-use Rattle.rules.specs.Gates.{GateType, _to_, gateType, gateOutputs, isSome, isGate}
-use Rattle.rules.specs.GateCodes.{inputWires, wiresIn}
+use Rattle.rules.specs.Gates.{GateType, _to_, gateType, gateOutputs, isSome, isGate, inputWires, wiresIn}
 use Rattle.rules.specs.Terms.{Gate, _on_}
 use Rattle.rules.specs.Circuits.{outputs, taken, one-if, count, OfTypes, wires-end, next-wire, TakesEarlier, no-gate}
 use Rattle.rules.specs.Circuits.{next-gate}

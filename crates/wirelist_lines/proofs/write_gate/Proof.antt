@@ -2,7 +2,7 @@
 use native.Mathlib.Omega.{arith}
 use mathlib.Core.Path.{ap}
 use mathlib.Core.List.{map}
-use Rattle.rules.specs.GateCodes.{wiresIn, wiresOut}
+use Rattle.rules.specs.Gates.{wiresIn, wiresOut}
 use Rattle.rules.specs.Circuits.{numbers}
 use Rattle.machine_circuits.specs.Laws.Gates.{few-out}
 use Rattle.text.specs.Text.{decimal, spaced}

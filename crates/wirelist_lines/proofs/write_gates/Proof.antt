@@ -5,12 +5,12 @@ use native.Mathlib.Omega.{arith}
 use mathlib.Core.Path.{_≡_, refl, sym, _∙_, ap, ap₂}
 use lib.ListN.{length}
 use borrow.Author.Needs.{needs}
-use Rattle.rules.specs.GateCodes.{wiresOut}
+use Rattle.rules.specs.Gates.{wiresOut}
 use Rattle.rules.specs.Slots.{gate-slots}
 use Rattle.machine_circuits.specs.Laws.Gates.{few-out}
 use Rattle.listing.specs.Pieces.{pieces}
-use Rattle.listing.specs.Reading.{gateCount, kindAt, madeBefore}
-use Rattle.wirelist_lines.specs.LinesAt.{gateLineAt}
+use Rattle.listing.specs.Reading.{gateCount, kindAt}
+use Rattle.wirelist_lines.specs.LinesAt.{madeBefore, gateLineAt}
 use Rattle.text.specs.Writing.{Puts}
 use Rattle.text.specs.Laws.Writing.{puts-same}
 use Rattle.wirelist_lines.specs.Laws.Read.{made-next}

@@ -3,7 +3,7 @@ use native.Mathlib.Omega.{arith}
 use mathlib.Core.Path.{ap₂}
 use mathlib.Core.List.{map}
 use borrow.Author.Needs.{needs}
-use Rattle.rules.specs.GateCodes.{wiresIn}
+use Rattle.rules.specs.Gates.{wiresIn}
 use Rattle.machine_circuits.specs.Laws.Gates.{few-in}
 use Rattle.text.specs.Text.{decimal, spaced}
 use Rattle.words.specs.Numbers.{wordsAt}

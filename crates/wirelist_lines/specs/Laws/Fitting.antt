@@ -5,8 +5,7 @@ use mathlib.Core.Path.{_≡_, refl, _∙_, ap}
 use mathlib.Core.List.{List, [], _∷_, _++_, map}
 use lib.ListN.{length, length-append}
 use Rattle.rules.specs.Types.{Wire, Bit, Qubit, Ty}
-use Rattle.rules.specs.Gates.{gateOutputs}
-use Rattle.rules.specs.GateCodes.{wiresOut}
+use Rattle.rules.specs.Gates.{gateOutputs, wiresOut}
 use Rattle.rules.specs.Terms.{Tuple, labels, Gate, _on_, tuple}
 use Rattle.rules.specs.Circuits.{circuit, outputs, numbers, TakesEarlier, no-gate, next-gate, loose}
 use Rattle.rules.specs.Typing.{_∣_⊢_∶_}

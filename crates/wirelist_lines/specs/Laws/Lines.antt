@@ -5,7 +5,7 @@ use mathlib.Core.Bool.{cond}
 use mathlib.Core.List.{List, [], _∷_, _++_, map, append-assoc, append-nil}
 use borrow.Author.Tests.{eq-eqb, ne-eqb}
 use Rattle.rules.specs.Types.{Wire, Bit, Qubit}
-use Rattle.rules.specs.GateCodes.{wiresIn, wiresOut}
+use Rattle.rules.specs.Gates.{wiresIn, wiresOut}
 use Rattle.rules.specs.Circuits.{numbers}
 use Rattle.listing.specs.Pieces.{pieces}
 use Rattle.listing.specs.Laws.Pieces.{no-piece, next-piece}
@@ -15,8 +15,8 @@ use Rattle.text.specs.Written.{Written}
 use Rattle.text.specs.Writing.{Puts}
 use Rattle.text.specs.Laws.Writing.{puts-none, puts-both, puts-same, puts-first}
 use Rattle.words.specs.Numbers.{wordsAt}
-use Rattle.listing.specs.Reading.{inputCount, gateCount, kindAt, slotsFrom, madeBefore}
-use Rattle.wirelist_lines.specs.LinesAt.{inputLineAt, gateLineAt, outLineAt, textAt, takenPart}
+use Rattle.listing.specs.Reading.{inputCount, gateCount, kindAt, slotsFrom}
+use Rattle.wirelist_lines.specs.LinesAt.{madeBefore, inputLineAt, gateLineAt, outLineAt, textAt, takenPart}
 use Rattle.text.specs.Laws.Words.{spaced-append}
 
 -- A line's first words, its last words, and its end.

@@ -4,13 +4,14 @@ use native.Mathlib.Numerals.{add-one}
 use mathlib.Core.Path.{_≡_, sym, _∙_, ap}
 use mathlib.Core.List.{List, [], _∷_, map, _++_}
 use native.Mathlib.Omega.{arith}
-use Rattle.rules.specs.GateCodes.{wiresOut}
+use Rattle.rules.specs.Gates.{wiresOut}
 use Rattle.text.specs.Text.{decimal, spaced}
 use Rattle.text.specs.Writing.{Puts}
 use Rattle.text.specs.Laws.Writing.{puts-both, puts-same}
 use Rattle.words.specs.Numbers.{wordAt}
 use Rattle.words.specs.Numbers.{wordsAt}
-use Rattle.listing.specs.Reading.{kindAt, inputCount, madeBefore}
+use Rattle.listing.specs.Reading.{kindAt, inputCount}
+use Rattle.wirelist_lines.specs.LinesAt.{madeBefore}
 use Rattle.text.specs.Laws.Words.{one-more-number}
 use Rattle.rules.specs.Circuits.{numbers}
 use Rattle.rules.specs.Laws.Wires.{numbers-append}

@@ -7,8 +7,8 @@ use mathlib.Core.List.{List, [], _∷_, _++_, flatMap, append-nil, append-assoc}
 use lib.ListN.{length, getD, length-append, List·getD-append}
 use lib.Seq.{getD-at}
 use Rattle.rules.specs.Types.{Wire, Bit}
-use Rattle.rules.specs.Gates.{gateOutputs}
-use Rattle.rules.specs.GateCodes.{wiresIn, wiresOut, wiresOf}
+use Rattle.rules.specs.Gates.{gateOutputs, wiresIn, wiresOut}
+use Rattle.rules.specs.GateCodes.{wiresOf}
 use Rattle.rules.specs.Terms.{Tuple, labels, Gate, _on_}
 use Rattle.rules.specs.Circuits.{circuit, outputs, numbers, TakesEarlier}
 use Rattle.listing.specs.Listing.{gateKind, listing}
@@ -17,8 +17,8 @@ use Rattle.listing.specs.Laws.Pieces.{pieces-list}
 use Rattle.wirelist_lines.specs.Lines.{inputLine, gateLine, outLine, stepsLine, inputLines, gateLines, lines}
 use Rattle.text.specs.Text.{joined}
 use Rattle.words.specs.Numbers.{wordsAt}
-use Rattle.listing.specs.Reading.{inputCount, gateCount, kindAt, slotsFrom, madeBefore}
-use Rattle.wirelist_lines.specs.LinesAt.{inputLineAt, gateLineAt, outLineAt, textAt}
+use Rattle.listing.specs.Reading.{inputCount, gateCount, kindAt, slotsFrom}
+use Rattle.wirelist_lines.specs.LinesAt.{madeBefore, inputLineAt, gateLineAt, outLineAt, textAt}
 use Rattle.listing.specs.Laws.ReadBack.{gateAt, newest-at, older-at, counted-at, inputs-are, gates-are, input-is, gate-is}
 use Rattle.listing.specs.Laws.ReadBack.{taken-is, listed-are}
 use Rattle.text.specs.Laws.Words.{joined-append}

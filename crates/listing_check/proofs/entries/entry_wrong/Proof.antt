@@ -5,8 +5,7 @@ use mathlib.Core.Path.{sym, _∙_, ap, ap₂}
 use mathlib.Core.Bool.{_||_}
 use lib.Dec.{eqb}
 use Rattle.rules.specs.Types.{Bit, Qubit}
-use Rattle.rules.specs.Gates.{isGate}
-use Rattle.rules.specs.GateCodes.{wiresIn}
+use Rattle.rules.specs.Gates.{isGate, wiresIn}
 use Rattle.listing.specs.Listing.{inputKind, entry-slots}
 use Rattle.listing.specs.Laws.ReadBack.{wires-fit}
 use Rattle.listing_check.specs.Answers.{anyWire}

@@ -5,7 +5,7 @@ use mathlib.Core.Path.{_≡_, _∙_, ap}
 use mathlib.Core.List.{[], _++_}
 use lib.ListN.{length, length-append}
 use Rattle.rules.specs.Slots.{gate-slots}
-use Rattle.rules.specs.GateCodes.{wiresOut}
+use Rattle.rules.specs.Gates.{wiresOut}
 use Rattle.rules.specs.Circuits.{outputs}
 use Rattle.rules.specs.Laws.KnownGates.{few-wires}
 use Rattle.listing.specs.Reading.{inputCount, gateCount, kindAt, inputsOf, firstGates}

@@ -6,8 +6,7 @@ use mathlib.Core.Path.{_≡_, refl, _∙_, ap, subst}
 use mathlib.Core.List.{_++_}
 use lib.ListN.{length}
 use borrow.Author.Tests.{not-true, not-false}
-use Rattle.rules.specs.Gates.{gateType, gateOutputs}
-use Rattle.rules.specs.GateCodes.{inputWires, wiresIn, wiresOut}
+use Rattle.rules.specs.Gates.{gateType, gateOutputs, inputWires, wiresIn, wiresOut}
 use Rattle.rules.specs.Circuits.{outputs, taken}
 use Rattle.words.specs.Numbers.{wordsAt}
 use Rattle.listing.specs.Reading.{inputCount, gateCount, kindAt, slotsFrom, inputsOf, firstGates}

@@ -1,6 +1,6 @@
 -- `machine_circuits::gates::append_gate` meets its contract. Assumes nothing.
 use borrow.Author.Needs.{needs}
-use Rattle.rules.specs.GateCodes.{wiresIn}
+use Rattle.rules.specs.Gates.{wiresIn}
 use Rattle.words.specs.Words.{words}
 use Rattle.words.specs.Quadwords.{quadwordsIn}
 use Rattle.words.specs.Laws.Quadwords.{quadword-put}

@@ -2,7 +2,7 @@
 use native.Mathlib.Omega.{arith}
 use mathlib.Core.Path.{_≡_, sym, _∙_, ap}
 use borrow.Author.Needs.{needs}
-use Rattle.rules.specs.GateCodes.{wiresIn}
+use Rattle.rules.specs.Gates.{wiresIn}
 use Rattle.words.specs.Quadwords.{wordIn, quadwordsIn, quadwordAt}
 use Rattle.machine_circuits.specs.Laws.Gates.{slot-used, slot-unused}
 use Rattle.machine_circuits.proofs.gates.gate_wire.Statement.{statement}

@@ -3,7 +3,7 @@ use native.Mathlib.Omega.{arith}
 use mathlib.Core.Path.{_≡_, sym, _∙_, ap}
 use lib.ListN.{take}
 use borrow.Author.Needs.{needs}
-use Rattle.rules.specs.GateCodes.{wiresIn}
+use Rattle.rules.specs.Gates.{wiresIn}
 use Rattle.rules.specs.Circuits.{rename}
 use Rattle.words.specs.Words.{words}
 use Rattle.words.specs.Quadwords.{wordIn, quadwordsIn, quadwordAt}

@@ -5,7 +5,7 @@ use native.Mathlib.Omega.{arith}
 use mathlib.Core.Path.{_≡_, refl, _∙_, ap}
 use lib.ListN.{length}
 use borrow.Author.Needs.{needs}
-use Rattle.rules.specs.GateCodes.{wiresOut}
+use Rattle.rules.specs.Gates.{wiresOut}
 use Rattle.rules.specs.Circuits.{outputs}
 use Rattle.words.specs.Quadwords.{wordIn, quadwordsIn, quadwordAt}
 use Rattle.machine_circuits.specs.Layout.{gatesIn}
