@@ -1,0 +1,21 @@
+use mathlib.Core.Path.{sym}
+use native.Mathlib.Omega.{arith}
+use lib.ListN.{List·getD-eq-default}
+use Rattle.openqasm.specs.Laws.Lines.{letters}
+use borrow.Author.Needs.{needs}
+use Rattle.openqasm.proofs.letter.Statement.{statement}
+use Rattle.openqasm.proofs.letter.Tie as tie
+use Rattle.openqasm.proofs.letter.Reads as reads
+use Rattle.openqasm.proofs.letter.Lts as lts
+
+array-read-result : tie.Need-array-read-result
+array-read-result c = search needs
+
+returns : tie.Need-returns
+returns c = search needs
+
+returns-2 : tie.Need-returns-2
+returns-2 c = sym (List·getD-eq-default letters 0 {n = c .before .args .gate} (omega (arith, c .if1 .left)))
+
+pub letter-spec : {M : Type 1} → statement M
+letter-spec = tie.close (tie.spec array-read-result returns returns-2)

@@ -1,0 +1,97 @@
+-- Laws of specs/Layout.antt: a line by its parts.
+use Prim.Native.Nat.{ℕ, zero, suc, _+_, _≤_, _<_}
+use native.Mathlib.Omega.{arith}
+use mathlib.Core.Path.{_≡_, refl, sym, _∙_, ap}
+use mathlib.Core.Bool.{true, false, cond}
+use mathlib.Core.List.{List, [], _∷_, _++_, append-assoc, append-nil}
+use lib.ListN.{getD}
+use Rattle.rules.specs.Types.{Wire, Qubit}
+use Rattle.listing.specs.Reading.{inputType}
+use Rattle.text.specs.Text.{ascii, decimal, spaced, joined}
+use Rattle.text.specs.Writing.{Puts}
+use Rattle.text.specs.Laws.Writing.{puts-none, puts-both, puts-same}
+use Rattle.openqasm.specs.Layout.{bitRegister, declaration, gateLine}
+
+-- The names of the gates on one qubit.
+abbrev pub letters : List ℕ
+letters = 104 ∷ 120 ∷ 122 ∷ 115 ∷ 116 ∷ []
+
+-- A line with one register, and one with two.
+abbrev pub oneLine : ℕ → ℕ → List ℕ
+oneLine name r = joined ((name ∷ []) ∷ ascii " q" ∷ decimal r ∷ ascii "[0];\n" ∷ [])
+
+abbrev pub twoLine : List ℕ → ℕ → List ℕ → ℕ → List ℕ
+twoLine before r between s = joined (before ∷ decimal r ∷ between ∷ decimal s ∷ ascii "[0];\n" ∷ [])
+
+-- The lines of the gates.
+pub gate-on-one : (n r s : ℕ) → n < 5 → oneLine (getD letters n 0) r ≡ gateLine n (r ∷ s ∷ [])
+unfolding gateLine
+gate-on-one zero r s h = refl
+gate-on-one (suc zero) r s h = refl
+gate-on-one (suc (suc zero)) r s h = refl
+gate-on-one (suc (suc (suc zero))) r s h = refl
+gate-on-one (suc (suc (suc (suc zero)))) r s h = refl
+gate-on-one (suc (suc (suc (suc (suc n))))) r s h = absurd (omega arith)
+
+pub gate-cnot : (r s : ℕ) → twoLine (ascii "cx q") r (ascii "[0],q") s ≡ gateLine 5 (r ∷ s ∷ [])
+unfolding gateLine
+gate-cnot r s = refl
+
+pub gate-measured : (r s : ℕ) → twoLine (ascii "measure q") r (ascii "[0] -> c") r ≡ gateLine 6 (r ∷ s ∷ [])
+unfolding gateLine
+gate-measured r s = refl
+
+pub gate-bx : (r s : ℕ) → twoLine (ascii "if(c") r (ascii "==1) x q") s ≡ gateLine 7 (r ∷ s ∷ [])
+unfolding gateLine
+gate-bx r s = refl
+
+pub gate-bz : (r s : ℕ) → twoLine (ascii "if(c") r (ascii "==1) z q") s ≡ gateLine 8 (r ∷ s ∷ [])
+unfolding gateLine
+gate-bz r s = refl
+
+-- A number that is no gate has no line.
+pub no-gate : (n : ℕ) (rs : List ℕ) → 9 ≤ n → gateLine n rs ≡ []
+unfolding gateLine
+no-gate zero rs h = absurd (omega arith)
+no-gate (suc zero) rs h = absurd (omega arith)
+no-gate (suc (suc zero)) rs h = absurd (omega arith)
+no-gate (suc (suc (suc zero))) rs h = absurd (omega arith)
+no-gate (suc (suc (suc (suc zero)))) rs h = absurd (omega arith)
+no-gate (suc (suc (suc (suc (suc zero))))) rs h = absurd (omega arith)
+no-gate (suc (suc (suc (suc (suc (suc zero)))))) rs h = absurd (omega arith)
+no-gate (suc (suc (suc (suc (suc (suc (suc zero))))))) rs h = absurd (omega arith)
+no-gate (suc (suc (suc (suc (suc (suc (suc (suc zero)))))))) rs h = absurd (omega arith)
+no-gate (suc (suc (suc (suc (suc (suc (suc (suc (suc n))))))))) rs h = refl
+
+-- A line with two registers is written.
+pub puts-two : (before between : List ℕ) (r s : ℕ) {t₀ t₁ t₂ t₃ : List ℕ} {at₀ at₁ at₂ at₃ : ℕ}
+    → Puts t₀ at₀ (before ++ decimal r) t₁ at₁
+    → Puts t₁ at₁ (between ++ decimal s) t₂ at₂
+    → Puts t₂ at₂ (ascii "[0];\n") t₃ at₃
+    → Puts t₀ at₀ (twoLine before r between s) t₃ at₃
+puts-two before between r s p q e =
+    puts-same
+    (append-assoc (before ++ decimal r) (between ++ decimal s) (ascii "[0];\n")
+    ∙ append-assoc before (decimal r) ((between ++ decimal s) ++ ascii "[0];\n")
+    ∙ ap (λ ys. before ++ (decimal r ++ ys)) (append-assoc between (decimal s) (ascii "[0];\n")))
+    (puts-both (puts-both p q) e)
+
+-- The declarations of a Qubit are written.
+pub puts-qubit : (k : ℕ) {t₀ t₁ t₂ t₃ : List ℕ} {at₀ at₁ at₂ at₃ : ℕ}
+    → Puts t₀ at₀ (ascii "qreg q" ++ decimal k) t₁ at₁
+    → Puts t₁ at₁ (ascii "[1];\n") t₂ at₂
+    → Puts t₂ at₂ (bitRegister k) t₃ at₃
+    → Puts t₀ at₀ (declaration k Qubit) t₃ at₃
+puts-qubit k p q e =
+    puts-same
+    (append-assoc (ascii "qreg q" ++ decimal k) (ascii "[1];\n") (bitRegister k)
+    ∙ append-assoc (ascii "qreg q") (decimal k) (ascii "[1];\n" ++ bitRegister k)
+    ∙ ap (λ ys. ascii "qreg q" ++ (decimal k ++ (ascii "[1];\n" ++ ys))) (sym (append-nil (bitRegister k))))
+    (puts-both (puts-both p q) e)
+
+-- The kind of an input tells its type.
+pub puts-declared : (k kind : ℕ) (α : Wire) {t t′ : List ℕ} {at at′ : ℕ}
+    → α ≡ inputType kind
+    → Puts t at (declaration k α) t′ at′
+    → Puts t at (declaration k (inputType kind)) t′ at′
+puts-declared k kind α e p = puts-same (ap (declaration k) e) p

@@ -1,0 +1,128 @@
+// The lines of an OpenQASM 2.0 text (02, ticket 4), each written behind what a lent text has.
+// Believe: specs/Layout, the text of a listing to the byte.
+// Main laws: specs/Laws/Lines, a line by its parts.
+// Called by the export.
+use listing::BIT_INPUT;
+use refusals::Refusal;
+use text::put_byte;
+use text::put_bytes;
+use text::put_decimal;
+ghost use mathlib.Core.Bool.{cond};
+ghost use mathlib.Core.List.{[], _∷_, _++_};
+ghost use lib.ListN.{getD};
+ghost use Rattle.rules.specs.Types.{Bit, Qubit};
+ghost use Rattle.listing.specs.Reading.{inputType};
+ghost use Rattle.text.specs.Text.{ascii, decimal, spaced};
+ghost use Rattle.text.specs.Writing.{Puts};
+ghost use mathlib.Core.Path.{_≡_};
+ghost use Rattle.openqasm.specs.Layout.{header, bitRegister, declaration, gateLine, registerName};
+ghost use Rattle.openqasm.specs.Laws.Lines.{letters, oneLine, twoLine};
+
+// What an export or an import answers: how many bytes it wrote, or a refusal.
+pub enum Conversion {
+    Written { length: usize },
+    Refused(Refusal),
+}
+
+// The names of the gates on one qubit: H, X, Z, S, T.
+const LETTERS: [u8; 5] = [b'h', b'x', b'z', b's', b't'];
+
+// The first two lines.
+pub fn write_header(text: &mut [u8], at: usize) -> usize
+    ensures { λ r. ⌜ Puts (now (text .entry)) at header (now (text .exit)) r ⌝ }
+{
+    let version = put_bytes(text, at, b"OPENQASM 2.0;\n");
+    put_bytes(text, version, b"include \"qelib1.inc\";\n")
+}
+
+// A word and a number.
+fn put_named(text: &mut [u8], at: usize, word: &[u8], n: usize) -> usize
+    ensures { λ r. ⌜ Puts (now (text .entry)) at (now (word .entry) ++ decimal n) (now (text .exit)) r ⌝ }
+{
+    let named = put_bytes(text, at, word);
+    put_decimal(text, named, n)
+}
+
+// The declaration of a bit register.
+fn write_bit_register(text: &mut [u8], at: usize, k: usize) -> usize
+    ensures { λ r. ⌜ Puts (now (text .entry)) at (bitRegister k) (now (text .exit)) r ⌝ }
+{
+    let named = put_named(text, at, b"creg c", k);
+    put_bytes(text, named, b"[1];\n")
+}
+
+// The declarations of input k, by its kind in a listing.
+pub fn write_declaration(text: &mut [u8], at: usize, k: usize, kind: usize) -> usize
+    ensures { λ r. ⌜ Puts (now (text .entry)) at (declaration k (inputType kind)) (now (text .exit)) r ⌝ }
+{
+    if kind == BIT_INPUT {
+        return write_bit_register(text, at, k);
+    }
+    let named = put_named(text, at, b"qreg q", k);
+    let qubit = put_bytes(text, named, b"[1];\n");
+    write_bit_register(text, qubit, k)
+}
+
+// The name of a gate on one qubit; 0 for other gates.
+fn letter(gate: usize) -> u8
+    ensures { λ r. ⌜ r ≡ getD letters gate 0 ⌝ }
+{
+    if gate < 5 { LETTERS[gate] } else { 0 }
+}
+
+// A line with one register.
+fn write_one(text: &mut [u8], at: usize, name: u8, r: usize) -> usize
+    ensures { λ last. ⌜ Puts (now (text .entry)) at (oneLine name r) (now (text .exit)) last ⌝ }
+{
+    let begun = put_byte(text, at, name);
+    let named = put_named(text, begun, b" q", r);
+    put_bytes(text, named, b"[0];\n")
+}
+
+// A line with two registers.
+fn write_two(
+    text: &mut [u8],
+    at: usize,
+    before: &[u8],
+    r: usize,
+    between: &[u8],
+    s: usize,
+) -> usize
+    ensures { λ last. ⌜ Puts (now (text .entry)) at (twoLine (now (before .entry)) r (now (between .entry)) s) (now (text .exit)) last ⌝ }
+{
+    let first = put_named(text, at, before, r);
+    let second = put_named(text, first, between, s);
+    put_bytes(text, second, b"[0];\n")
+}
+
+// The line of a gate whose wires are in these registers; nothing where there is no such gate.
+pub fn write_gate(text: &mut [u8], at: usize, gate: usize, r: usize, s: usize) -> usize
+    ensures { λ last. ⌜ Puts (now (text .entry)) at (gateLine gate (r ∷ s ∷ [])) (now (text .exit)) last ⌝ }
+{
+    if gate < 5 {
+        return write_one(text, at, letter(gate), r);
+    }
+    if gate == 5 {
+        return write_two(text, at, b"cx q", r, b"[0],q", s);
+    }
+    if gate == 6 {
+        return write_two(text, at, b"measure q", r, b"[0] -> c", r);
+    }
+    if gate == 7 {
+        return write_two(text, at, b"if(c", r, b"==1) x q", s);
+    }
+    if gate == 8 {
+        return write_two(text, at, b"if(c", r, b"==1) z q", s);
+    }
+    at
+}
+
+// A space and the name of the register that holds an output.
+pub fn write_output(text: &mut [u8], at: usize, qubit: bool, r: usize) -> usize
+    ensures { λ last. ⌜ Puts (now (text .entry)) at (spaced (registerName (cond qubit Qubit Bit) r ∷ [])) (now (text .exit)) last ⌝ }
+{
+    if qubit {
+        return put_named(text, at, b" q", r);
+    }
+    put_named(text, at, b" c", r)
+}
