@@ -1,0 +1,63 @@
+use Prim.Native.Nat.{ℕ, _≤_, _<_}
+use lib.ListN.{length, getD}
+use Rattle.listing_check.specs.Answers.{most-wires}
+use native.Mathlib.Omega.{arith}
+use Rattle.openqasm_export.specs.Laws.Answering.{core-answer, accepted-whole, is-sound, exported, declined}
+use borrow.Author.Needs.{needs}
+use Rattle.openqasm_export.proofs.export_uncleared.Statement.{statement}
+use Rattle.openqasm_export.proofs.export_uncleared.Tie as tie
+use Rattle.openqasm_export.proofs.export_uncleared.Reads as reads
+use Rattle.openqasm_export.proofs.export_uncleared.Lts as lts
+use Rattle.listing_check.proofs.check_uncleared.Reads as check-uncleared-reads
+use Rattle.openqasm_export.proofs.write_text.Reads as write-text-reads
+
+check-uncleared-requires : tie.Need-check-uncleared-requires
+check-uncleared-requires c κs = search needs
+
+enum-told : tie.Need-enum-told
+enum-told c = search needs
+
+write-text-requires : tie.Need-write-text-requires
+write-text-requires c κs = search needs
+
+enum-known-refusal : tie.Need-enum-known-refusal
+enum-known-refusal c = search needs
+
+same-length : tie.Need-same-length
+same-length c = search needs
+
+same-length-2 : tie.Need-same-length-2
+same-length-2 c = search needs
+
+returns : tie.Need-returns
+returns c =
+    let a = c .before .before .before .before .before .before .before .before .before .before .before .before .before .before .before .before .args in
+    let b = a .listing .now in
+    let small : (j : ℕ) → getD b j 0 < 256 = λ j. c .before .before .before .before .before .before .before .before .before .before .before .before .before .before .before .shared-slice-known .given j .fits in
+    let is = core-answer b (a .work .now) (c .before .before .before .before .before .before .before .before .before .before .before .before .before .before .before .before .pre .1) (c .before .before .before .before .before .before .before .before .before .before .before .check-uncleared .ensures) in
+    let accepted = c .before .before .before .before .before .before .before .enum-told .given .1 in
+    let long : most-wires ≤ length (c .before .before .before .before .before .before .before .before .before .before .before .check-uncleared .last .1 .0) = omega (arith, c .before .before .before .before .before .before .before .before .before .before .before .before .before .before .before .before .pre .1, c .before .before .before .before .before .before .before .before .before .before .before .check-uncleared .kept .1 .0) in
+    exported b small is accepted (c .before .before .before .before .before .before .before .before .before .before .before .before .before .before .before .before .pre .0) (c .before .before .before .before .write-text .ensures (accepted-whole b _ (is-sound b small is accepted) long))
+
+same-length-3 : tie.Need-same-length-3
+same-length-3 c = search needs
+
+returns-2 : tie.Need-returns-2
+returns-2 c =
+    let a = c .before .before .before .before .before .before .before .before .before .before .args in
+    let b = a .listing .now in
+    declined b (λ j. c .before .before .before .before .before .before .before .before .before .shared-slice-known .given j .fits) (core-answer b (a .work .now) (c .before .before .before .before .before .before .before .before .before .before .pre .1) (c .before .before .before .before .before .check-uncleared .ensures)) (a .out .now) (c .before .refusal .given .1)
+
+pub export-uncleared-spec : {M : Type 1} → statement M
+export-uncleared-spec =
+    tie.close
+    (tie.spec
+    check-uncleared-requires
+    enum-told
+    write-text-requires
+    enum-known-refusal
+    same-length
+    same-length-2
+    returns
+    same-length-3
+    returns-2)

@@ -1,0 +1,115 @@
+-- Laws of the registers that the wires of a listing are in: one for each wire, and each the register of an input.
+use Prim.Native.Nat.{ℕ, zero, suc, _+_, _≤_, _<_}
+use native.Mathlib.Omega.{arith}
+use mathlib.Core.Path.{_≡_, refl, sym, _∙_, ap}
+use mathlib.Core.Bool.{Bool}
+use mathlib.Core.List.{List, [], _∷_, _++_, map, append-nil}
+use mathlib.Core.Option.{Option, none, some}
+use lib.Dec.{eqb, eqb→eq}
+use lib.ListN.{length, getD, length-append, length-map}
+use Rattle.rules.specs.Types.{Wire, wires}
+use Rattle.rules.specs.Gates.{GateType, _to_, gateTable, gateType, gateOutputs, outputWires, inputWires, wiresIn}
+use Rattle.rules.specs.Terms.{Gate, _on_}
+use Rattle.rules.specs.Circuits.{numbers, outputs}
+use Rattle.rules.specs.Sizes.{most-labels}
+use Rattle.rules.specs.Laws.Wires.{every-nth}
+use Rattle.rules.specs.Laws.KnownGates.{KnownGates}
+use Rattle.listing.specs.Reading.{inputCount, kindAt, slotsFrom, firstGates}
+use Rattle.listing.specs.Laws.Decoding.{length-words}
+use Rattle.openqasm.specs.Layout.{registersOf}
+
+-- Does a gate make as many wires as it takes?
+abbrev evenly : GateType → Bool
+evenly (T to U) = eqb (length (wires U)) (length (wires T))
+
+-- Every gate makes as many wires as it takes; a number that is no gate takes and makes none.
+pub as-many : (n : ℕ) → length (gateOutputs n) ≡ wiresIn n
+unfolding wiresIn
+as-many n = of (gateType n) refl
+  where
+    of : (g : Option GateType) → gateType n ≡ g → length (outputWires g) ≡ length (inputWires g)
+    of none e = refl
+    of (some (T to U)) e = eqb→eq (length (wires U)) (length (wires T)) (every-nth evenly gateTable n e tt)
+
+-- Each gate has as many wires as its number says.
+abbrev pub AllCounted : List Gate → Type 0
+AllCounted [] = Unit {0}
+AllCounted ((n on ws) ∷ gs) = (length ws ≡ wiresIn n) × AllCounted gs
+
+-- So have known gates.
+pub known-counted : (gs : List Gate) → KnownGates gs → AllCounted gs
+known-counted [] known = tt
+known-counted ((n on ws) ∷ gs) known = (known .1, known-counted gs (known .2))
+
+-- So have the gates that are read from any bytes.
+pub first-counted : (b : List ℕ) (j : ℕ) → AllCounted (firstGates b j)
+first-counted b zero = tt
+first-counted b (suc j) =
+    let i = inputCount b + j in (length-words b (slotsFrom b i) (wiresIn (kindAt b i)), first-counted b j)
+
+-- A row of k numbers has k of them.
+pub length-numbers : (n k : ℕ) → length (numbers n k) ≡ k
+length-numbers n zero = refl
+length-numbers n (suc k) = ap suc (length-numbers (suc n) k)
+
+-- Each wire that is made has a register.
+pub length-registers : (I : List Wire) (gs : List Gate) → AllCounted gs → length (registersOf I gs) ≡ length (I ++ outputs gs)
+length-registers I [] counted = length-numbers 0 (length I) ∙ ap length (sym (append-nil I))
+length-registers I ((n on ws) ∷ gs) counted =
+    let rs = registersOf I gs in
+    let f : ℕ → ℕ = λ w. getD rs w 0 in
+    omega (
+      arith,
+      length-append rs (map f ws),
+      length-map ws f,
+      length-registers I gs (counted .1),
+      length-append I (outputs gs),
+      length-append I (outputs gs ++ gateOutputs n),
+      length-append (outputs gs) (gateOutputs n),
+      as-many n,
+      counted .0,
+    )
+
+-- What stands at any place of a list is below m: its numbers are, and so is the 0 behind its end.
+abbrev Below : ℕ → List ℕ → Type 0
+Below m rs = (w : ℕ) → getD rs w 0 < m
+
+-- So it is in a row of numbers, in two such lists joined, and in a list of what a function gives.
+numbers-below : (m : ℕ) → 0 < m → (n k : ℕ) → n + k ≤ m → Below m (numbers n k)
+numbers-below m positive n zero few w = positive
+numbers-below m positive n (suc k) few zero = omega arith
+numbers-below m positive n (suc k) few (suc w) = numbers-below m positive (suc n) k (omega arith) w
+
+joined-below : (m : ℕ) (xs ys : List ℕ) → Below m xs → Below m ys → Below m (xs ++ ys)
+joined-below m [] ys first second w = second w
+joined-below m (x ∷ xs) ys first second zero = first 0
+joined-below m (x ∷ xs) ys first second (suc w) = joined-below m xs ys (λ v. first (suc v)) second w
+
+map-below : (m : ℕ) → 0 < m → (f : ℕ → ℕ) → ((w : ℕ) → f w < m) → (ws : List ℕ) → Below m (map f ws)
+map-below m positive f below [] w = positive
+map-below m positive f below (v ∷ ws) zero = below v
+map-below m positive f below (v ∷ ws) (suc w) = map-below m positive f below ws w
+
+-- Registers are below any number that is not 0 and not less than the number of inputs.
+registers-within : (m : ℕ) → 0 < m → (I : List Wire) → length I ≤ m → (gs : List Gate) → Below m (registersOf I gs)
+registers-within m positive I few [] = numbers-below m positive 0 (length I) (omega arith)
+registers-within m positive I few ((n on ws) ∷ gs) =
+    let rs = registersOf I gs in
+    let f : ℕ → ℕ = λ w. getD rs w 0 in
+    let older = registers-within m positive I few gs in
+    joined-below m rs (map f ws) older (map-below m positive f older ws)
+
+-- A wire is in the register of an input.
+pub registers-below : (I : List Wire) (gs : List Gate) (w : ℕ) → 0 < length I → getD (registersOf I gs) w 0 < length I
+registers-below I gs w some-input = registers-within (length I) some-input I (omega arith) gs w
+
+-- There are no more registers than a listing may have inputs.
+pub registers-few : (I : List Wire) (gs : List Gate) (w : ℕ) → length I ≤ most-labels → getD (registersOf I gs) w 0 < most-labels
+registers-few I gs w few = registers-within most-labels (omega arith) I few gs w
+
+-- The same for the registers of wires that a gate takes.
+pub taken-few : (I : List Wire) (gs : List Gate) (ws : List ℕ) (k : ℕ)
+    → length I ≤ most-labels
+    → getD (map (λ w. getD (registersOf I gs) w 0) ws) k 0 < most-labels
+taken-few I gs ws k few =
+    map-below most-labels (omega arith) (λ w. getD (registersOf I gs) w 0) (λ w. registers-few I gs w few) ws k

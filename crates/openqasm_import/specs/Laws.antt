@@ -1,0 +1,4 @@
+pub mod Items
+pub mod Reading
+pub mod Held
+pub mod Parts

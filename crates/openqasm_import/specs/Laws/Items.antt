@@ -1,0 +1,260 @@
+-- Laws of items: what is read at the start of a declaration, of a gate's line and of an output's name, and what is left behind it.
+use Prim.Native.Nat.{ℕ, zero, suc, _+_, _*_, _-_, _/_, _%_, _<_}
+use native.Mathlib.Omega.{arith}
+use native.Mathlib.Decide.{decLt}
+use mathlib.Core.Path.{_≡_, refl, sym, _∙_, ap, ap₂}
+use mathlib.Core.Bool.{true, false, _&&_, cond}
+use mathlib.Core.List.{List, [], _∷_, _++_, append-assoc, append-nil}
+use lib.Dec.{T as IsTrue, eqb}
+use lib.ListN.{getD, drop}
+use lib.Seq.{drop-drop, getD-drop}
+use borrow.Author.Tests.{lt-ltb}
+use Rattle.rules.specs.Types.{Wire, Bit, Qubit}
+use Rattle.rules.specs.Gates.{isGate, wiresIn}
+use Rattle.listing.specs.Listing.{inputKind}
+use Rattle.text.specs.Text.{ascii, digit, decimal}
+use Rattle.text.specs.Laws.Decimals.{one-digit, more-digits}
+use Rattle.openqasm.specs.Layout.{declaration, bitRegister, gateLine, registerName}
+use Rattle.openqasm_reader.specs.declared.Item.{Item}
+use Rattle.openqasm_reader.specs.Items.{isDigit, digitsIn, numberIn, output-item, no-item, kindOf, kindIn, before, between, behind}
+use Rattle.openqasm_reader.specs.Items.{oneNumber, twoNumbers, itemOf, itemIn}
+
+is-digit : (d : ℕ) → d < 10 → isDigit (digit d) ≡ true
+is-digit d small = ap₂ _&&_ (lt-ltb 47 (digit d) (omega arith)) (lt-ltb (digit d) 58 (omega arith))
+
+-- A number of one digit or two is read, and what is behind it is left, if that begins with no digit.
+number-read : (n : ℕ) (t : List ℕ)
+    → n < 100
+    → isDigit (getD t 0 0) ≡ false
+    → (numberIn (decimal n ++ t) ≡ n) × (drop (digitsIn (decimal n ++ t)) (decimal n ++ t) ≡ t)
+number-read n t small ends = of (decLt n 10)
+  where
+    of : Dec (n < 10) → (numberIn (decimal n ++ t) ≡ n) × (drop (digitsIn (decimal n ++ t)) (decimal n ++ t) ≡ t)
+    of (yes p) =
+        let e : decimal n ++ t ≡ digit n ∷ t = ap (λ ds. ds ++ t) (one-digit n p) in
+        let back : digit n - 48 ≡ n = omega arith in (
+          ap numberIn e ∙ ap (λ b. cond b (10 * (digit n - 48) + (getD t 0 0 - 48)) (digit n - 48)) ends ∙ back,
+          ap (λ s. drop (digitsIn s) s) e ∙ ap (λ b. drop (cond b 2 1) (digit n ∷ t)) ends,
+        )
+    of (no p) =
+        let x = digit (n / 10) in
+        let y = digit (n % 10) in
+        let e : decimal n ++ t ≡ x ∷ y ∷ t
+        = ap
+        (λ ds. ds ++ t)
+        (more-digits n (omega arith) ∙ ap (λ ds. ds ++ (y ∷ [])) (one-digit (n / 10) (omega arith))) in
+        let two : isDigit y ≡ true = is-digit (n % 10) (omega arith) in
+        let back : 10 * (x - 48) + (y - 48) ≡ n = omega arith in (
+          ap numberIn e ∙ ap (λ b. cond b (10 * (x - 48) + (y - 48)) (x - 48)) two ∙ back,
+          ap (λ s. drop (digitsIn s) s) e ∙ ap (λ b. drop (cond b 2 1) (x ∷ y ∷ t)) two,
+        )
+
+-- An item by its parts.
+abbrev pub item : ℕ → ℕ → ℕ → ℕ → Item
+item kind first second bytes = record { kind = kind; first = first; second = second; length = bytes }
+
+-- A text begins with this item, and behind it this is left.
+pub record Reads (text : List ℕ) (kind first second : ℕ) (rest : List ℕ) : Type 0 where
+  pub bytes : ℕ
+  pub item-is : itemIn text ≡ item kind first second bytes
+  pub rest-is : drop bytes text ≡ rest
+
+drop-more : (m n : ℕ) (l : List ℕ) → drop (m + n) l ≡ drop n (drop m l)
+drop-more m n l = sym (drop-drop n m l)
+
+-- The item of a text whose kind is known.
+item-of-kind : (kind : ℕ) (text : List ℕ)
+    → kindIn text ≡ kind
+    → eqb kind no-item ≡ false
+    → itemIn text ≡ itemOf kind text
+unfolding itemIn
+item-of-kind kind text is some =
+    ap (λ k. cond (eqb k no-item) (item no-item 0 0 0) (itemOf k text)) is
+    ∙ ap (λ b. cond b (item no-item 0 0 0) (itemOf kind text)) some
+
+module _ (kind r : ℕ) (text t rest : List ℕ) where
+  -- An item with one number is read.
+  one-read : kindIn text ≡ kind
+      → eqb kind no-item ≡ false
+      → eqb (between kind) 0 ≡ true
+      → r < 100
+      → drop (before kind) text ≡ decimal r ++ t
+      → isDigit (getD t 0 0) ≡ false
+      → drop (behind kind) t ≡ rest
+      → Reads text kind r 0 rest
+  one-read is some alone small e ends left =
+      let number = number-read r t small ends in
+      record {
+        bytes = B + d + behind kind;
+        item-is = item-of-kind kind text is some
+            ∙ ap (λ b. cond b (oneNumber kind text) (twoNumbers kind text)) alone
+            ∙ ap (λ n. item kind n 0 (B + d + behind kind)) (ap numberIn e ∙ number .0);
+        rest-is = drop-more (B + d) (behind kind) text
+            ∙ ap (drop (behind kind)) (drop-more B d text ∙ ap (λ s. drop (digitsIn s) s) e ∙ number .1)
+            ∙ left;
+      }
+    where
+      B : ℕ
+      B = before kind
+
+      d : ℕ
+      d = digitsIn (drop B text)
+
+  -- An item with two numbers is read.
+  two-read : (s : ℕ) (u : List ℕ)
+      → kindIn text ≡ kind
+      → eqb kind no-item ≡ false
+      → eqb (between kind) 0 ≡ false
+      → r < 100
+      → drop (before kind) text ≡ decimal r ++ t
+      → isDigit (getD t 0 0) ≡ false
+      → s < 100
+      → drop (between kind) t ≡ decimal s ++ u
+      → isDigit (getD u 0 0) ≡ false
+      → drop (behind kind) u ≡ rest
+      → Reads text kind r s rest
+  two-read s u is some more small e ends small′ e′ ends′ left =
+      let number = number-read r t small ends in
+      let number′ = number-read s u small′ ends′ in
+      let second : drop (d + M) (drop B text) ≡ decimal s ++ u
+      = drop-more d M (drop B text) ∙ ap (drop M) (ap (λ x. drop (digitsIn x) x) e ∙ number .1) ∙ e′ in
+      let sum : B + d + M ≡ B + (d + M) = omega arith in
+      record {
+        bytes = B + d + M + d′ + behind kind;
+        item-is = item-of-kind kind text is some
+            ∙ ap (λ b. cond b (oneNumber kind text) (twoNumbers kind text)) more
+            ∙ ap₂
+            (λ m n. item kind m n (B + d + M + d′ + behind kind))
+            (ap numberIn e ∙ number .0)
+            (ap numberIn second ∙ number′ .0);
+        rest-is = drop-more (B + d + M + d′) (behind kind) text
+            ∙ ap
+            (drop (behind kind))
+            (drop-more (B + d + M) d′ text
+            ∙ ap (λ k. drop d′ (drop k text)) sum
+            ∙ ap (drop d′) (drop-more B (d + M) text)
+            ∙ ap (λ x. drop (digitsIn x) x) second
+            ∙ number′ .1)
+            ∙ left;
+      }
+    where
+      B : ℕ
+      B = before kind
+
+      d : ℕ
+      d = digitsIn (drop B text)
+
+      M : ℕ
+      M = between kind
+
+      d′ : ℕ
+      d′ = digitsIn (drop (d + M) (drop B text))
+
+-- The declaration of an input is read.
+pub declaration-reads : (k : ℕ) (α : Wire) (rest : List ℕ)
+    → k < 100
+    → (s : ℕ) × Reads (declaration k α ++ rest) (inputKind α) k s rest
+unfolding kindOf before between behind
+declaration-reads k Bit rest small =
+    let end = ascii "[1];\n" in
+    (0, one-read 128 k _ (end ++ rest) rest refl refl refl small (append-assoc (decimal k) end rest) refl refl)
+declaration-reads k Qubit rest small =
+    let end = ascii "[1];\n" in
+    let last : ((decimal k ++ end) ++ []) ++ rest ≡ decimal k ++ (end ++ rest)
+    = ap (λ l. l ++ rest) (append-nil (decimal k ++ end)) ∙ append-assoc (decimal k) end rest in
+    let second = (end ++ (bitRegister k ++ [])) ++ rest in (
+      k,
+      two-read 129 k _ second rest k (end ++ rest) refl refl refl small
+          (append-assoc (decimal k) (end ++ (bitRegister k ++ [])) rest)
+          refl small last refl refl,
+    )
+
+-- The name of an output is read, if no digit follows.
+pub output-reads : (α : Wire) (r : ℕ) (rest : List ℕ)
+    → r < 100
+    → isDigit (getD rest 0 0) ≡ false
+    → Reads (32 ∷ (registerName α r ++ rest)) output-item r 0 rest
+unfolding kindOf before between behind
+output-reads Bit r rest small ends = one-read 130 r _ rest rest refl refl refl small refl ends refl
+output-reads Qubit r rest small ends = one-read 130 r _ rest rest refl refl refl small refl ends refl
+
+-- The name of the gate behind `if(c0==1) ` stands behind the first number and five more bytes.
+name-at : (r : ℕ) (text t : List ℕ)
+    → r < 100
+    → drop 4 text ≡ decimal r ++ t
+    → isDigit (getD t 0 0) ≡ false
+    → getD text (9 + digitsIn (drop 4 text)) 0 ≡ getD t 5 0
+name-at r text t small e ends =
+    let d = digitsIn (drop 4 text) in
+    let sum : 9 + d ≡ 4 + d + 5 = omega arith in
+    ap (λ k. getD text k 0) sum
+    ∙ sym (getD-drop (4 + d) text 5 0)
+    ∙ ap
+    (λ l. getD l 5 0)
+    (drop-more 4 d text ∙ ap (λ l. drop (digitsIn l) l) e ∙ number-read r t small ends .1)
+
+-- The line of a gate is read: its number, the register of its first wire and, if it takes two, that of its second.
+pub gate-reads : (n : ℕ) (rs rest : List ℕ)
+    → IsTrue (isGate n)
+    → getD rs 0 0 < 100
+    → getD rs 1 0 < 100
+    → (s : ℕ) × Reads (gateLine n rs ++ rest) n (getD rs 0 0) s rest × (1 < wiresIn n → s ≡ getD rs 1 0)
+unfolding gateLine isGate wiresIn kindOf before between behind
+gate-reads n rs rest known small small′ = of n known
+  where
+    r : ℕ
+    r = getD rs 0 0
+
+    s : ℕ
+    s = getD rs 1 0
+
+    end : List ℕ
+    end = ascii "[0];\n"
+
+    last : (q : ℕ) → (decimal q ++ end) ++ rest ≡ decimal q ++ (end ++ rest)
+    last q = append-assoc (decimal q) end rest
+
+    of : (m : ℕ) → IsTrue (isGate m)
+        → (x : ℕ) × Reads (gateLine m rs ++ rest) m r x rest × (1 < wiresIn m → x ≡ s)
+    of zero g = (0, one-read 0 r _ (end ++ rest) rest refl refl refl small (last r) refl refl, λ more. absurd (omega arith))
+    of (suc zero) g =
+        (0, one-read 1 r _ (end ++ rest) rest refl refl refl small (last r) refl refl, λ more. absurd (omega arith))
+    of (suc (suc zero)) g =
+        (0, one-read 2 r _ (end ++ rest) rest refl refl refl small (last r) refl refl, λ more. absurd (omega arith))
+    of (suc (suc (suc zero))) g =
+        (0, one-read 3 r _ (end ++ rest) rest refl refl refl small (last r) refl refl, λ more. absurd (omega arith))
+    of (suc (suc (suc (suc zero)))) g =
+        (0, one-read 4 r _ (end ++ rest) rest refl refl refl small (last r) refl refl, λ more. absurd (omega arith))
+    of (suc (suc (suc (suc (suc zero))))) g =
+        let t = ascii "[0],q" ++ (decimal s ++ end) in (
+          s,
+          two-read 5 r _ (t ++ rest) rest s (end ++ rest) refl refl refl small (append-assoc (decimal r) t rest) refl small′
+              (last s) refl refl,
+          λ more. refl,
+        )
+    of (suc (suc (suc (suc (suc (suc zero)))))) g =
+        let t = ascii "[0] -> c" ++ (decimal r ++ end) in (
+          r,
+          two-read 6 r _ (t ++ rest) rest r (end ++ rest) refl refl refl small (append-assoc (decimal r) t rest) refl small
+              (last r) refl refl,
+          λ more. absurd (omega arith),
+        )
+    of (suc (suc (suc (suc (suc (suc (suc zero))))))) g =
+        let t = ascii "==1) x q" ++ (decimal s ++ end) in
+        let first = append-assoc (decimal r) t rest in (
+          s,
+          two-read 7 r _ (t ++ rest) rest s (end ++ rest)
+              (ap (kindOf 105 102) (name-at r (gateLine 7 rs ++ rest) (t ++ rest) small first refl))
+              refl refl small first refl small′ (last s) refl refl,
+          λ more. refl,
+        )
+    of (suc (suc (suc (suc (suc (suc (suc (suc zero)))))))) g =
+        let t = ascii "==1) z q" ++ (decimal s ++ end) in
+        let first = append-assoc (decimal r) t rest in (
+          s,
+          two-read 8 r _ (t ++ rest) rest s (end ++ rest)
+              (ap (kindOf 105 102) (name-at r (gateLine 8 rs ++ rest) (t ++ rest) small first refl))
+              refl refl small first refl small′ (last s) refl refl,
+          λ more. refl,
+        )
+    of (suc (suc (suc (suc (suc (suc (suc (suc (suc m))))))))) g = absurd g

@@ -1,0 +1,246 @@
+-- Laws of the parts of an export: its declarations, its gates and the names of its outputs are read back.
+use Prim.Native.Nat.{ℕ, suc, _+_, _≤_, _<_}
+use native.Mathlib.Omega.{arith}
+use native.Mathlib.Nat.{zero-add, suc-add}
+use mathlib.Core.Path.{_≡_, refl, sym, _∙_, ap, ap₂, subst}
+use mathlib.Core.Bool.{true, false, _||_, cond}
+use mathlib.Core.List.{List, [], _∷_, _++_, map, append-assoc, append-nil}
+use lib.Dec.{T as IsTrue, ltb}
+use lib.ListN.{length, getD, set, take, drop, length-append}
+use lib.Seq.{append-snoc}
+use borrow.Author.Tests.{ne-eqb}
+use Rattle.rules.specs.Types.{Wire, Bit, Qubit}
+use Rattle.rules.specs.Gates.{isGate, wiresIn, gateOutputs}
+use Rattle.rules.specs.Terms.{Gate, _on_}
+use Rattle.rules.specs.Circuits.{numbers, outputs, taken, count, TakesEarlier, next-gate}
+use Rattle.rules.specs.Sizes.{most-labels}
+use Rattle.rules.specs.Laws.Booleans.{is-true}
+use Rattle.rules.specs.Laws.Wires.{one-if-equal, count-append}
+use Rattle.rules.specs.Laws.KnownGates.{KnownGates}
+use Rattle.listing.specs.Listing.{inputKind}
+use Rattle.listing.specs.Reading.{inputType}
+use Rattle.listing.specs.Laws.ReadBack.{wires-fit}
+use Rattle.text.specs.Text.{spaced}
+use Rattle.openqasm.specs.Layout.{declaration, declarations, gateLine, gateLines, outputName}
+use Rattle.openqasm_reader.specs.Items.{isDigit, bit-item, qubit-item, itemIn}
+use Rattle.openqasm_import.specs.Reading.{Parts, isInput, withInput, withGate, isOutput, withOutput, itemsRead}
+use Rattle.openqasm_import.specs.Laws.Items.{item, Reads, declaration-reads, gate-reads, output-reads}
+use Rattle.openqasm_import.specs.Laws.Reading.{item-next}
+use Rattle.openqasm_import.specs.Laws.Held.{makes-as-many, takes-some, registerOf, registers-below, holding, heldBehind}
+use Rattle.openqasm_import.specs.Laws.Held.{below-map, typed-made, held-back}
+
+-- Parts, one after the other.
+abbrev parts : List Wire → List Gate → List ℕ → List ℕ → ℕ → List ℕ → Parts
+parts I gs outs held made rest =
+    record { inputs = I; gates = gs; outs = outs; held = held; made = made; rest = rest }
+
+-- What has been read behind these inputs, gates and outputs of an export.
+abbrev pub readTo : List Wire → List Gate → List ℕ → List ℕ → Parts
+readTo I gs outs rest = parts I gs outs (heldBehind most-labels I gs) (length (I ++ outputs gs)) rest
+
+-- The kind of an input in a listing is an input's, and gives its type back.
+type-back : (α : Wire) → inputType (inputKind α) ≡ α
+type-back Bit = refl
+type-back Qubit = refl
+
+input-wanted : (α : Wire) → isInput (inputKind α) ≡ true
+input-wanted Bit = refl
+input-wanted Qubit = refl
+
+-- One more input has been read.
+one-input : (J : List Wire) (α : Wire) (first second bytes : ℕ) (text rest : List ℕ)
+    → drop bytes text ≡ rest
+    → withInput (readTo J [] [] text) (item (inputKind α) first second bytes) ≡ readTo (J ++ (α ∷ [])) [] [] rest
+one-input J α first second bytes text rest left =
+    let L = J ++ (α ∷ []) in
+    let held = numbers 0 most-labels in
+    let more : suc (length (J ++ [])) ≡ length (L ++ [])
+    = omega (arith, length-append J [], length-append J (α ∷ []), length-append L []) in
+    ap (λ β. parts (J ++ (β ∷ [])) [] [] held (suc (length (J ++ []))) (drop bytes text)) (type-back α)
+    ∙ ap₂ (parts L [] [] held) more left
+
+-- Declarations are read, and then at most k more.
+pub inputs-read : (I J : List Wire) (from k : ℕ) (rest : List ℕ)
+    → from + length I ≤ 100
+    → itemsRead isInput withInput (length I + k) (readTo J [] [] (declarations from I ++ rest))
+    ≡ itemsRead isInput withInput k (readTo (J ++ I) [] [] rest)
+inputs-read [] J from k rest few =
+    ap₂ (λ j L. itemsRead isInput withInput j (readTo L [] [] rest)) (zero-add k) (sym (append-nil J))
+inputs-read (α ∷ I) J from k rest few =
+    let later = declarations (suc from) I ++ rest in
+    let text = declaration from α ++ later in
+    let reads = declaration-reads from α later (omega arith) in
+    ap₂
+    (λ j t. itemsRead isInput withInput j (readTo J [] [] t))
+    (suc-add (length I) k)
+    (append-assoc (declaration from α) (declarations (suc from) I) rest)
+    ∙ item-next isInput withInput (length I + k) (readTo J [] [] text) (reads .1) (input-wanted α)
+    ∙ ap
+    (itemsRead isInput withInput (length I + k))
+    (one-input J α from (reads .0) (reads .1 .bytes) text later (reads .1 .rest-is))
+    ∙ inputs-read I (J ++ (α ∷ [])) (suc from) k rest (omega arith)
+    ∙ ap (λ L. itemsRead isInput withInput k (readTo L [] [] rest)) (append-snoc J α I)
+
+-- A gate that takes one wire or two takes what its registers hold, and they come to hold what it makes.
+wires-back : (held : List ℕ) (f : ℕ → ℕ) (ws : List ℕ) (k second made : ℕ)
+    → length ws ≡ k
+    → 1 ≤ k
+    → k ≤ 2
+    → ((w : ℕ) → 1 ≤ count w ws → getD held (f w) 0 ≡ w)
+    → (1 < k → second ≡ getD (map f ws) 1 0)
+    → let first = getD (map f ws) 0 0 in
+    (take k (getD held first 0 ∷ getD held second 0 ∷ []) ≡ ws)
+    × (cond (ltb 1 k) (set (set held first made) second (suc made)) (set held first made) ≡ holding held (map f ws) made)
+wires-back held f [] k second made many least most back both = absurd (omega arith)
+wires-back held f (w ∷ []) k second made many least most back both =
+    subst
+    (λ j.
+    (take j (getD held (f w) 0 ∷ getD held second 0 ∷ []) ≡ w ∷ [])
+    × (cond (ltb 1 j) (set (set held (f w) made) second (suc made)) (set held (f w) made) ≡ set held (f w) made))
+    many
+    (ap (λ x. x ∷ []) (back w (omega (arith, one-if-equal w w refl))), refl)
+wires-back held f (w ∷ v ∷ []) k second made many least most back both =
+    let e = both (omega arith) in
+    subst
+    (λ j.
+    (take j (getD held (f w) 0 ∷ getD held second 0 ∷ []) ≡ w ∷ v ∷ [])
+    × (cond (ltb 1 j) (set (set held (f w) made) second (suc made)) (set held (f w) made)
+    ≡ set (set held (f w) made) (f v) (suc made)))
+    many (
+      ap₂
+          (λ x y. x ∷ y ∷ [])
+          (back w (omega (arith, one-if-equal w w refl)))
+          (ap (λ r. getD held r 0) e ∙ back v (omega (arith, one-if-equal v v refl))),
+      ap (λ r. set (set held (f w) made) r (suc made)) e,
+    )
+wires-back held f (w ∷ v ∷ u ∷ ws) k second made many least most back both = absurd (omega arith)
+
+-- One more gate has been read.
+one-gate : (I : List Wire) (n : ℕ) (ws : List ℕ) (gs : List Gate) (second bytes : ℕ) (text rest : List ℕ)
+    → IsTrue (isGate n)
+    → length ws ≡ wiresIn n
+    → ((w : ℕ) → 1 ≤ count w ws → getD (heldBehind most-labels I gs) (registerOf I gs w) 0 ≡ w)
+    → (1 < wiresIn n → second ≡ getD (map (registerOf I gs) ws) 1 0)
+    → drop bytes text ≡ rest
+    → withGate (readTo I gs [] text) (item n (getD (map (registerOf I gs) ws) 0 0) second bytes)
+    ≡ readTo I ((n on ws) ∷ gs) [] rest
+one-gate I n ws gs second bytes text rest known many back both left =
+    let held = heldBehind most-labels I gs in
+    let rs = map (registerOf I gs) ws in
+    let made = length (I ++ outputs gs) in
+    let e = wires-back held (registerOf I gs) ws (wiresIn n) second made many (takes-some n known) (wires-fit n) back both in
+    let more : made + wiresIn n ≡ length (I ++ outputs ((n on ws) ∷ gs))
+    = omega (
+      arith,
+      length-append I (outputs gs),
+      length-append I (outputs gs ++ gateOutputs n),
+      length-append (outputs gs) (gateOutputs n),
+      makes-as-many n,
+    ) in
+    ap₂ (λ vs h. parts I ((n on vs) ∷ gs) [] h (made + wiresIn n) (drop bytes text)) (e .0) (e .1)
+    ∙ ap₂ (parts I ((n on ws) ∷ gs) [] (holding held rs made)) more left
+
+-- Registers have at most two digits.
+few-registers : (I : List Wire) (gs : List Gate) → length I ≤ most-labels → (w : ℕ) → registerOf I gs w < 100
+few-registers I gs few w = omega (arith, registers-below most-labels I gs (omega arith) few w)
+
+-- The line of the newest gate is read.
+line-reads : (I : List Wire) (n : ℕ) (ws : List ℕ) (gs : List Gate) (rest : List ℕ)
+    → length I ≤ most-labels
+    → IsTrue (isGate n)
+    → let rs = map (registerOf I gs) ws in
+    (s : ℕ) × Reads (gateLine n rs ++ rest) n (getD rs 0 0) s rest × (1 < wiresIn n → s ≡ getD rs 1 0)
+line-reads I n ws gs rest few known =
+    let small = below-map 100 (registerOf I gs) ws (omega arith) (few-registers I gs few) in
+    gate-reads n (map (registerOf I gs) ws) rest known (small 0) (small 1)
+
+-- Gates are read, the oldest first, and then at most k more.
+pub gates-read : (I : List Wire) (gs : List Gate) (k : ℕ) (rest : List ℕ)
+    → length I ≤ most-labels
+    → KnownGates gs
+    → TakesEarlier I gs
+    → ((w : ℕ) → count w (taken gs) ≤ 1)
+    → itemsRead isGate withGate (length gs + k) (readTo I [] [] (gateLines I gs ++ rest))
+    ≡ itemsRead isGate withGate k (readTo I gs [] rest)
+gates-read I [] k rest few known earlier once =
+    ap (λ j. itemsRead isGate withGate j (readTo I [] [] rest)) (zero-add k)
+gates-read I ((n on ws) ∷ gs) k rest few known (next-gate e o earlier) once =
+    let rs = map (registerOf I gs) ws in
+    let text = gateLine n rs ++ rest in
+    let reads = line-reads I n ws gs rest few (known .0) in
+    let older : (w : ℕ) → count w (taken gs) ≤ 1 = λ w. omega (arith, once w, count-append w ws (taken gs)) in
+    let steps : suc (length gs) + k ≡ length gs + suc k = omega arith in
+    ap₂
+    (λ j t. itemsRead isGate withGate j (readTo I [] [] t))
+    steps
+    (append-assoc (gateLines I gs) (gateLine n rs) rest)
+    ∙ gates-read I gs (suc k) text few (known .2) earlier older
+    ∙ item-next isGate withGate k (readTo I gs [] text) (reads .1) (is-true (isGate n) (known .0))
+    ∙ ap
+    (itemsRead isGate withGate k)
+    (one-gate I n ws gs (reads .0) (reads .1 .bytes) text rest (known .0) (known .1)
+    (λ w stands.
+    held-back most-labels I gs (omega arith) few (known .2) earlier older w
+    (typed-made o w stands)
+    (omega (arith, once w, count-append w ws (taken gs))))
+    (reads .2)
+    (reads .1 .rest-is))
+
+-- A gate is no input.
+gate-no-input : (n : ℕ) → IsTrue (isGate n) → isInput n ≡ false
+unfolding isGate
+gate-no-input n known =
+    ap₂
+    _||_
+    (ne-eqb n bit-item (λ e. subst (λ k. IsTrue (isGate k)) e known))
+    (ne-eqb n qubit-item (λ e. subst (λ k. IsTrue (isGate k)) e known))
+
+-- Behind the declarations stands no input, if none stands behind the gates.
+pub gates-no-input : (I : List Wire) (gs : List Gate) (rest : List ℕ)
+    → length I ≤ most-labels
+    → KnownGates gs
+    → isInput (itemIn rest .kind) ≡ false
+    → isInput (itemIn (gateLines I gs ++ rest) .kind) ≡ false
+gates-no-input I [] rest few known none = none
+gates-no-input I ((n on ws) ∷ gs) rest few known none =
+    let rs = map (registerOf I gs) ws in
+    let reads = line-reads I n ws gs rest few (known .0) in
+    ap (λ t. isInput (itemIn t .kind)) (append-assoc (gateLines I gs) (gateLine n rs) rest)
+    ∙ gates-no-input I gs (gateLine n rs ++ rest) few (known .2)
+    (ap (λ i. isInput (i .kind)) (reads .1 .item-is) ∙ gate-no-input n (known .0))
+
+-- No digit follows the name of an output.
+name-ends : (names : List (List ℕ)) (rest : List ℕ)
+    → isDigit (getD rest 0 0) ≡ false
+    → isDigit (getD (spaced names ++ rest) 0 0) ≡ false
+name-ends [] rest ends = ends
+name-ends (name ∷ names) rest ends = refl
+
+-- Names of outputs are read, and then at most k more.
+pub outputs-read : (I : List Wire) (gs : List Gate) (outs before : List ℕ) (k : ℕ) (rest : List ℕ)
+    → length I ≤ most-labels
+    → ((w : ℕ) → 1 ≤ count w outs → getD (heldBehind most-labels I gs) (registerOf I gs w) 0 ≡ w)
+    → isDigit (getD rest 0 0) ≡ false
+    → itemsRead isOutput withOutput (length outs + k) (readTo I gs before (spaced (map (outputName I gs) outs) ++ rest))
+    ≡ itemsRead isOutput withOutput k (readTo I gs (before ++ outs) rest)
+outputs-read I gs [] before k rest few back ends =
+    ap₂ (λ j l. itemsRead isOutput withOutput j (readTo I gs l rest)) (zero-add k) (sym (append-nil before))
+outputs-read I gs (w ∷ outs) before k rest few back ends =
+    let names = map (outputName I gs) outs in
+    let later = spaced names ++ rest in
+    let text : List ℕ = 32 ∷ (outputName I gs w ++ later) in
+    let small = few-registers I gs few w in
+    let reads = output-reads (getD (I ++ outputs gs) w Bit) (registerOf I gs w) later small (name-ends names rest ends) in
+    ap₂
+    (λ j t. itemsRead isOutput withOutput j (readTo I gs before (32 ∷ t)))
+    (suc-add (length outs) k)
+    (append-assoc (outputName I gs w) (spaced names) rest)
+    ∙ item-next isOutput withOutput (length outs + k) (readTo I gs before text) reads refl
+    ∙ ap₂
+    (λ v t.
+    itemsRead isOutput withOutput (length outs + k)
+    (parts I gs (before ++ (v ∷ [])) (heldBehind most-labels I gs) (length (I ++ outputs gs)) t))
+    (back w (omega (arith, one-if-equal w w refl)))
+    (reads .rest-is)
+    ∙ outputs-read I gs outs (before ++ (w ∷ [])) k rest few (λ v h. back v (omega arith)) ends
+    ∙ ap (λ l. itemsRead isOutput withOutput k (readTo I gs l rest)) (append-snoc before w outs)
