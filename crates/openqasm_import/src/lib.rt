@@ -1,1 +1,1 @@
-// x
+// The import of a text.

@@ -23,11 +23,11 @@ use Rattle.listing.specs.Laws.ReadBack.{wires-fit}
 use Rattle.text.specs.Text.{spaced}
 use Rattle.openqasm.specs.Layout.{declaration, declarations, gateLine, gateLines, outputName}
 use Rattle.openqasm_reader.specs.Items.{isDigit, bit-item, qubit-item, itemIn}
-use Rattle.openqasm_import.specs.Reading.{Parts, isInput, withInput, withGate, isOutput, withOutput, itemsRead}
-use Rattle.openqasm_import.specs.Laws.Items.{item, Reads, declaration-reads, gate-reads, output-reads}
-use Rattle.openqasm_import.specs.Laws.Reading.{item-next}
-use Rattle.openqasm_import.specs.Laws.Held.{makes-as-many, takes-some, registerOf, registers-below, holding, heldBehind}
-use Rattle.openqasm_import.specs.Laws.Held.{below-map, typed-made, held-back}
+use Rattle.openqasm_parts.specs.Reading.{Parts, isInput, withInput, withGate, isOutput, withOutput, itemsRead}
+use Rattle.openqasm_parts.specs.Laws.Items.{item, Reads, declaration-reads, gate-reads, output-reads}
+use Rattle.openqasm_parts.specs.Laws.Reading.{item-next}
+use Rattle.openqasm_parts.specs.Laws.Held.{makes-as-many, takes-some, registerOf, registers-below, holding, heldBehind}
+use Rattle.openqasm_parts.specs.Laws.Held.{below-map, typed-made, held-back}
 
 -- Parts, one after the other.
 abbrev parts : List Wire → List Gate → List ℕ → List ℕ → ℕ → List ℕ → Parts

@@ -7,8 +7,8 @@ use mathlib.Core.List.{List}
 use lib.Dec.{T as IsTrue}
 use Rattle.openqasm_reader.specs.declared.Item.{Item}
 use Rattle.openqasm_reader.specs.Items.{itemIn}
-use Rattle.openqasm_import.specs.Reading.{Parts, itemsRead}
-use Rattle.openqasm_import.specs.Laws.Items.{item, Reads}
+use Rattle.openqasm_parts.specs.Reading.{Parts, itemsRead}
+use Rattle.openqasm_parts.specs.Laws.Items.{item, Reads}
 
 module _ (wanted : ℕ → Bool) (with-item : Parts → Item → Parts) where
   -- What every wanted item keeps, all that are read keep.

@@ -20,11 +20,11 @@ use Rattle.wire_table.specs.WireRules.{GoesOnce}
 use Rattle.openqasm.specs.Layout.{gateLines, outputLine, exportText}
 use Rattle.openqasm_reader.specs.declared.Item.{Item}
 use Rattle.openqasm_reader.specs.Items.{kindOf, itemIn}
-use Rattle.openqasm_import.specs.Reading.{Parts, isInput, withInput, wiresTaken, withGate, isOutput, withOutput, itemsRead}
-use Rattle.openqasm_import.specs.Reading.{begun, atOutputs, partsRead}
-use Rattle.openqasm_import.specs.Laws.Reading.{items-keep, items-add, items-end}
-use Rattle.openqasm_import.specs.Laws.Held.{registerOf, heldBehind, held-back}
-use Rattle.openqasm_import.specs.Laws.Parts.{readTo, inputs-read, gates-read, gates-no-input, outputs-read}
+use Rattle.openqasm_parts.specs.Reading.{Parts, isInput, withInput, wiresTaken, withGate, isOutput, withOutput, itemsRead}
+use Rattle.openqasm_parts.specs.Reading.{begun, atOutputs, partsRead}
+use Rattle.openqasm_parts.specs.Laws.Reading.{items-keep, items-add, items-end}
+use Rattle.openqasm_parts.specs.Laws.Held.{registerOf, heldBehind, held-back}
+use Rattle.openqasm_parts.specs.Laws.Parts.{readTo, inputs-read, gates-read, gates-no-input, outputs-read}
 
 -- The parts read from a text, with at most so many inputs, gates and outputs.
 abbrev readWithin : ℕ → ℕ → ℕ → List ℕ → Parts

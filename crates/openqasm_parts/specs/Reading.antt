@@ -1,6 +1,6 @@
--- The parts of a listing, as they are read loosely from an OpenQASM text: the declarations, the gates, the names of the outputs. The
--- import gives what is read here only where its export is the text (specs/Answers).
-use Prim.Native.Nat.{ℕ, zero, suc, _+_}
+-- The parts of a listing, as they are read loosely from an OpenQASM text: the declarations, the gates, the names of the outputs.
+-- The import gives what is read here only where its export is the text.
+use Prim.Native.Nat.{ℕ, zero, suc, _+_, _*_}
 use mathlib.Core.Bool.{Bool, _||_, cond}
 use mathlib.Core.List.{List, [], _∷_, _++_}
 use lib.Dec.{eqb, ltb}
@@ -10,13 +10,13 @@ use Rattle.rules.specs.Gates.{isGate, wiresIn}
 use Rattle.rules.specs.Terms.{Gate, _on_}
 use Rattle.rules.specs.Circuits.{numbers}
 use Rattle.rules.specs.Sizes.{most-labels, most-gates}
-use Rattle.listing.specs.Listing.{most-outputs}
+use Rattle.listing.specs.Listing.{entry-slots, listingBytes, most-outputs}
 use Rattle.listing.specs.Reading.{inputType}
 use Rattle.openqasm_reader.specs.declared.Item.{Item}
 use Rattle.openqasm_reader.specs.Items.{bit-item, qubit-item, output-item, itemIn}
 
--- What has been read: inputs, gates (the newest first) and outputs; which wire each register holds now, and how many wires are made;
--- the text that is left.
+-- What has been read: inputs, gates (the newest first) and outputs; which wire each register holds now, and how many wires are
+-- made; the text that is left.
 pub record Parts : Type 0 where
   pub inputs : List Wire
   pub gates : List Gate
@@ -100,3 +100,14 @@ partsRead text =
     (atOutputs
     (itemsRead isGate withGate most-gates
     (itemsRead isInput withInput most-labels (begun text))))
+
+-- The listing of the parts that are read.
+abbrev pub listingRead : List ℕ → List ℕ
+listingRead text = let p = partsRead text in listingBytes (p .inputs) (p .gates) (p .outs)
+
+-- What the reading needs: a byte for the kind of each entry; the slots of each entry, and the outputs behind them.
+abbrev pub kinds-bytes : ℕ
+kinds-bytes = most-labels + most-gates
+
+abbrev pub slots-bytes : ℕ
+slots-bytes = 2 * entry-slots * (most-labels + most-gates) + 2 * most-outputs
