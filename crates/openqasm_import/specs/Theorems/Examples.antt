@@ -1,0 +1,2 @@
+-- Imports.
+use mathlib.Core.Path.{_≡_, refl}
