@@ -73,7 +73,7 @@ fn wrong_bytes(name: impl Into<String>, bytes: Vec<u8>, number: u8, place: usize
 }
 
 /// The listing of case c3 of 01.
-fn crossed() -> Listing {
+pub fn crossed() -> Listing {
     listing(&[Qubit, Qubit], &[(CNOT, &[0, 1])], &[3, 2])
 }
 

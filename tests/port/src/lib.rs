@@ -1,12 +1,13 @@
 //! The same machine in plain Rust: a term is a row of nodes in a gap buffer,
 //! walked to its next redex and changed in place. Benchmarks compare the
 //! library with it, and a comparison can have it in the library's place. So they
-//! can with the check of a listing.
+//! can with the check of a listing, and with the export and import of OpenQASM.
 
 mod check;
 pub mod listing;
 mod machine;
 mod memory;
+pub mod qasm;
 mod steps;
 
 pub use memory::Memory;

@@ -11,10 +11,10 @@ const MOST_OUTPUTS: usize = 256;
 pub const LEAST_WORK: usize = MOST_LABELS + SLOTS * memory::GATES;
 
 const SLOTS: usize = 2;
-const NO_WIRE: [u8; 2] = [255, 255];
+pub(crate) const NO_WIRE: [u8; 2] = [255, 255];
 
 /// The kind byte of an input that is a Bit; that of a Qubit follows.
-const BIT_INPUT: u8 = 128;
+pub(crate) const BIT_INPUT: u8 = 128;
 const QUBIT_INPUT: u8 = BIT_INPUT + 1;
 
 /// L, G and O.
@@ -26,11 +26,11 @@ pub struct Sizes {
 }
 
 /// The three parts of a listing behind its sizes.
-struct Parts<'a> {
+pub(crate) struct Parts<'a> {
     inputs: usize,
     kinds: &'a [u8],
     slots: &'a [u8],
-    outputs: &'a [u8],
+    pub(crate) outputs: &'a [u8],
 }
 
 /// Checks a listing. The lent bytes are zero afterwards, unless they are too
@@ -61,12 +61,12 @@ fn refuse<T>(number: u8, place: usize) -> Result<T, Refusal> {
     Err(Refusal { number, place })
 }
 
-fn word(bytes: &[u8]) -> usize {
+pub(crate) fn word(bytes: &[u8]) -> usize {
     usize::from(u16::from_le_bytes([bytes[0], bytes[1]]))
 }
 
 /// How a wire of this type that is there is marked.
-fn mark(of: Wire) -> u8 {
+pub(crate) fn mark(of: Wire) -> u8 {
     match of {
         Wire::Bit => 1,
         Wire::Qubit => 2,
@@ -74,7 +74,7 @@ fn mark(of: Wire) -> u8 {
 }
 
 /// None if a size is too large or the length another one.
-fn parts(listing: &[u8]) -> Option<(Sizes, Parts<'_>)> {
+pub(crate) fn parts(listing: &[u8]) -> Option<(Sizes, Parts<'_>)> {
     let (head, rest) = listing.split_at_checked(6)?;
     let sizes = Sizes {
         inputs: word(head),
@@ -102,7 +102,7 @@ fn parts(listing: &[u8]) -> Option<(Sizes, Parts<'_>)> {
 
 impl Parts<'_> {
     /// The entries, each with its kind and its slots.
-    fn entries(&self) -> impl Iterator<Item = (usize, u8, &[u8])> {
+    pub(crate) fn entries(&self) -> impl Iterator<Item = (usize, u8, &[u8])> {
         let slots = self.slots.chunks_exact(2 * SLOTS);
         let entries = self.kinds.iter().zip(slots).enumerate();
         entries.map(|(at, (&kind, slots))| (at, kind, slots))

@@ -1,0 +1,361 @@
+//! Listings written by hand with their texts, and texts that are refused.
+
+use listings::cases::{crossed, listing};
+use listings::sizes::{MOST_GATES, MOST_INPUTS};
+use listings::{Entry, Listing};
+use program_files::Wire::{Bit, Qubit};
+
+/// The numbers of gates.
+const H: u8 = 0;
+const X: u8 = 1;
+const Z: u8 = 2;
+const S: u8 = 3;
+const T: u8 = 4;
+const CNOT: u8 = 5;
+const MEASURE: u8 = 6;
+const BX: u8 = 7;
+const BZ: u8 = 8;
+
+/// A listing that is accepted, and its text.
+pub struct Exported {
+    pub name: &'static str,
+    pub listing: Listing,
+    pub text: String,
+}
+
+/// The first two lines of every text.
+pub const HEAD: &str = "OPENQASM 2.0;\ninclude \"qelib1.inc\";\n";
+
+fn exported(name: &'static str, listing: Listing, lines: &[&str]) -> Exported {
+    let mut text = HEAD.to_string();
+    for line in lines {
+        text += line;
+        text += "\n";
+    }
+    Exported {
+        name,
+        listing,
+        text,
+    }
+}
+
+/// A Qubit is measured, and an X on another is done under the Bit.
+fn measured() -> Exported {
+    exported(
+        "measured, and an X under the Bit",
+        listing(&[Qubit, Qubit], &[(MEASURE, &[1]), (BX, &[2, 0])], &[4, 3]),
+        &[
+            "qreg q0[1];",
+            "creg c0[1];",
+            "qreg q1[1];",
+            "creg c1[1];",
+            "measure q1[0] -> c1[0];",
+            "if(c1==1) x q0[0];",
+            "// out q0 c1",
+        ],
+    )
+}
+
+/// Every gate once, on three lines of which one is a Bit from the start.
+fn all_gates() -> Exported {
+    let gates: [(u8, &[u16]); 10] = [
+        (H, &[2]),       // 3 on line 2
+        (CNOT, &[3, 0]), // 4 on line 2, 5 on line 0
+        (X, &[5]),       // 6 on line 0
+        (Z, &[4]),       // 7 on line 2
+        (S, &[6]),       // 8 on line 0
+        (T, &[7]),       // 9 on line 2
+        (BX, &[1, 9]),   // 10 on line 1, 11 on line 2
+        (MEASURE, &[8]), // 12 on line 0
+        (BZ, &[12, 11]), // 13 on line 0, 14 on line 2
+        (BX, &[10, 14]), // 15 on line 1, 16 on line 2
+    ];
+    exported(
+        "every gate",
+        listing(&[Qubit, Bit, Qubit], &gates, &[16, 13, 15]),
+        &[
+            "qreg q0[1];",
+            "creg c0[1];",
+            "creg c1[1];",
+            "qreg q2[1];",
+            "creg c2[1];",
+            "h q2[0];",
+            "cx q2[0],q0[0];",
+            "x q0[0];",
+            "z q2[0];",
+            "s q0[0];",
+            "t q2[0];",
+            "if(c1==1) x q2[0];",
+            "measure q0[0] -> c0[0];",
+            "if(c0==1) z q2[0];",
+            "if(c1==1) x q2[0];",
+            "// out q2 c0 c1",
+        ],
+    )
+}
+
+/// Lines of two digits.
+fn twelve_lines() -> Exported {
+    let mut inputs = [Bit; 12];
+    (inputs[9], inputs[10], inputs[11]) = (Qubit, Qubit, Qubit);
+    let gates: [(u8, &[u16]); 3] = [(CNOT, &[11, 9]), (MEASURE, &[10]), (BZ, &[14, 12])];
+    let outputs = [16, 15, 13, 0, 1, 2, 3, 4, 5, 6, 7, 8];
+    exported(
+        "lines of two digits",
+        listing(&inputs, &gates, &outputs),
+        &[
+            "creg c0[1];",
+            "creg c1[1];",
+            "creg c2[1];",
+            "creg c3[1];",
+            "creg c4[1];",
+            "creg c5[1];",
+            "creg c6[1];",
+            "creg c7[1];",
+            "creg c8[1];",
+            "qreg q9[1];",
+            "creg c9[1];",
+            "qreg q10[1];",
+            "creg c10[1];",
+            "qreg q11[1];",
+            "creg c11[1];",
+            "cx q11[0],q9[0];",
+            "measure q10[0] -> c10[0];",
+            "if(c10==1) z q11[0];",
+            "// out q11 c10 q9 c0 c1 c2 c3 c4 c5 c6 c7 c8",
+        ],
+    )
+}
+
+/// The table of exports.
+pub fn exports() -> Vec<Exported> {
+    let one = ["qreg q0[1];", "creg c0[1];"];
+    let two = [one[0], one[1], "qreg q1[1];", "creg c1[1];"];
+    let mut all = vec![
+        measured(),
+        all_gates(),
+        twelve_lines(),
+        exported("no wire", listing(&[], &[], &[]), &["// out"]),
+        exported(
+            "a Qubit that passes",
+            listing(&[Qubit], &[], &[0]),
+            &[one[0], one[1], "// out q0"],
+        ),
+        exported(
+            "a Bit that passes",
+            listing(&[Bit], &[], &[0]),
+            &["creg c0[1];", "// out c0"],
+        ),
+        exported(
+            "the listing of c3",
+            crossed(),
+            &[
+                two[0],
+                two[1],
+                two[2],
+                two[3],
+                "cx q0[0],q1[0];",
+                "// out q1 q0",
+            ],
+        ),
+        exported(
+            "two CNOTs, the second the other way round",
+            listing(&[Qubit; 2], &[(CNOT, &[0, 1]), (CNOT, &[3, 2])], &[4, 5]),
+            &[
+                two[0],
+                two[1],
+                two[2],
+                two[3],
+                "cx q0[0],q1[0];",
+                "cx q1[0],q0[0];",
+                "// out q1 q0",
+            ],
+        ),
+    ];
+    for (number, name, line) in [
+        (H, "H", "h q0[0];"),
+        (X, "X", "x q0[0];"),
+        (Z, "Z", "z q0[0];"),
+        (S, "S", "s q0[0];"),
+        (T, "T", "t q0[0];"),
+    ] {
+        all.push(exported(
+            name,
+            listing(&[Qubit], &[(number, &[0])], &[1]),
+            &[one[0], one[1], line, "// out q0"],
+        ));
+    }
+    all.push(exported(
+        "Meas",
+        listing(&[Qubit], &[(MEASURE, &[0])], &[1]),
+        &[one[0], one[1], "measure q0[0] -> c0[0];", "// out c0"],
+    ));
+    all.push(exported(
+        "a Z under a Bit, and a wire between the outputs that passes",
+        listing(&[Qubit, Qubit, Bit], &[(BZ, &[2, 0])], &[3, 1, 4]),
+        &[
+            two[0],
+            two[1],
+            two[2],
+            two[3],
+            "creg c2[1];",
+            "if(c2==1) z q0[0];",
+            "// out c2 q1 q0",
+        ],
+    ));
+    all
+}
+
+/// The longest text that a listing has: all Qubits but the last are measured,
+/// and under the bit of the last of those are as many gates as there can be.
+pub fn longest() -> Listing {
+    let inputs = MOST_INPUTS as u16;
+    let mut longest = listing(&[Qubit; MOST_INPUTS], &[], &[]);
+    for wire in 0..inputs - 1 {
+        longest.gates.push(Entry::gate(MEASURE, &[wire]));
+    }
+    let (mut bit, mut qubit) = (2 * inputs - 2, inputs - 1);
+    for number in longest.gates.len() as u16..MOST_GATES as u16 {
+        longest.gates.push(Entry::gate(BX, &[bit, qubit]));
+        bit = 2 * inputs - 1 + 2 * (number - (inputs - 1));
+        qubit = bit + 1;
+    }
+    longest.outputs = (inputs..2 * inputs - 2).chain([bit, qubit]).collect();
+    longest
+}
+
+/// The length of its text.
+pub const LONGEST: usize = 45_236;
+
+/// So many lines that are Qubits and pass, so many gates on the first, and so
+/// many lines among the outputs.
+pub fn many(lines: usize, gates: usize, outputs: usize) -> Vec<u8> {
+    let mut text = HEAD.to_string();
+    for line in 0..lines {
+        text += &format!("qreg q{line}[1];\ncreg c{line}[1];\n");
+    }
+    text += &"h q0[0];\n".repeat(gates);
+    text += "// out";
+    for line in 0..outputs {
+        text += &format!(" q{line}");
+    }
+    text += "\n";
+    text.into_bytes()
+}
+
+/// A text that is refused.
+pub struct Refused {
+    pub name: String,
+    pub text: Vec<u8>,
+}
+
+fn refused(name: impl Into<String>, text: impl Into<Vec<u8>>) -> Refused {
+    Refused {
+        name: name.into(),
+        text: text.into(),
+    }
+}
+
+/// What is written in the text of the measured Qubit, and what in its place is
+/// refused.
+const CHANGES: [(&str, &str); 66] = [
+    ("OPENQASM 2.0;", "OPENQASM 2;"),
+    ("OPENQASM 2.0;", "OPENQASM 2.00;"),
+    ("OPENQASM 2.0;", "OPENQASM 3.0;"),
+    ("OPENQASM 2.0;", "OPENQASM  2.0;"),
+    ("OPENQASM 2.0;", "OPENQASM 2.0 ;"),
+    ("OPENQASM 2.0;", "openqasm 2.0;"),
+    ("OPENQASM 2.0;", "// text\nOPENQASM 2.0;"),
+    ("OPENQASM 2.0;\n", ""),
+    ("include \"qelib1.inc\";\n", ""),
+    ("qelib1.inc", "qelib2.inc"),
+    ("\"qelib1.inc\"", "qelib1.inc"),
+    ("qreg q0[1];\n", ""),
+    ("creg c0[1];\n", ""),
+    ("creg c1[1];\n", ""),
+    ("qreg q0[1];", "qreg q00[1];"),
+    ("qreg q0[1];", "qreg q0[2];"),
+    ("qreg q0[1];", "qreg q0[01];"),
+    ("qreg q0[1];", "qreg q0 [1];"),
+    ("qreg q0[1];", "qreg r0[1];"),
+    ("qreg q0[1];", "qreg q[1];"),
+    ("qreg q0[1];", "qreg q1[1];"),
+    ("qreg q0[1];\ncreg c0[1];", "creg c0[1];\nqreg q0[1];"),
+    ("qreg q1[1];\ncreg c1[1];", "qreg q2[1];\ncreg c2[1];"),
+    ("creg c1[1];\n", "creg c1[1];\nqreg q2[1];\n"),
+    ("creg c1[1];\n", "creg c1[1];\ncreg c2[1];\n"),
+    ("creg c1[1];\n", "creg c1[1];\ncreg c1[1];\n"),
+    ("creg c1[1];\n", "creg c1[1];\n\n"),
+    ("creg c1[1];\n", "creg c1[1];\nbarrier q0[0];\n"),
+    ("creg c1[1];\n", "creg c1[1];\nid q0[0];\n"),
+    ("creg c1[1];\n", "creg c1[1];\ncx q0[0],q0[0];\n"),
+    ("creg c1[1];\n", "creg c1[1];\ncx q0[0], q1[0];\n"),
+    ("creg c1[1];\n", "creg c1[1];\ncx q0[0],q2[0];\n"),
+    ("creg c1[1];\n", "creg c1[1];\nh q2[0];\n"),
+    ("creg c1[1];\n", "creg c1[1];\nh q0[1];\n"),
+    ("creg c1[1];\n", "creg c1[1];\nh q0;\n"),
+    ("creg c1[1];\n", "creg c1[1];\nh c0[0];\n"),
+    ("creg c1[1];\n", "creg c1[1];\nif(c1==1) x q0[0];\n"),
+    ("measure q1[0] -> c1[0];", "measure q1[0] -> c0[0];"),
+    ("measure q1[0] -> c1[0];", "measure q1[0]->c1[0];"),
+    ("measure q1[0] -> c1[0];", "measure q1 -> c1;"),
+    ("measure q1[0] -> c1[0];", "measure q01[0] -> c01[0];"),
+    ("measure q1[0] -> c1[0];", "measure q2[0] -> c2[0];"),
+    (" -> c1[0];\n", " -> c1[0];\nmeasure q1[0] -> c1[0];\n"),
+    (" -> c1[0];\n", " -> c1[0];\nh q1[0];\n"),
+    (" -> c1[0];\n", " -> c1[0];\ncreg c2[1];\n"),
+    ("if(c1==1)", "if(c1==0)"),
+    ("if(c1==1)", "if(c1==01)"),
+    ("if(c1==1)", "if(c1==2)"),
+    ("if(c1==1)", "if (c1==1)"),
+    ("if(c1==1)", "if(c1 == 1)"),
+    ("if(c1==1)", "if(c0==1)"),
+    ("if(c1==1)", "if(q1==1)"),
+    ("if(c1==1)", "if(c1[0]==1)"),
+    ("x q0[0];", "y q0[0];"),
+    ("x q0[0];", "h q0[0];"),
+    ("x q0[0];", "x q1[0];"),
+    ("// out q0 c1", "//out q0 c1"),
+    ("// out q0 c1", "// out  q0 c1"),
+    ("// out q0 c1", "// out q0 q1"),
+    ("// out q0 c1", "// out c0 c1"),
+    ("// out q0 c1", "// out q0"),
+    ("// out q0 c1", "// out q0 c1 c1"),
+    ("// out q0 c1", "// out q0 c01"),
+    ("// out q0 c1", "// out q0 c1 "),
+    ("// out q0 c1\n", ""),
+    ("// out q0 c1\n", "// out q0 c1"),
+];
+
+/// The table of texts that are refused.
+pub fn texts() -> Vec<Refused> {
+    let text = measured().text;
+    let mut all = vec![
+        refused("no byte", ""),
+        refused("one line end", "\n"),
+        refused("two lines alone", HEAD),
+        refused("two lines and no line end", HEAD.trim_end()),
+        refused("a text and a line end", format!("{text}\n")),
+        refused("a text and a byte 0", format!("{text}\0")),
+        refused("a text twice", text.repeat(2)),
+        refused("a line end before", format!("\n{text}")),
+        refused("a space before", format!(" {text}")),
+        refused("a byte order mark before", format!("\u{feff}{text}")),
+        refused("line ends of two bytes", text.replace('\n', "\r\n")),
+        refused("line ends that are 13", text.replace('\n', "\r")),
+        refused("tabs for spaces", text.replace(' ', "\t")),
+        refused("in capitals", text.to_uppercase()),
+        refused("65 Qubits", many(MOST_INPUTS + 1, 0, MOST_INPUTS + 1)),
+        refused("2,049 gates", many(1, MOST_GATES + 1, 1)),
+        refused("257 outputs", many(MOST_INPUTS, 0, 257)),
+        refused("60,000 bytes behind", text.clone() + &" ".repeat(60_000)),
+        refused("60,000 zero bytes", vec![0; 60_000]),
+        refused("20,000 gates", many(1, 20_000, 1)),
+    ];
+    for (old, new) in CHANGES {
+        assert_eq!(text.matches(old).count(), 1, "places of {old:?}");
+        let name = format!("{new:?} for {old:?}");
+        all.push(refused(name, text.replace(old, new)));
+    }
+    all
+}

@@ -1,0 +1,46 @@
+//! The tables of cases, and the listings of the examples.
+
+use crate::compare::Comparison;
+use comparing::cases::{self as programs, LIMITS};
+use comparing::Known;
+use evaluator::text::LIMIT;
+use evaluator::Answer;
+use example_programs::examples;
+use qasm::cases::{exports, longest, texts, LONGEST};
+use qasm::parse;
+
+pub fn compare(comparison: &mut Comparison) {
+    comparison.group("written by hand");
+    for case in exports() {
+        let text = comparison.accepted(&case.listing);
+        let text = String::from_utf8(text).expect("a text");
+        assert_eq!(text, case.text, "the text of {}", case.name);
+    }
+    for case in listings::cases::all() {
+        let known = match case.answer {
+            Ok(_) => Known::Accepted,
+            Err(refusal) => Known::refused(refusal),
+        };
+        comparison.listing(&case.bytes, &known);
+    }
+    for case in texts() {
+        assert_eq!(parse(&case.text), None, "{}", case.name);
+        comparison.text(&case.text, &Known::Refused(27, 0));
+    }
+    let text = comparison.accepted(&longest());
+    assert_eq!(text.len(), LONGEST, "the longest text");
+    comparison.group("of the cases and examples that run");
+    for program in programs::all() {
+        for limit in LIMITS {
+            if let Ok(finished) = program.run(limit) {
+                comparison.listing(finished.listing.bytes, &Known::Accepted);
+            }
+        }
+    }
+    for example in examples() {
+        let Answer::Finished { listing, .. } = evaluator::run(&example.file, LIMIT) else {
+            panic!("{} does not finish", example.name);
+        };
+        comparison.listing(&listing, &Known::Accepted);
+    }
+}

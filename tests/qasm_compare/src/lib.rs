@@ -1,0 +1,3 @@
+//! The export and the import of OpenQASM that are under test.
+
+pub mod under_test;
