@@ -1,6 +1,7 @@
-//! The example programs as files, each with the lines that `wirelist` prints.
-//! The files in the folder `examples` of the current folder are compared with
-//! them; with the word `write` they are written.
+//! The example programs as files, each with the lines that `wirelist` prints and
+//! with its text in OpenQASM, from which its listing comes back. The files in the
+//! folder `examples` of the current folder are compared with them; with the word
+//! `write` they are written.
 
 use example_programs::examples;
 use std::env;
@@ -16,6 +17,7 @@ fn main() {
         let endings = [
             ("pqm", &example.file[..]),
             ("txt", example.lines.as_bytes()),
+            ("qasm", &example.text[..]),
         ];
         for (ending, bytes) in endings {
             let path = Path::new("examples").join(example.name);
@@ -27,6 +29,10 @@ fn main() {
                 println!("{} is not as it is built", path.display());
                 differences += 1;
             }
+        }
+        if qasm::import(&example.text) != Ok(example.listing) {
+            println!("the text of {} gives another listing", example.name);
+            differences += 1;
         }
     }
     println!("example_programs: {files} files, {differences} differences");

@@ -3,8 +3,6 @@
 use crate::compare::Comparison;
 use comparing::cases::{self as programs, LIMITS};
 use comparing::Known;
-use evaluator::text::LIMIT;
-use evaluator::Answer;
 use example_programs::examples;
 use qasm::cases::{exports, longest, texts, LONGEST};
 use qasm::parse;
@@ -38,9 +36,6 @@ pub fn compare(comparison: &mut Comparison) {
         }
     }
     for example in examples() {
-        let Answer::Finished { listing, .. } = evaluator::run(&example.file, LIMIT) else {
-            panic!("{} does not finish", example.name);
-        };
-        comparison.listing(&listing, &Known::Accepted);
+        comparison.listing(&example.listing, &Known::Accepted);
     }
 }
