@@ -1,8 +1,9 @@
 /*
  * An example host: checks and runs the program file that the command line names.
  * Standard output has the lines of its listing, or `refused NUMBER PLACE`; standard error has its type, in preorder.
- * With a second name the listing is checked as one from elsewhere would be, and its bytes are written to that file.
- * Exit status: 0 finished, 1 refused, 2 the file cannot be read or the output or the listing not written.
+ * With a second name the listing is checked as one from elsewhere would be, and its bytes are written to that file; with a third
+ * one its text in OpenQASM 2.0 is written to that.
+ * Exit status: 0 finished, 1 refused, 2 the file cannot be read or the output, the listing or the text not written.
  */
 #include "gawipsol.h"
 
@@ -16,6 +17,8 @@ static struct gawipsol_machine machine;
 static uint8_t type[GAWIPSOL_CHECK_OUT];
 static uint8_t listing[GAWIPSOL_RUN_OUT];
 static uint8_t work[GAWIPSOL_LISTING_WORK];
+static uint8_t text[GAWIPSOL_EXPORT_OUT];
+static uint8_t export_work[GAWIPSOL_EXPORT_WORK];
 
 static const char *const type_names[] = {"Bit", "Qubit", "pair", "function", "reusable", "circuit"};
 
@@ -89,28 +92,45 @@ static size_t check_and_run(size_t length)
     return gawipsol_run_length(answer);
 }
 
-/* Checks the listing and writes its bytes to a file; whether they are written. */
-static int write_listing(size_t length, const char *name)
+/* Writes bytes to a file; whether they are written. */
+static int write_file(const char *name, const uint8_t *bytes, size_t length)
 {
-    const uint64_t answer = gawipsol_check_listing(listing, length, work, sizeof work);
-    FILE *to;
+    FILE *to = fopen(name, "wb");
     size_t written;
 
-    if (gawipsol_number(answer) != GAWIPSOL_ACCEPTED) {
-        fprintf(stderr, "the listing is refused: %u %u\n", gawipsol_number(answer), gawipsol_place(answer));
-        return 0;
-    }
-    to = fopen(name, "wb");
     if (to == NULL) {
         perror(name);
         return 0;
     }
-    written = fwrite(listing, 1, length, to);
+    written = fwrite(bytes, 1, length, to);
     if (fclose(to) != 0 || written != length) {
         fprintf(stderr, "%s: cannot be written\n", name);
         return 0;
     }
     return 1;
+}
+
+/* Whether an answer about the listing is no refusal; a refusal is printed. */
+static int is_accepted(uint64_t answer)
+{
+    if (gawipsol_number(answer) == GAWIPSOL_ACCEPTED)
+        return 1;
+    fprintf(stderr, "the listing is refused: %u %u\n", gawipsol_number(answer), gawipsol_place(answer));
+    return 0;
+}
+
+/* Checks the listing and writes its bytes to a file; whether they are written. */
+static int write_listing(const char *name, size_t length)
+{
+    return is_accepted(gawipsol_check_listing(listing, length, work, sizeof work)) && write_file(name, listing, length);
+}
+
+/* Exports the listing and writes its text to a file; whether it is written. */
+static int write_text(const char *name, size_t length)
+{
+    const uint64_t answer = gawipsol_export(listing, length, text, sizeof text, export_work, sizeof export_work);
+
+    return is_accepted(answer) && write_file(name, text, gawipsol_export_length(answer));
 }
 
 int main(int count, char **words)
@@ -119,8 +139,9 @@ int main(int count, char **words)
     size_t length, listing_length;
     int unread;
 
-    if (count != 2 && count != 3) {
-        fprintf(stderr, "usage: host FILE [LISTING]; the listing of a program that finishes is written to LISTING\n");
+    if (count < 2 || count > 4) {
+        fprintf(stderr, "usage: host FILE [LISTING [TEXT]]; of a program that finishes the listing is written to LISTING, its text"
+                        " in OpenQASM 2.0 to TEXT\n");
         return 2;
     }
     from = fopen(words[1], "rb");
@@ -140,5 +161,9 @@ int main(int count, char **words)
         return 2;
     if (listing_length == 0)
         return 1;
-    return count == 3 && !write_listing(listing_length, words[2]) ? 2 : 0;
+    if (count > 2 && !write_listing(words[2], listing_length))
+        return 2;
+    if (count > 3 && !write_text(words[3], listing_length))
+        return 2;
+    return 0;
 }

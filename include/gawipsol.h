@@ -1,15 +1,17 @@
 /*
- * The reading, the check and the run of program files, and the check of listings, for hosts in C (C99) and C++ on x86-64.
- * All are in target/staticlib/libcabinet.a; docs/FORMATS.md has the layout of files, listings and buffers.
+ * The reading, the check and the run of program files, the check of listings, and their export to OpenQASM 2.0 and import from it,
+ * for hosts in C (C99) and C++ on x86-64.
+ * All are in target/staticlib/libcabinet.a; docs/FORMATS.md has the layout of files, listings, texts and buffers.
  *
- * What the host owes: each pointer with its length is one buffer, readable and, all but the file or the listing, writable; no
- * pointer is null, even with length 0; no two buffers overlap; nothing else writes them meanwhile; 1 MiB of stack is free
- * (measured; docs/FORMATS.md, "Stack").
+ * What the host owes: each pointer with its length is one buffer, readable and, all but the file, the listing or the text that is
+ * taken, writable; no pointer is null, even with length 0; no two buffers overlap; nothing else writes them meanwhile; 1 MiB of
+ * stack is free (measured; docs/FORMATS.md, "Stack").
  * Nothing is kept between calls, so calls with buffers of their own may run at the same time.
  *
- * An operation on programs takes a file, one on listings takes a listing: one that a run has written, or any other bytes.
+ * An operation on programs takes a file, one on listings takes a listing: one that a run has written, or any other bytes. An import
+ * takes a text: one that an export has written, or any other bytes.
  *
- * What is promised, for every file, every listing and every length of buffer:
+ * What is promised, for every file, every listing, every text and every length of buffer:
  * - Refusal 19 comes before all else: a buffer is shorter than its least length, and no buffer is touched.
  * - After any other answer every working memory is zero, in its whole length.
  * - Accepted or finished: the answer is at the start of `out`, and the bytes of `out` past it keep their values.
@@ -37,6 +39,13 @@ extern "C" {
 
 /* The least length of the working memory of a check of a listing, in bytes. */
 #define GAWIPSOL_LISTING_WORK 4160
+
+/* The least lengths of the buffers of an export, in bytes. No text is longer than its output buffer. */
+#define GAWIPSOL_EXPORT_OUT 55211
+#define GAWIPSOL_EXPORT_WORK 4160
+
+/* The least length of the output buffer of an import, in bytes, which is the length of the longest listing. */
+#define GAWIPSOL_IMPORT_OUT 11078
 
 /*
  * The number of an answer: 0, or that of the refusal. A place is an entry number where one is named here, else 0; where several
@@ -76,7 +85,10 @@ enum gawipsol_number {
      * A wire not made before it is taken, of another type, gone already, or left over. Place: the gate that takes it, else the
      * number of entries and the number of the output, else the entry that made the lowest wire left over.
      */
-    GAWIPSOL_LISTING_WIRES = 26
+    GAWIPSOL_LISTING_WIRES = 26,
+
+    /* Texts in OpenQASM 2.0. */
+    GAWIPSOL_NO_EXPORT = 27 /* the text is the export of no listing that is accepted */
 };
 
 /*
@@ -203,6 +215,37 @@ static inline unsigned gawipsol_listing_outputs(uint64_t answer)
 }
 
 /*
+ * The export of a listing of any length: `out` has its text in OpenQASM 2.0. Every listing that is accepted has one; any other is
+ * refused as its check refuses it. `work` is working memory.
+ */
+uint64_t gawipsol_export(const uint8_t *listing, size_t listing_length,
+                         uint8_t *out, size_t out_length,
+                         uint8_t *work, size_t work_length);
+
+/* Written: the length of the text, in bytes. */
+static inline size_t gawipsol_export_length(uint64_t answer)
+{
+    return (size_t)(answer >> 6 & 0xFFFF);
+}
+
+/*
+ * The import of a text of any length: `out` has the listing whose export the text is, byte for byte; any other text is refused.
+ * All buffers after `out` are working memory; their least lengths are those of the arrays of `struct gawipsol_importer`.
+ */
+uint64_t gawipsol_import(const uint8_t *text, size_t text_length,
+                         uint8_t *out, size_t out_length,
+                         uint8_t *rows, size_t rows_length,
+                         uint8_t *listing, size_t listing_length,
+                         uint8_t *table, size_t table_length,
+                         uint8_t *exported, size_t exported_length);
+
+/* Written: the length of the listing, in bytes. */
+static inline size_t gawipsol_import_length(uint64_t answer)
+{
+    return (size_t)(answer >> 6 & 0xFFFF);
+}
+
+/*
  * The working memory of a run as one object, with each buffer in its least length, in the order in which they are lent. Its
  * bytes need not be set before a call.
  */
@@ -246,6 +289,27 @@ static inline uint64_t gawipsol_check_in(struct gawipsol_machine *machine,
                                          uint8_t *out, size_t out_length)
 {
     return gawipsol_check(file, file_length, out, out_length, machine->nodes, sizeof machine->nodes);
+}
+
+/* The working memory of an import as one object, in the same way. */
+struct gawipsol_importer {
+    uint8_t rows[11072];
+    uint8_t listing[GAWIPSOL_IMPORT_OUT];
+    uint8_t table[GAWIPSOL_LISTING_WORK];
+    uint8_t exported[GAWIPSOL_EXPORT_OUT];
+};
+
+/* The import in the memory of an importer. */
+static inline uint64_t gawipsol_import_in(struct gawipsol_importer *importer,
+                                          const uint8_t *text, size_t text_length,
+                                          uint8_t *out, size_t out_length)
+{
+    return gawipsol_import(text, text_length,
+                           out, out_length,
+                           importer->rows, sizeof importer->rows,
+                           importer->listing, sizeof importer->listing,
+                           importer->table, sizeof importer->table,
+                           importer->exported, sizeof importer->exported);
 }
 
 #ifdef __cplusplus

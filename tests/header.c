@@ -1,8 +1,9 @@
 /*
  * The header against the library: every exported function and every accessor, on the cases of 01 and 02, on files with large
- * numbers and on listings, whose answers are known. It is C99 and C++. Each difference is a sentence on standard error; the exit
- * status is 1 if there is one. The program cases_header of tests/comparing prints cases.h, the cases from the table of the
- * comparisons, and listing_cases_header of tests/listings prints listing_cases.h, the table of listings.
+ * numbers, on listings and on texts, whose answers are known. It is C99 and C++. Each difference is a sentence on standard error;
+ * the exit status is 1 if there is one. The program cases_header of tests/comparing prints cases.h, the cases from the table of the
+ * comparisons, listing_cases_header of tests/listings prints listing_cases.h, the table of listings, and qasm_cases_header of
+ * tests/qasm prints qasm_cases.h, the table of texts.
  */
 #include "gawipsol.h"
 
@@ -17,6 +18,10 @@ static uint8_t work[GAWIPSOL_CHECK_WORK];
 static uint8_t type[GAWIPSOL_CHECK_OUT];
 static uint8_t out[GAWIPSOL_RUN_OUT];
 static uint8_t listing_work[GAWIPSOL_LISTING_WORK];
+static uint8_t text[GAWIPSOL_EXPORT_OUT];
+static uint8_t export_work[GAWIPSOL_EXPORT_WORK];
+static uint8_t imported[GAWIPSOL_IMPORT_OUT];
+static struct gawipsol_importer importer;
 
 static uint8_t file[GAWIPSOL_LONGEST_FILE];
 static size_t file_length;
@@ -211,6 +216,131 @@ static void check_listings(void)
     }
 }
 
+/* The export of a listing, whose text is known, or which is refused. */
+static void check_export(const uint8_t *listing, size_t length, unsigned number, unsigned place,
+                         const uint8_t *known, size_t known_length)
+{
+    uint64_t answer;
+
+    memset(text, MARK, sizeof text);
+    memset(export_work, MARK, sizeof export_work);
+    answer = gawipsol_export(listing, length, text, sizeof text, export_work, sizeof export_work);
+    refusal("export", answer, number, place);
+    if (number == GAWIPSOL_ACCEPTED)
+        same("export", "length of the text", (unsigned long)gawipsol_export_length(answer), (unsigned long)known_length);
+    holds("export", "the text is that of the case", memcmp(text, known, known_length) == 0);
+    holds("export", "the output buffer past the text is unchanged",
+          all(text + known_length, sizeof text - known_length, MARK));
+    holds("export", "the working memory is zero", all(export_work, sizeof export_work, 0));
+}
+
+/* The import of a text, whose listing is known, or which is refused. */
+static void check_import(const uint8_t *of, size_t length, unsigned number, const uint8_t *known, size_t known_length)
+{
+    uint64_t answer;
+
+    memset(imported, MARK, sizeof imported);
+    memset(&importer, MARK, sizeof importer);
+    answer = gawipsol_import_in(&importer, of, length, imported, sizeof imported);
+    refusal("import", answer, number, 0);
+    if (number == GAWIPSOL_ACCEPTED)
+        same("import", "length of the listing", (unsigned long)gawipsol_import_length(answer), (unsigned long)known_length);
+    holds("import", "the listing is that of the case", memcmp(imported, known, known_length) == 0);
+    holds("import", "the output buffer past the listing is unchanged",
+          all(imported + known_length, sizeof imported - known_length, MARK));
+    holds("import", "the importer is zero", all(&importer, sizeof importer, 0));
+}
+
+/* A text, and the listing whose export it is, or the number with which it is refused. */
+struct text_case {
+    const char *name;
+    unsigned number;
+    const uint8_t *listing;
+    size_t listing_length;
+    const uint8_t *text;
+    size_t text_length;
+};
+
+#include "qasm_cases.h"
+
+static void check_texts(void)
+{
+    static const uint8_t nothing[1] = {0};
+    size_t at;
+
+    for (at = 0; at < sizeof text_cases / sizeof text_cases[0]; at++) {
+        const struct text_case *of = &text_cases[at];
+
+        name = of->name;
+        check_import(of->text, of->text_length, of->number, of->listing, of->listing_length);
+        if (of->number == GAWIPSOL_ACCEPTED)
+            check_export(of->listing, of->listing_length, of->number, 0, of->text, of->text_length);
+    }
+    for (at = 0; at < sizeof listing_cases / sizeof listing_cases[0]; at++) {
+        const struct listing_case *of = &listing_cases[at];
+
+        name = of->name;
+        if (of->number != GAWIPSOL_ACCEPTED)
+            check_export(of->listing, of->length, of->number, of->place, nothing, 0);
+    }
+}
+
+/* The buffers of an import. */
+enum import_buffer {
+    IMPORTED,
+    ROWS,
+    LISTING,
+    TABLE,
+    EXPORTED,
+    IMPORT_BUFFERS
+};
+
+/* The lengths of export and import in the header are the least ones: 19 with one byte less. */
+static void check_text_lengths(void)
+{
+    const struct text_case *of = &text_cases[0];
+    size_t lengths[IMPORT_BUFFERS] = {
+        sizeof imported,
+        sizeof importer.rows,
+        sizeof importer.listing,
+        sizeof importer.table,
+        sizeof importer.exported,
+    };
+    int shorter;
+
+    name = of->name;
+    memset(text, MARK, sizeof text);
+    memset(export_work, MARK, sizeof export_work);
+    refusal("export with a short output buffer",
+            gawipsol_export(of->listing, of->listing_length, text, sizeof text - 1, export_work, sizeof export_work),
+            GAWIPSOL_BUFFER_TOO_SHORT, 0);
+    refusal("export with a short working memory",
+            gawipsol_export(of->listing, of->listing_length, text, sizeof text, export_work, sizeof export_work - 1),
+            GAWIPSOL_BUFFER_TOO_SHORT, 0);
+    holds("export with a short buffer", "no buffer is touched",
+          all(text, sizeof text, MARK) && all(export_work, sizeof export_work, MARK));
+
+    for (shorter = 0; shorter < IMPORT_BUFFERS; shorter++) {
+        char operation[40];
+
+        sprintf(operation, "import with buffer %d short", shorter);
+        memset(imported, MARK, sizeof imported);
+        memset(&importer, MARK, sizeof importer);
+        lengths[shorter]--;
+        refusal(operation,
+                gawipsol_import(of->text, of->text_length,
+                                imported, lengths[IMPORTED],
+                                importer.rows, lengths[ROWS],
+                                importer.listing, lengths[LISTING],
+                                importer.table, lengths[TABLE],
+                                importer.exported, lengths[EXPORTED]),
+                GAWIPSOL_BUFFER_TOO_SHORT, 0);
+        lengths[shorter]++;
+        holds(operation, "no buffer is touched",
+              all(imported, sizeof imported, MARK) && all(&importer, sizeof importer, MARK));
+    }
+}
+
 /* Lifts from an entry on around a gate. */
 static void lifts(unsigned from, unsigned gate)
 {
@@ -350,6 +480,8 @@ static void check_fields(void)
     same("check of a listing", "number of inputs", gawipsol_listing_inputs(ones), 127);
     same("check of a listing", "number of gates", gawipsol_listing_gates(ones), 4095);
     same("check of a listing", "number of outputs", gawipsol_listing_outputs(ones), 511);
+    same("export", "length of the text", (unsigned long)gawipsol_export_length(ones), 65535);
+    same("import", "length of the listing", (unsigned long)gawipsol_import_length(ones), 65535);
 }
 
 int main(void)
@@ -359,6 +491,8 @@ int main(void)
     check_large();
     check_lengths();
     check_listings();
+    check_texts();
+    check_text_lengths();
     if (differences != 0)
         fprintf(stderr, "%d differences between header and library.\n", differences);
     return differences != 0;
