@@ -359,3 +359,65 @@ pub fn texts() -> Vec<Refused> {
     }
     all
 }
+
+/// Two Qubits are declared.
+const TWO: &str = "qreg q0[1];\ncreg c0[1];\nqreg q1[1];\ncreg c1[1];\n";
+
+/// Statements behind these that the language's grammar, its scopes or its types
+/// do not allow.
+const NOT_ALLOWED: [&str; 36] = [
+    "h q2[0];",
+    "h q0[1];",
+    "h q0[00];",
+    "h q0[0]",
+    "h q0[0;",
+    "h q0 0;",
+    "h [0];",
+    "h;",
+    "H q0[0];",
+    "h c0[0];",
+    "h q0[0],q1[0];",
+    "y2 q0[0];",
+    "cx q0[0];",
+    "cx q0[0],q0[0];",
+    "cx q0[0] q1[0];",
+    "cx q0[0],c1[0];",
+    "qreg q0[1];",
+    "creg q0[1];",
+    "creg h[1];",
+    "qreg Q[1];",
+    "qreg if[1];",
+    "qreg q2[01];",
+    "qreg q2;",
+    "measure q0[0] c0[0];",
+    "measure q0[0] -> q1[0];",
+    "measure c0[0] -> c1[0];",
+    "measure q0[0] -> c0[1];",
+    "if(c0==01) x q0[0];",
+    "if(c0=1) x q0[0];",
+    "if(c0[0]==1) x q0[0];",
+    "if(c2==1) x q0[0];",
+    "if(q0==1) x q0[0];",
+    "if(c0==1) qreg q2[1];",
+    "include \"qelib1.inc\";",
+    "OPENQASM 2.0;",
+    "# h q0[0];",
+];
+
+/// Programs that the reader of the language must refuse.
+pub fn wrong_programs() -> Vec<String> {
+    let behind = |statement: &&str| format!("{HEAD}{TWO}{statement}\n");
+    let mut all: Vec<String> = NOT_ALLOWED.iter().map(behind).collect();
+    all.push(String::new());
+    all.push(format!("OPENQASM 2.0;\n{TWO}h q0[0];\n"));
+    all.push(format!("include \"qelib1.inc\";\n{TWO}"));
+    all.push(HEAD.replace("2.0", "3.0"));
+    all
+}
+
+/// A program in two layouts, which mean the same.
+pub fn same_programs() -> [String; 2] {
+    let plain = "cx q0[0],q1[0];\nmeasure q0[0] -> c0[0];\nif(c0==1) x q1[0];\n";
+    let other = "// a CNOT\r\ncx q0 [ 0 ] ,q1;measure q0->c0 ;\tif ( c0 == 1 )\nx // an X\nq1[0] ;";
+    [plain, other].map(|statements| format!("{HEAD}{TWO}{statements}"))
+}

@@ -4,10 +4,15 @@ use crate::compare::Comparison;
 use comparing::cases::{self as programs, LIMITS};
 use comparing::Known;
 use example_programs::examples;
-use qasm::cases::{exports, longest, texts, LONGEST};
-use qasm::parse;
+use qasm::cases::{exports, longest, same_programs, texts, wrong_programs, LONGEST};
+use qasm::{grammar, parse};
 
 pub fn compare(comparison: &mut Comparison) {
+    for program in wrong_programs() {
+        assert!(grammar::read(program.as_bytes()).is_err(), "{program}");
+    }
+    let [plain, other] = same_programs().map(|program| grammar::read(program.as_bytes()));
+    assert!(plain.is_ok() && plain == other, "{plain:?} and {other:?}");
     comparison.group("written by hand");
     for case in exports() {
         let text = comparison.accepted(&case.listing);
