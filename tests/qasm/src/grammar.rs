@@ -57,9 +57,9 @@ pub enum Action {
 const LIBRARY: [(&str, usize); 6] = [("h", 1), ("x", 1), ("z", 1), ("s", 1), ("t", 1), ("cx", 2)];
 
 /// Names that no register can have, those of the gates beside.
-const KEYWORDS: [&str; 13] = [
-    "barrier", "creg", "cos", "exp", "gate", "if", "include", "ln", "measure", "opaque", "pi",
-    "qreg", "reset",
+const KEYWORDS: [&str; 16] = [
+    "barrier", "cos", "creg", "exp", "gate", "if", "include", "ln", "measure", "opaque", "pi",
+    "qreg", "reset", "sin", "sqrt", "tan",
 ];
 
 /// The program of a text, or what is wrong with it.

@@ -1,5 +1,6 @@
 //! Compares the export and the import of OpenQASM under test with a printer and
-//! a strict parser, and every exported text with the language's grammar.
+//! a strict parser, every exported text with the language's grammar, and what
+//! some compute with what their listings compute.
 
 mod by_hand;
 mod compare;
@@ -7,6 +8,7 @@ mod damage;
 mod families;
 mod lending;
 mod limits;
+mod meaning;
 mod memory;
 mod seen;
 mod stack;
@@ -28,6 +30,7 @@ fn compare_all() {
     limits::compare(&mut comparison);
     lending::compare(&mut comparison);
     comparison.report();
+    meaning::compare();
     stack::measure();
     println!(
         "qasm_compare: {} listings, {} texts, {} calls, 0 differences",
