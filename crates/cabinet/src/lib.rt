@@ -1,14 +1,17 @@
-// What is exported to hosts: reading, check, run and the check of listings, each with its answer in one number. A static
-// library has the exported functions of its own crate only, so all stand here.
-// Believe: the four contracts, which speak in the definitions of the operations and of cabinet_answers.
+// What is exported to hosts: reading, check, run, the check of listings, and their export and import, each with its answer in one
+// number. A static library has the exported functions of its own crate only, so all stand here.
+// Believe: the six contracts, which speak in the definitions of the operations and of cabinet_answers.
 // No theorem beyond them.
 // Called by C hosts (include/gawipsol.h) and by the comparisons in tests/.
 use cabinet_answers::pack_check;
+use cabinet_answers::pack_conversion;
 use cabinet_answers::pack_listing;
 use cabinet_answers::pack_read;
 use cabinet_answers::pack_run;
 use check_program::check;
 use listing_check::check_listing;
+use openqasm_export::export;
+use openqasm_import::import;
 use program::read;
 use run::run;
 ghost use mathlib.Core.Path.{_≡_};
@@ -18,7 +21,9 @@ ghost use Rattle.program.specs.Reading.{readOf};
 ghost use Rattle.check_program.specs.Answers.{checkAnswer, checkBytes};
 ghost use Rattle.run_answers.specs.Answers.{runAnswer, runBytes};
 ghost use Rattle.listing_check.specs.Answers.{listingCheckAnswer, listingCheckBytes};
-ghost use Rattle.cabinet_answers.specs.Packed.{packedRead, packedCheck, packedRun, packedListing};
+ghost use Rattle.openqasm_export.specs.Answers.{exportAnswer, exportBytes};
+ghost use Rattle.openqasm_import.specs.Answers.{importAnswer, importBytes};
+ghost use Rattle.cabinet_answers.specs.Packed.{packedRead, packedCheck, packedRun, packedListing, packedConversion};
 
 // The reading for callers outside, with its answer in one number.
 #[no_mangle]
@@ -81,4 +86,29 @@ pub extern "C" fn gawipsol_check_listing(listing: &[u8], work: &mut [u8]) -> u64
         ⌜ r ≡ packedListing (listingCheckAnswer (now (listing .entry)) (firstBytes lent)) ⌝ ∗ ⌜ lastBytes lent ≡ listingCheckBytes (firstBytes lent) ⌝ }
 {
     pack_listing(check_listing(listing, work))
+}
+
+// The export of a listing for callers outside, with its answer in one number.
+#[no_mangle]
+pub extern "C" fn gawipsol_export(listing: &[u8], out: &mut [u8], work: &mut [u8]) -> u64
+    ensures { λ r. let lent = out ∷ work ∷ [] in
+        ⌜ r ≡ packedConversion (exportAnswer (now (listing .entry)) (firstBytes lent)) ⌝ ∗ ⌜ lastBytes lent ≡ exportBytes (now (listing .entry)) (firstBytes lent) ⌝ }
+{
+    pack_conversion(export(listing, out, work))
+}
+
+// The import of a text for callers outside, with its answer in one number.
+#[no_mangle]
+pub extern "C" fn gawipsol_import(
+    text: &[u8],
+    out: &mut [u8],
+    slots: &mut [u8],
+    listing: &mut [u8],
+    table: &mut [u8],
+    exported: &mut [u8],
+) -> u64
+    ensures { λ r. let lent = out ∷ slots ∷ listing ∷ table ∷ exported ∷ [] in
+        ⌜ r ≡ packedConversion (importAnswer (now (text .entry)) (firstBytes lent)) ⌝ ∗ ⌜ lastBytes lent ≡ importBytes (now (text .entry)) (firstBytes lent) ⌝ }
+{
+    pack_conversion(import(text, out, slots, listing, table, exported))
 }

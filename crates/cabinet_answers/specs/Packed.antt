@@ -15,6 +15,8 @@ use Rattle.run_answers.specs.declared.RunAnswer.{RunAnswer}
 use Rattle.run_answers.specs.declared.RunAnswer.the-variants.{Finished, Refused}
 use Rattle.listing_check.specs.declared.ListingAnswer.{ListingAnswer}
 use Rattle.listing_check.specs.declared.ListingAnswer.the-variants.{Accepted as IsListed, Refused as NotListed}
+use Rattle.openqasm.specs.declared.Conversion.{Conversion}
+use Rattle.openqasm.specs.declared.Conversion.the-variants.{Written, Refused as NotConverted}
 
 -- A value put into so many bits from a bit on; what they do not hold is cut off.
 abbrev pub put : ℕ → ℕ → ℕ → ℕ
@@ -34,7 +36,7 @@ packedRefusal number place = number % 64 + put 6 16 place
 unfoldable pub packedSizes : ℕ → ℕ → ℕ → ℕ
 packedSizes labels types terms = put 6 7 labels + put 13 10 types + put 23 12 terms
 
--- Of a check that accepts: the length of the type.
+-- Of a check that accepts: the length of the type. Of an export or an import: the length of the text or the listing.
 unfoldable pub packedLength : ℕ → ℕ
 packedLength length = put 6 16 length
 
@@ -62,6 +64,10 @@ abbrev pub packedListing : ListingAnswer → ℕ
 packedListing (IsListed inputs gates outputs) = packedCounts inputs gates outputs
 packedListing (NotListed x) = packedRefusal (refusalNumber x) (refusalPlace x)
 
+abbrev pub packedConversion : Conversion → ℕ
+packedConversion (Written length) = packedLength length
+packedConversion (NotConverted x) = packedRefusal (refusalNumber x) (refusalPlace x)
+
 -- UNPACKING: each definition is what the accessor of include/gawipsol.h computes
 
 -- gawipsol_number
@@ -82,9 +88,9 @@ typesIn answer = bits 13 10 answer
 abbrev pub termsIn : ℕ → ℕ
 termsIn answer = bits 23 12 answer
 
--- gawipsol_check_length
-abbrev pub typeLengthIn : ℕ → ℕ
-typeLengthIn answer = bits 6 16 answer
+-- gawipsol_check_length, gawipsol_export_length, gawipsol_import_length
+abbrev pub writtenIn : ℕ → ℕ
+writtenIn answer = bits 6 16 answer
 
 -- gawipsol_run_gates, gawipsol_run_length, gawipsol_run_steps
 abbrev pub gatesIn : ℕ → ℕ
@@ -120,7 +126,7 @@ unpackedRead answer =
     cond (eqb (numberIn answer) 0) (IsRead (labelsIn answer) (typesIn answer) (termsIn answer)) (NotRead (refusalIn answer))
 
 unfoldable pub unpackedCheck : ℕ → CheckAnswer
-unpackedCheck answer = cond (eqb (numberIn answer) 0) (IsChecked (typeLengthIn answer)) (NotChecked (refusalIn answer))
+unpackedCheck answer = cond (eqb (numberIn answer) 0) (IsChecked (writtenIn answer)) (NotChecked (refusalIn answer))
 
 unfoldable pub unpackedRun : ℕ → RunAnswer
 unpackedRun answer =
@@ -130,3 +136,6 @@ unfoldable pub unpackedListing : ℕ → ListingAnswer
 unpackedListing answer =
     cond (eqb (numberIn answer) 0) (IsListed (inputsIn answer) (listedGatesIn answer) (outputsIn answer))
     (NotListed (refusalIn answer))
+
+unfoldable pub unpackedConversion : ℕ → Conversion
+unpackedConversion answer = cond (eqb (numberIn answer) 0) (Written (writtenIn answer)) (NotConverted (refusalIn answer))

@@ -1,10 +1,11 @@
 // The answer of each operation in one number, for callers outside. What the fields do not hold is cut off.
 // Believe: specs/Packed, each answer in one number, and what a caller reads in it.
-// Main theorems: unpacked-read, unpacked-check, unpacked-run, unpacked-listing (specs/Theorems/Unpacking), a caller gets back
-// every answer.
+// Main theorems: unpacked-read, unpacked-check, unpacked-run, unpacked-listing, unpacked-export, unpacked-import
+// (specs/Theorems/Unpacking), a caller gets back every answer.
 // Called by cabinet.
 use check_program::CheckAnswer;
 use listing_check::ListingAnswer;
+use openqasm::Conversion;
 use program::ReadAnswer;
 use refusals::Refusal;
 use refusals::number_of;
@@ -13,7 +14,7 @@ use run_answers::RunAnswer;
 ghost use mathlib.Core.Path.{_≡_};
 ghost use Rattle.refusals.specs.Refusals.{refusalNumber, refusalPlace};
 ghost use Rattle.cabinet_answers.specs.Packed.{packedRefusal, packedSizes, packedRan, packedRead, packedCheck};
-ghost use Rattle.cabinet_answers.specs.Packed.{packedRun, packedCounts, packedListing};
+ghost use Rattle.cabinet_answers.specs.Packed.{packedRun, packedCounts, packedListing, packedConversion};
 
 // Number and place of a refusal.
 fn pack_refusal(refusal: Refusal) -> u64
@@ -98,5 +99,15 @@ pub fn pack_listing(answer: ListingAnswer) -> u64
             outputs,
         } => pack_counts(inputs, gates, outputs),
         ListingAnswer::Refused(refusal) => pack_refusal(refusal),
+    }
+}
+
+// The answer of an export or an import in one number.
+pub fn pack_conversion(answer: Conversion) -> u64
+    ensures { λ r. ⌜ r ≡ packedConversion answer ⌝ }
+{
+    match answer {
+        Conversion::Written { length } => 64 * ((length % 65536) as u64),
+        Conversion::Refused(refusal) => pack_refusal(refusal),
     }
 }

@@ -80,14 +80,7 @@ fn write_one(text: &mut [u8], at: usize, name: u8, r: usize) -> usize
 }
 
 // A line with two registers.
-fn write_two(
-    text: &mut [u8],
-    at: usize,
-    before: &[u8],
-    r: usize,
-    between: &[u8],
-    s: usize,
-) -> usize
+fn write_two(text: &mut [u8], at: usize, before: &[u8], r: usize, between: &[u8], s: usize) -> usize
     ensures { λ last. ⌜ Puts (now (text .entry)) at (twoLine (now (before .entry)) r (now (between .entry)) s) (now (text .exit)) last ⌝ }
 {
     let first = put_named(text, at, before, r);

@@ -4,13 +4,13 @@
 // write_text is the core, for the import too. Called by cabinet and by qasmout.
 mod places;
 
+use listing::ENTRY_SLOTS;
 use listing::gate_count;
 use listing::input_count;
 use listing::kind_at;
 use listing::output_count;
 use listing::outputs_from;
 use listing::slots_from;
-use listing::ENTRY_SLOTS;
 use listing_check::LEAST_WORK;
 use listing_check::ListingAnswer;
 use listing_check::check_uncleared;

@@ -27,13 +27,7 @@ pub(crate) fn input_place(kind: usize, k: usize) -> u8
 }
 
 // The place of the wire in a slot of a gate whose slots stand from a place of the listing on; 0 in a slot that it does not use.
-pub(crate) fn place_at(
-    listing: &[u8],
-    from: usize,
-    gate: usize,
-    slot: usize,
-    table: &[u8],
-) -> usize
+pub(crate) fn place_at(listing: &[u8], from: usize, gate: usize, slot: usize, table: &[u8]) -> usize
     requires { ⌜ (from < 134217728) × (slot < 2) ⌝ }
     ensures { λ r. ⌜ r ≡ getD (map (λ w. getD (now (table .entry)) w 0) (wordsAt (now (listing .entry)) from (wiresIn gate))) slot 0 ⌝ }
     ensures { λ r. ⌜ r < 256 ⌝ }

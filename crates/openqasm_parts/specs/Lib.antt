@@ -1,3 +1,4 @@
 pub mod Reading
+pub mod Stored
 pub mod Laws
 pub mod Theorems

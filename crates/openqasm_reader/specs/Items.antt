@@ -30,8 +30,8 @@ output-item = 130
 abbrev pub no-item : ℕ
 no-item = 255
 
--- It is told by the first byte: of `h`, `x`, `z`, `s`, `t`, `measure`, `if`, `cx`, `creg`, `qreg`, and of the space before an output.
--- The second byte parts `creg` from `cx`; behind an `if` the gate's name says which it is.
+-- It is told by the first byte: of `h`, `x`, `z`, `s`, `t`, `measure`, `if`, `cx`, `creg`, `qreg`, and of the space before an
+-- output. The second byte parts `creg` from `cx`; behind an `if` the gate's name says which it is.
 unfoldable pub kindOf : ℕ → ℕ → ℕ → ℕ
 kindOf first second name =
     cond (eqb first 104) 0
@@ -48,8 +48,8 @@ kindOf first second name =
 abbrev pub kindIn : List ℕ → ℕ
 kindIn s = kindOf (getD s 0 0) (getD s 1 0) (getD s (9 + digitsIn (drop 4 s)) 0)
 
--- How many bytes stand before an item's first number, between that and the second, and behind the last; between them 0 where there is
--- one number only.
+-- How many bytes stand before an item's first number, between that and the second, and behind the last; between them 0 where there
+-- is one number only.
 unfoldable pub before : ℕ → ℕ
 before kind =
     cond (ltb kind 5) 3

@@ -28,7 +28,8 @@ pub struct Item {
     pub length: usize,
 }
 
-// The text, and how far it has been read.
+// The text, and how far it has been read. The code of each function over it is walked by hand (proofs/Walks); callers use
+// read_item, with plain parameters.
 pub struct Reader<'a> {
     pub text: &'a [u8],
     pub at: usize,
@@ -175,18 +176,18 @@ fn two_numbers(text: &[u8], at: usize, kind: usize) -> Item
 {
     let before = before_number(kind);
     let between = between_numbers(kind);
-    let place = at + before;
-    let first = number_at(text, place);
-    let digits = digits_at(text, place);
-    let place2 = place + digits + between;
-    let second = number_at(text, place2);
-    let digits2 = digits_at(text, place2);
+    let first_place = at + before;
+    let first = number_at(text, first_place);
+    let first_digits = digits_at(text, first_place);
+    let second_place = first_place + first_digits + between;
+    let second = number_at(text, second_place);
+    let second_digits = digits_at(text, second_place);
     let behind = behind_number(kind);
     Item {
         kind,
         first,
         second,
-        length: before + digits + between + digits2 + behind,
+        length: before + first_digits + between + second_digits + behind,
     }
 }
 
@@ -226,7 +227,7 @@ pub fn reader_at<'a>(text: &'a [u8], at: usize) -> Reader<'a>
 
 // The item where the reader stands.
 pub fn next_item<'a>(reader: Reader<'a>) -> Item
-    ensures { λ r. ⌜ (r ≡ itemIn (drop (reader .entry .at) (now (reader .entry .text)))) × Bounded r ⌝ }
+    ensures { λ i. ⌜ (i ≡ itemIn (drop (reader .entry .at) (now (reader .entry .text)))) × Bounded i ⌝ }
 {
     item_at(reader.text, reader.at)
 }
@@ -243,7 +244,7 @@ pub fn moved<'a>(reader: Reader<'a>, at: usize) -> Reader<'a>
 
 // The item at a place of a text, read through a reader.
 pub fn read_item(text: &[u8], at: usize) -> Item
-    ensures { λ r. ⌜ (r ≡ itemIn (drop at (now (text .entry)))) × Bounded r ⌝ }
+    ensures { λ i. ⌜ (i ≡ itemIn (drop at (now (text .entry)))) × Bounded i ⌝ }
 {
     next_item(reader_at(text, at))
 }

@@ -22,8 +22,8 @@ pub fn put_byte(text: &mut [u8], at: usize, byte: u8) -> usize
     at
 }
 
-// The bytes of a slice.
-pub fn put_bytes(text: &mut [u8], at: usize, bytes: &[u8]) -> usize
+// The bytes of a slice, of which the last ones are lost.
+fn put_some(text: &mut [u8], at: usize, bytes: &[u8]) -> usize
     ensures { λ r. ⌜ Puts (now (text .entry)) at (now (bytes .entry)) (now (text .exit)) r ⌝ }
 {
     let mut here = at;
@@ -33,6 +33,24 @@ pub fn put_bytes(text: &mut [u8], at: usize, bytes: &[u8]) -> usize
         i += 1;
     }
     here
+}
+
+// The bytes of a slice. Whether there is room for all of them is asked once.
+pub fn put_bytes(text: &mut [u8], at: usize, bytes: &[u8]) -> usize
+    ensures { λ r. ⌜ Puts (now (text .entry)) at (now (bytes .entry)) (now (text .exit)) r ⌝ }
+{
+    if text.len() < at {
+        return put_some(text, at, bytes);
+    }
+    if text.len() - at < bytes.len() {
+        return put_some(text, at, bytes);
+    }
+    let mut i: usize = 0;
+    while i < bytes.len() {
+        text[at + i] = bytes[i];
+        i += 1;
+    }
+    at + i
 }
 
 // A number in decimal.

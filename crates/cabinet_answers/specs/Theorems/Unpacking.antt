@@ -1,9 +1,11 @@
 -- Unpacking gives back every answer that an operation has.
 use Prim.Native.Nat.{ℕ, _≤_, _<_}
 use native.Mathlib.Omega.{arith}
-use mathlib.Core.Path.{_≡_, _∙_, ap, ap₂}
+use mathlib.Core.Path.{_≡_, refl, _∙_, ap, ap₂}
 use mathlib.Core.Bool.{Bool, true, false, _&&_, cond}
 use mathlib.Core.List.{List}
+use mathlib.Core.Option.{Option, none, some}
+use lib.ListN.{length}
 use borrow.Author.Tests.{le-leb, lt-leb, ne-eqb}
 use lib.Dec.{eqb}
 use Rattle.refusals.specs.Refusals.{refusalNumber, refusalPlace}
@@ -28,11 +30,18 @@ use Rattle.listing_check.specs.Answers.{listing-lengths, listingCheckOf, listin
 use Rattle.listing_check.specs.Laws.Places.{most-listed, OfListing, ListingBounds, listing-bounds}
 use Rattle.listing_check.specs.declared.ListingAnswer.{ListingAnswer}
 use Rattle.listing_check.specs.declared.ListingAnswer.the-variants.{Accepted as IsListed, Refused as NotListed}
+use Rattle.listing.specs.Laws.Lengths.{length-listing}
+use Rattle.openqasm.specs.declared.Conversion.{Conversion}
+use Rattle.openqasm.specs.declared.Conversion.the-variants.{Written, Refused as NotConverted}
+use Rattle.openqasm_export.specs.Answers.{export-lengths, exportedAs, exportAnswer}
+use Rattle.openqasm_export.specs.Laws.Answering.{accepted-fits}
+use Rattle.openqasm_import.specs.Answers.{import-lengths, importOf, importedAs, importAnswer}
+use Rattle.openqasm_import.specs.Theorems.Imports.{import-means}
 use Rattle.cabinet_answers.specs.Packed.{packedRefusal, packedSizes, packedLength, packedRan, packedRead, packedCheck}
-use Rattle.cabinet_answers.specs.Packed.{packedRun, numberIn, placeIn, labelsIn, typesIn, termsIn, typeLengthIn}
+use Rattle.cabinet_answers.specs.Packed.{packedRun, numberIn, placeIn, labelsIn, typesIn, termsIn, writtenIn}
 use Rattle.cabinet_answers.specs.Packed.{gatesIn, lengthIn, stepsIn, refusalWith, refusalIn, unpackedRead}
 use Rattle.cabinet_answers.specs.Packed.{unpackedCheck, unpackedRun, packedCounts, packedListing, inputsIn}
-use Rattle.cabinet_answers.specs.Packed.{listedGatesIn, outputsIn, unpackedListing}
+use Rattle.cabinet_answers.specs.Packed.{listedGatesIn, outputsIn, unpackedListing, packedConversion, unpackedConversion}
 
 -- REFUSALS
 
@@ -149,7 +158,7 @@ CheckFits (NotChecked x) = RefusalFits x
 
 length-back : (length : ℕ)
     → length < 65536
-    → (let answer = packedLength length in (numberIn answer ≡ 0) × (typeLengthIn answer ≡ length))
+    → (let answer = packedLength length in (numberIn answer ≡ 0) × (writtenIn answer ≡ length))
 unfolding packedLength
 length-back length h = (omega arith, omega arith)
 
@@ -158,10 +167,10 @@ unfolding unpackedCheck
 check-back (IsChecked length) h =
     let answer = packedLength length in
     let s = length-back length h in
-    answer-back (IsChecked (typeLengthIn answer)) (NotChecked (refusalIn answer)) answer (s .0) ∙ ap IsChecked (s .1)
+    answer-back (IsChecked (writtenIn answer)) (NotChecked (refusalIn answer)) answer (s .0) ∙ ap IsChecked (s .1)
 check-back (NotChecked x) h =
     let answer = packedRefusal (refusalNumber x) (refusalPlace x) in
-    refusal-back (IsChecked (typeLengthIn answer)) NotChecked x h
+    refusal-back (IsChecked (writtenIn answer)) NotChecked x h
 
 -- The answer of a check whose buffers are long enough.
 check-fits : (f : List ℕ) → CheckFits (checkAnswerTo (checkOf f))
@@ -276,3 +285,60 @@ unpacked-listing b buffers =
     of : (t : Bool) (a : ListingAnswer) → ListingFits a → ListingFits (cond t (NotListed (Run 19 0)) a)
     of true a h = nineteen-fits
     of false a h = h
+
+-- EXPORT AND IMPORT
+
+abbrev pub ConversionFits : Conversion → Type 0
+ConversionFits (Written length) = length < 65536
+ConversionFits (NotConverted x) = RefusalFits x
+
+pub conversion-back : (a : Conversion) → ConversionFits a → unpackedConversion (packedConversion a) ≡ a
+unfolding unpackedConversion
+conversion-back (Written length) h =
+    let answer = packedLength length in
+    let s = length-back length h in
+    answer-back (Written (writtenIn answer)) (NotConverted (refusalIn answer)) answer (s .0) ∙ ap Written (s .1)
+conversion-back (NotConverted x) h =
+    let answer = packedRefusal (refusalNumber x) (refusalPlace x) in
+    refusal-back (Written (writtenIn answer)) NotConverted x h
+
+-- The same with 19.
+short-fits : (t : Bool) (a : Conversion) → ConversionFits a → ConversionFits (cond t (NotConverted (Run 19 0)) a)
+short-fits true a h = nineteen-fits
+short-fits false a h = h
+
+-- Every answer of an export comes back.
+pub unpacked-export : (b : List ℕ) (buffers : List (List ℕ))
+    → unpackedConversion (packedConversion (exportAnswer b buffers)) ≡ exportAnswer b buffers
+unfolding exportAnswer
+unpacked-export b buffers =
+    conversion-back (exportAnswer b buffers)
+    (short-fits (tooShort export-lengths buffers) (exportedAs b (listingCheckOf b)) (of (listingCheckOf b) refl (listing-fits b)))
+  where
+    of : (a : ListingAnswer) → listingCheckOf b ≡ a → ListingFits a → ConversionFits (exportedAs b a)
+    of (IsListed inputs gates outputs) e h = omega (arith, accepted-fits b e)
+    of (NotListed x) e h = h
+
+-- Every answer of an import comes back.
+pub unpacked-import : (text : List ℕ) (buffers : List (List ℕ))
+    → unpackedConversion (packedConversion (importAnswer text buffers)) ≡ importAnswer text buffers
+unfolding importAnswer
+unpacked-import text buffers =
+    conversion-back (importAnswer text buffers)
+    (short-fits (tooShort import-lengths buffers) (importedAs (importOf text)) (of (importOf text) refl))
+  where
+    of : (o : Option (List ℕ)) → importOf text ≡ o → ConversionFits (importedAs o)
+    of none e = (omega arith, omega arith, omega arith)
+    of (some b) e =
+        let x = import-means text .imported b .0 e .accepted in
+        omega (
+          arith,
+          ap length (x .bytes-are),
+          length-listing (x .inputs) (x .gates) (x .outs),
+          x .input-count,
+          x .gate-count,
+          x .output-count,
+          x .few-inputs,
+          x .few-gates,
+          x .few-outputs,
+        )

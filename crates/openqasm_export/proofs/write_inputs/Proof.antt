@@ -35,7 +35,7 @@ input-count-requires : tie.Need-input-count-requires Inv-loop μ-loop
 input-count-requires c κs = search needs
 
 loop-holds : tie.Need-loop-holds Inv-loop μ-loop
-loop-holds c =     let a = c .before .before .before .before .args in (omega arith, refl, refl, inputs-start (a .listing .now) (a .text .now) (a .at) (c .before .before .before .before .pre .0))
+loop-holds c = let a = c .before .before .before .before .args in (omega arith, refl, refl, inputs-start (a .listing .now) (a .text .now) (a .at) (c .before .before .before .before .pre .0))
 
 kind-at-requires : tie.Need-kind-at-requires Inv-loop μ-loop
 kind-at-requires c κs = search needs

@@ -12,18 +12,20 @@ use Rattle.lent.specs.Laws.Lent.{below-later, short-left, long-left, none-below
 use Rattle.refusals.specs.declared.Refusal.{Refusal}
 use Rattle.refusals.specs.declared.Refusal.the-variants.{Run}
 use Rattle.text.specs.Written.{Written}
+use Rattle.listing.specs.Reading.{inputCount, gateCount, inputsOf, gatesOf, outputsOf}
+use Rattle.listing.specs.Laws.Decoding.{length-inputs, length-first}
 use Rattle.listing_check.specs.declared.ListingAnswer.{ListingAnswer}
 use Rattle.listing_check.specs.declared.ListingAnswer.the-variants.{Accepted, Refused as NotListed}
 use Rattle.listing_check.specs.Answers.{most-wires, listing-lengths, listingCheckOf, listingCheckAnswer}
-use Rattle.listing_check.specs.Meaning.{SoundListing}
+use Rattle.listing_check.specs.Meaning.{SoundListing, many-inputs, many-gates}
 use Rattle.listing_check.specs.Wires.{Whole}
-use Rattle.listing_check.specs.Laws.Judging.{sound-read}
+use Rattle.listing_check.specs.Laws.Judging.{at-most, Judged, sizes-wrong, entry-wrong, wires-wrong, all-right, listing-judged, sound-read}
 use Rattle.listing_check.specs.Theorems.Listings.{listing-means}
 use Rattle.openqasm.specs.declared.Conversion.{Conversion}
 use Rattle.openqasm.specs.declared.Conversion.the-variants.{Written as Wrote, Refused}
 use Rattle.openqasm.specs.Layout.{exportOf, most-text}
 use Rattle.openqasm_export.specs.Answers.{export-lengths, exportedAs, outAfter, exportAnswer, exportBytes}
-use Rattle.openqasm_export.specs.Laws.Longest.{sound-fits}
+use Rattle.openqasm_export.specs.Laws.Longest.{as-many-outputs, text-fits, sound-fits}
 
 or-false : (t : Bool) → t || false ≡ t
 or-false true = refl
@@ -119,3 +121,21 @@ module _ (b : List ℕ) where
           long-left export-lengths (outAfter b (listingCheckOf b)) (out ∷ work ∷ []) (out′ ∷ work′ ∷ []) e
               (ap₂ (λ x y. x ∷ y ∷ []) text (cleared ∙ ap (λ k. replicate k 0) same)),
         )
+
+-- The text of whatever the check accepts fits.
+judged-fits : (b : List ℕ) {a : ListingAnswer} {L G O : ℕ} → Judged b a → a ≡ Accepted L G O → length (exportOf b) ≤ most-text
+judged-fits b (sizes-wrong h) e = let z : _≡_ {A = ℕ} 0 1 = cc in absurd (omega arith)
+judged-fits b (entry-wrong f first) e = let z : _≡_ {A = ℕ} 0 1 = cc in absurd (omega arith)
+judged-fits b (wires-wrong f n broken) e = let z : _≡_ {A = ℕ} 0 1 = cc in absurd (omega arith)
+judged-fits b (all-right f n goes) e =
+    let inputs = length-inputs b 0 (inputCount b) in
+    let gates = length-first b (gateCount b) in
+    let few-inputs = at-most (λ h. f (many-inputs h)) in
+    let few-gates = at-most (λ h. f (many-gates h)) in
+    text-fits (inputsOf b) (gatesOf b) (outputsOf b)
+    (omega (arith, inputs, few-inputs))
+    (omega (arith, gates, few-gates))
+    (omega (arith, as-many-outputs (inputsOf b) (gatesOf b) (outputsOf b) goes))
+
+pub accepted-fits : (b : List ℕ) {L G O : ℕ} → listingCheckOf b ≡ Accepted L G O → length (exportOf b) ≤ most-text
+accepted-fits b e = judged-fits b (listing-judged b) e

@@ -41,7 +41,7 @@ module _ (text : List ℕ) where
   b = listingRead text
 
   -- If the listing that is read is accepted, it is sound.
-  read-sound : isAccepted (listingCheckOf b) ≡ true → SoundListing b (length (p .inputs)) (length (p .gates)) (length (p .outs))
+  pub read-sound : isAccepted (listingCheckOf b) ≡ true → SoundListing b (length (p .inputs)) (length (p .gates)) (length (p .outs))
   read-sound e =
       let known = parts-known text in
       let few = parts-few text in

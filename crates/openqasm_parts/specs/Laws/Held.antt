@@ -44,7 +44,7 @@ takes-some n known = of (gateType n) refl known
     of (some (T to U)) e there = leb→le _ _ (every-nth takes-one gateTable n e tt)
 
 -- Numbers in a row: how many, and the one at a place.
-length-numbers : (n k : ℕ) → length (numbers n k) ≡ k
+pub length-numbers : (n k : ℕ) → length (numbers n k) ≡ k
 length-numbers n zero = refl
 length-numbers n (suc k) = ap suc (length-numbers (suc n) k)
 

@@ -16,10 +16,18 @@ is-digit-requires : tie.Need-is-digit-requires
 is-digit-requires c κs = search needs
 
 returns : tie.Need-returns
-returns c = let a = c .before .before .before .before .args in (sym (ap (λ b. cond b 2 1) (digit-behind (a .text .now) (a .at) _ _ true (c .before .before .byte-at .ensures) (c .before .is-digit .ensures) (c .if1 .taken))), omega arith)
+returns c =
+    let a = c .before .before .before .before .args in
+    let next = c .before .before .byte-at .ensures in
+    let digit = digit-behind (a .text .now) (a .at) _ _ true next (c .before .is-digit .ensures) (c .if1 .taken) in
+    (sym (ap (λ b. cond b 2 1) digit), omega arith)
 
 returns-2 : tie.Need-returns-2
-returns-2 c = let a = c .before .before .before .before .args in (sym (ap (λ b. cond b 2 1) (digit-behind (a .text .now) (a .at) _ _ false (c .before .before .byte-at .ensures) (c .before .is-digit .ensures) (c .if1 .left))), omega arith)
+returns-2 c =
+    let a = c .before .before .before .before .args in
+    let next = c .before .before .byte-at .ensures in
+    let digit = digit-behind (a .text .now) (a .at) _ _ false next (c .before .is-digit .ensures) (c .if1 .left) in
+    (sym (ap (λ b. cond b 2 1) digit), omega arith)
 
 pub digits-at-spec : {M : Type 1} → statement M
 digits-at-spec =

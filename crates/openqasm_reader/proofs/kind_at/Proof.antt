@@ -1,7 +1,5 @@
 use mathlib.Core.Path.{refl, _∙_}
 use Rattle.openqasm_reader.specs.Laws.Items.{name-unread, kind-here}
-use mathlib.Core.Path.{_∙_}
-use Rattle.openqasm_reader.specs.Laws.Items.{name-unread}
 use borrow.Author.Needs.{needs}
 use Rattle.openqasm_reader.proofs.kind_at.Statement.{statement}
 use Rattle.openqasm_reader.proofs.kind_at.Tie as tie
@@ -34,13 +32,24 @@ kind-of-requires : tie.Need-kind-of-requires
 kind-of-requires c κs = search needs
 
 returns : tie.Need-returns
-returns c = let a = c .before .before .before .before .before .before .before .args in (c .kind-of .ensures .0 ∙ kind-here (a .text .now) (a .at) _ _ _ _ (c .before .before .before .before .before .byte-at .ensures) (c .before .before .before .before .byte-at2 .ensures) (c .before .before .digits-at .ensures .0) (c .before .byte-at3 .ensures), c .kind-of .ensures .1)
+returns c =
+    let a = c .before .before .before .before .before .before .before .args in
+    let first = c .before .before .before .before .before .byte-at .ensures in
+    let second = c .before .before .before .before .byte-at2 .ensures in
+    let digits = c .before .before .digits-at .ensures .0 in
+    let name = c .before .byte-at3 .ensures in
+    (c .kind-of .ensures .0 ∙ kind-here (a .text .now) (a .at) _ _ _ _ first second digits name, c .kind-of .ensures .1)
 
 kind-of-requires-2 : tie.Need-kind-of-requires-2
 kind-of-requires-2 c κs = search needs
 
 returns-2 : tie.Need-returns-2
-returns-2 c = let a = c .before .before .before .before .before .args in (c .kind-of2 .ensures .0 ∙ name-unread _ _ 0 _ (c .before .if1 .left) ∙ kind-here (a .text .now) (a .at) _ _ _ _ (c .before .before .before .byte-at .ensures) (c .before .before .byte-at2 .ensures) refl refl, c .kind-of2 .ensures .1)
+returns-2 c =
+    let a = c .before .before .before .before .before .args in
+    let first = c .before .before .before .byte-at .ensures in
+    let second = c .before .before .byte-at2 .ensures in
+    let unread = name-unread _ _ 0 _ (c .before .if1 .left) in
+    (c .kind-of2 .ensures .0 ∙ unread ∙ kind-here (a .text .now) (a .at) _ _ _ _ first second refl refl, c .kind-of2 .ensures .1)
 
 pub kind-at-spec : {M : Type 1} → statement M
 kind-at-spec =

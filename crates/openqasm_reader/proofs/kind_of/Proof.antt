@@ -29,11 +29,17 @@ returns-5 c = let a = c .before .args in (sym (ap (λ f. kindOf f (a .second) (a
 
 returns-6 : tie.Need-returns-6
 unfolding kindOf
-returns-6 c = let a = c .before .before .args in (sym (ap (λ f. kindOf f (a .second) (a .name)) (c .before .match .keys6) ∙ ap (λ b. cond b 128 5) (eq-eqb (a .second) 114 (c .if1 .taken))), omega arith)
+returns-6 c =
+    let a = c .before .before .args in
+    let e = ap (λ f. kindOf f (a .second) (a .name)) (c .before .match .keys6) in
+    (sym (e ∙ ap (λ b. cond b 128 5) (eq-eqb (a .second) 114 (c .if1 .taken))), omega arith)
 
 returns-7 : tie.Need-returns-7
 unfolding kindOf
-returns-7 c = let a = c .before .before .args in (sym (ap (λ f. kindOf f (a .second) (a .name)) (c .before .match .keys6) ∙ ap (λ b. cond b 128 5) (ne-eqb (a .second) 114 (c .if1 .left))), omega arith)
+returns-7 c =
+    let a = c .before .before .args in
+    let e = ap (λ f. kindOf f (a .second) (a .name)) (c .before .match .keys6) in
+    (sym (e ∙ ap (λ b. cond b 128 5) (ne-eqb (a .second) 114 (c .if1 .left))), omega arith)
 
 returns-8 : tie.Need-returns-8
 unfolding kindOf
@@ -41,11 +47,17 @@ returns-8 c = let a = c .before .args in (sym (ap (λ f. kindOf f (a .second) (a
 
 returns-9 : tie.Need-returns-9
 unfolding kindOf
-returns-9 c = let a = c .before .before .args in (sym (ap (λ f. kindOf f (a .second) (a .name)) (c .before .match .keys8) ∙ ap (λ b. cond b 7 8) (eq-eqb (a .name) 120 (c .if2 .taken))), omega arith)
+returns-9 c =
+    let a = c .before .before .args in
+    let e = ap (λ f. kindOf f (a .second) (a .name)) (c .before .match .keys8) in
+    (sym (e ∙ ap (λ b. cond b 7 8) (eq-eqb (a .name) 120 (c .if2 .taken))), omega arith)
 
 returns-10 : tie.Need-returns-10
 unfolding kindOf
-returns-10 c = let a = c .before .before .args in (sym (ap (λ f. kindOf f (a .second) (a .name)) (c .before .match .keys8) ∙ ap (λ b. cond b 7 8) (ne-eqb (a .name) 120 (c .if2 .left))), omega arith)
+returns-10 c =
+    let a = c .before .before .args in
+    let e = ap (λ f. kindOf f (a .second) (a .name)) (c .before .match .keys8) in
+    (sym (e ∙ ap (λ b. cond b 7 8) (ne-eqb (a .name) 120 (c .if2 .left))), omega arith)
 
 returns-11 : tie.Need-returns-11
 unfolding kindOf
@@ -56,7 +68,15 @@ unfolding kindOf
 returns-12 c = let a = c .before .args in (sym (ap (λ f. kindOf f (a .second) (a .name)) (c .match .keys10)), omega arith)
 
 returns-13 : tie.Need-returns-13
-returns-13 c = let a = c .before .args in let r = c .match .rest in (sym (kind-none (a .first) (a .second) (a .name) (r .0 .0 .0 .0 .0 .0 .0 .0 .0 .1) (r .0 .0 .0 .0 .0 .0 .0 .0 .1) (r .0 .0 .0 .0 .0 .0 .0 .1) (r .0 .0 .0 .0 .0 .0 .1) (r .0 .0 .0 .0 .0 .1) (r .0 .0 .0 .0 .1) (r .0 .0 .0 .1) (r .0 .0 .1) (r .0 .1) (r .1)), omega arith)
+returns-13 c =
+    let a = c .before .args in
+    let r = c .match .rest in (
+      sym
+          (kind-none (a .first) (a .second) (a .name)
+          (r .0 .0 .0 .0 .0 .0 .0 .0 .0 .1) (r .0 .0 .0 .0 .0 .0 .0 .0 .1) (r .0 .0 .0 .0 .0 .0 .0 .1) (r .0 .0 .0 .0 .0 .0 .1)
+          (r .0 .0 .0 .0 .0 .1) (r .0 .0 .0 .0 .1) (r .0 .0 .0 .1) (r .0 .0 .1) (r .0 .1) (r .1)),
+      omega arith,
+    )
 
 pub kind-of-spec : {M : Type 1} → statement M
 kind-of-spec =

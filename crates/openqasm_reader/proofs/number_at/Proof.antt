@@ -36,10 +36,23 @@ add-result : tie.Need-add-result
 add-result c = search needs
 
 returns : tie.Need-returns
-returns c = let a = c .before .before .before .before .before .before .before .args in let first = c .before .before .before .before .saturating-sub .ensures in let second = c .saturating-sub2 .ensures in let head = c .before .before .before .before .before .byte-at .ensures in let next = c .before .before .before .byte-at2 .ensures in (two-digits (a .text .now) (a .at) _ (omega arith) _ (omega arith) (digit-behind (a .text .now) (a .at) _ _ true next (c .before .before .is-digit .ensures) (c .before .if1 .taken)), omega arith)
+returns c =
+    let a = c .before .before .before .before .before .before .before .args in
+    let byte = c .before .before .before .before .before .byte-at .ensures in
+    let first = c .before .before .before .before .saturating-sub .ensures in
+    let next = c .before .before .before .byte-at2 .ensures in
+    let digit = digit-behind (a .text .now) (a .at) _ _ true next (c .before .before .is-digit .ensures) (c .before .if1 .taken) in
+    let second = c .saturating-sub2 .ensures in
+    (two-digits (a .text .now) (a .at) _ (omega arith) _ (omega arith) digit, omega arith)
 
 returns-2 : tie.Need-returns-2
-returns-2 c = let a = c .before .before .before .before .before .before .args in let first = c .before .before .before .saturating-sub .ensures in let head = c .before .before .before .before .byte-at .ensures in (one-digit (a .text .now) (a .at) _ (omega arith) (digit-behind (a .text .now) (a .at) _ _ false (c .before .before .byte-at2 .ensures) (c .before .is-digit .ensures) (c .if1 .left)), omega arith)
+returns-2 c =
+    let a = c .before .before .before .before .before .before .args in
+    let byte = c .before .before .before .before .byte-at .ensures in
+    let first = c .before .before .before .saturating-sub .ensures in
+    let next = c .before .before .byte-at2 .ensures in
+    let digit = digit-behind (a .text .now) (a .at) _ _ false next (c .before .is-digit .ensures) (c .if1 .left) in
+    (one-digit (a .text .now) (a .at) _ (omega arith) digit, omega arith)
 
 pub number-at-spec : {M : Type 1} → statement M
 number-at-spec =

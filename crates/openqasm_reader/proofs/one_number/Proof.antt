@@ -1,4 +1,3 @@
-use native.Mathlib.Omega.{arith}
 use Rattle.openqasm_reader.specs.Laws.Items.{one-here}
 use borrow.Author.Needs.{needs}
 use Rattle.openqasm_reader.proofs.one_number.Statement.{statement}
@@ -26,7 +25,13 @@ add-t10 : tie.Need-add-t10
 add-t10 c = search needs
 
 returns : tie.Need-returns
-returns c = let a = c .before .before .before .before .before .args in (one-here (a .text .now) (a .at) (a .kind) _ _ _ _ (c .before .before .before .before-number .ensures .0) (c .before .before .number-at .ensures .0) (c .before .digits-at .ensures .0) (c .behind-number .ensures .0), record { kind-small = c .before .before .before .before .before .pre .1; first-small = c .before .before .number-at .ensures .1; second-small = omega arith; length-small = omega arith })
+returns c =
+    let a = c .before .before .before .before .before .args in
+    let before = c .before .before .before .before-number .ensures in
+    let first = c .before .before .number-at .ensures in
+    let digits = c .before .digits-at .ensures in
+    let behind = c .behind-number .ensures in
+    (one-here (a .text .now) (a .at) (a .kind) _ _ _ _ (before .0) (first .0) (digits .0) (behind .0), search needs)
 
 pub one-number-spec : {M : Type 1} → statement M
 one-number-spec =

@@ -1,5 +1,5 @@
 -- Laws of specs/Items.
-use Prim.Native.Nat.{ℕ, _+_, _-_, _*_, _≤_, _<_}
+use Prim.Native.Nat.{ℕ, _+_, _-_, _*_, _≤_}
 use native.Mathlib.Omega.{arith}
 use mathlib.Core.Path.{_≡_, refl, sym, _∙_, ap}
 use mathlib.Core.Bool.{Bool, true, false, cond}
@@ -7,8 +7,9 @@ use mathlib.Core.List.{List}
 use lib.Dec.{eqb, ltb}
 use lib.ListN.{getD, drop}
 use lib.Seq.{getD-drop, drop-drop}
-use borrow.Author.Tests.{eqb-true, ne-eqb}
-use Rattle.openqasm_reader.specs.Items.{isDigit, digitsIn, numberIn, kindOf, kindIn, before, between, behind, oneNumber, twoNumbers, itemOf, itemIn}
+use borrow.Author.Tests.{eqb-true, eq-eqb, ne-eqb}
+use Rattle.openqasm_reader.specs.Items.{isDigit, digitsIn, numberIn, kindOf, kindIn, before, between, behind}
+use Rattle.openqasm_reader.specs.Items.{oneNumber, twoNumbers, itemOf, itemIn}
 use Rattle.openqasm_reader.specs.declared.Item.{Item}
 
 -- Is the byte behind a place a digit?
@@ -58,8 +59,18 @@ pub kind-none : (f s n : ℕ)
     → kindOf f s n ≡ 255
 unfolding kindOf
 kind-none f s n h x z p t c m i q o =
-    simp
-    (ne-eqb f 104 h, ne-eqb f 120 x, ne-eqb f 122 z, ne-eqb f 115 p, ne-eqb f 116 t, ne-eqb f 99 c, ne-eqb f 109 m, ne-eqb f 105 i, ne-eqb f 113 q, ne-eqb f 32 o)
+    simp (
+      ne-eqb f 104 h,
+      ne-eqb f 120 x,
+      ne-eqb f 122 z,
+      ne-eqb f 115 p,
+      ne-eqb f 116 t,
+      ne-eqb f 99 c,
+      ne-eqb f 109 m,
+      ne-eqb f 105 i,
+      ne-eqb f 113 q,
+      ne-eqb f 32 o,
+    )
 
 -- The kind of the item at a place.
 pub kind-here : (s : List ℕ) (at first second name digits : ℕ)
@@ -109,13 +120,20 @@ nothing = record { kind = 255; first = 0; second = 0; length = 0 }
 abbrev itemBy : ℕ → List ℕ → Item
 itemBy kind s = cond (eqb kind 255) nothing (itemOf kind s)
 
-pub no-item-here : (s : List ℕ) (k : ℕ) → k ≡ kindIn s → k ≡ 255 → nothing ≡ itemIn s
+pub nothing-here : (s : List ℕ) (k : ℕ) → k ≡ kindIn s → k ≡ 255 → nothing ≡ itemIn s
 unfolding itemIn
-no-item-here s k e h = ap (λ n. itemBy n s) (sym h ∙ e)
+nothing-here s k e h = ap (λ n. itemBy n s) (sym h ∙ e)
 
-pub item-here : (s : List ℕ) (k : ℕ) (i : Item) → k ≡ kindIn s → (k ≡ 255 → ⊥) → i ≡ itemOf k s → i ≡ itemIn s
-unfolding itemIn
-item-here s k i e h d = d ∙ ap (λ t. cond t nothing (itemOf k s)) (sym (ne-eqb k 255 h)) ∙ ap (λ n. itemBy n s) e
+module _ (s : List ℕ) (k : ℕ) (i : Item) (e : k ≡ kindIn s) (h : k ≡ 255 → ⊥) where
+  something : i ≡ itemOf k s → i ≡ itemIn s
+  unfolding itemIn
+  something d = d ∙ ap (λ t. cond t nothing (itemOf k s)) (sym (ne-eqb k 255 h)) ∙ ap (λ n. itemBy n s) e
+
+  pub item-one : between k ≡ 0 → i ≡ oneNumber k s → i ≡ itemIn s
+  item-one b d = something (d ∙ ap (λ t. cond t (oneNumber k s) (twoNumbers k s)) (sym (eq-eqb (between k) 0 b)))
+
+  pub item-two : (between k ≡ 0 → ⊥) → i ≡ twoNumbers k s → i ≡ itemIn s
+  item-two b d = something (d ∙ ap (λ t. cond t (oneNumber k s) (twoNumbers k s)) (sym (ne-eqb (between k) 0 b)))
 
 -- How far an item reaches.
 first-small : (a c d : Bool) → cond a 3 (cond c 4 (cond d 2 6)) ≤ 6

@@ -1,0 +1,70 @@
+use native.Mathlib.Omega.{arith}
+use Rattle.openqasm_parts.specs.Laws.Registers.{holds-one, holds-two}
+use borrow.Author.Needs.{needs}
+use Rattle.openqasm_parts.proofs.registers.hold_wires.Statement.{statement}
+use Rattle.openqasm_parts.proofs.registers.hold_wires.Tie as tie
+
+put-requires : tie.Need-put-requires
+put-requires c κs = search needs
+
+wires-in-requires : tie.Need-wires-in-requires
+wires-in-requires c κs = search needs
+
+add-result : tie.Need-add-result
+add-result c = search needs
+
+same-length : tie.Need-same-length
+same-length c = search needs
+
+returns : tie.Need-returns
+returns c =
+    let a = c .before .before .before .before .before .before .before .args in
+    holds-one (a .gate) (c .before .before .before .before .before .before .before .pre .0) (a .held .now) (a .first) (a .second)
+    (a .made) (c .before .before .before .before .put .last .0) (omega (
+      arith,
+      c .before .before .before .before .before .before .before .pre .1,
+    )) (omega (
+      arith,
+      c .before .wires-in .ensures,
+      c .if1 .taken,
+    )) (c .before .before .before .before .put .ensures)
+
+add-put : tie.Need-add-put
+add-put c = search needs
+
+put-requires-2 : tie.Need-put-requires-2
+put-requires-2 c κs = search needs
+
+add-result-2 : tie.Need-add-result-2
+add-result-2 c = search needs
+
+same-length-2 : tie.Need-same-length-2
+same-length-2 c = search needs
+
+returns-2 : tie.Need-returns-2
+returns-2 c =
+    let a = c .before .before .before .before .before .before .before .before .before .before .before .args in
+    holds-two (a .gate) (c .before .before .before .before .before .before .before .before .before .before .before .pre .0)
+    (a .held .now) (a .first) (a .second) (a .made)
+    (c .before .before .before .before .before .before .before .before .put .last .0) (c .before .before .put2 .last .0) (omega
+    (arith, c .before .before .before .before .before .before .before .before .before .before .before .pre .1)) (omega (
+      arith,
+      c .before .before .before .before .before .wires-in .ensures,
+      c .before .before .before .before .if1 .left,
+    ))
+    (c .before .before .before .before .before .before .before .before .put .ensures) (c .before .before .put2 .ensures)
+
+pub hold-wires-spec : {M : Type 1} → statement M
+hold-wires-spec =
+    tie.close
+    (tie.spec
+    put-requires
+    wires-in-requires
+    add-result
+    same-length
+    returns
+    add-put
+    put-requires-2
+    add-result-2
+    same-length-2
+    returns-2)

@@ -1,0 +1,68 @@
+// The registers: a word for each, the wire that it holds.
+use rules::sizes::MOST_LABELS;
+use rules::slots::NO_WIRE;
+use rules::wires_in;
+use words::get;
+use words::put;
+ghost use Prim.Native.Nat.{_+_, _*_, _≤_, _<_};
+ghost use mathlib.Core.Path.{_≡_};
+ghost use mathlib.Core.Bool.{true, cond};
+ghost use lib.Dec.{ltb};
+ghost use lib.ListN.{length, getD};
+ghost use Rattle.rules.specs.Gates.{isGate, wiresIn};
+ghost use Rattle.rules.specs.Circuits.{numbers};
+ghost use Rattle.rules.specs.Sizes.{most-labels};
+ghost use Rattle.rules.specs.Slots.{no-wire};
+ghost use Rattle.words.specs.Words.{words};
+ghost use Rattle.openqasm_parts.specs.Stored.{heldAfter};
+
+// Register k holds wire k.
+pub(crate) fn number_registers(held: &mut [u8])
+    requires { ⌜ length (now held) ≡ 2 * most-labels ⌝ }
+    ensures { λ r. ⌜ words (now (held .exit)) ≡ numbers 0 most-labels ⌝ }
+{
+    let mut k: usize = 0;
+    while k < MOST_LABELS {
+        put(held, k, k);
+        k += 1;
+    }
+}
+
+// The wire that a register holds.
+pub(crate) fn wire_in(held: &[u8], register: usize) -> usize
+    ensures { λ r. ⌜ r ≡ getD (words (now (held .entry))) register 0 ⌝ }
+    ensures { λ r. ⌜ r < 65536 ⌝ }
+{
+    get(held, register)
+}
+
+// The wire that the second register of a gate holds; NO_WIRE where the gate takes one wire only.
+pub(crate) fn second_wire_in(held: &[u8], gate: usize, register: usize) -> usize
+    ensures { λ r. ⌜ r ≡ cond (ltb (wiresIn gate) 2) no-wire (getD (words (now (held .entry))) register 0) ⌝ }
+    ensures { λ r. ⌜ r < 65536 ⌝ }
+{
+    if wires_in(gate) < 2 {
+        return NO_WIRE;
+    }
+    wire_in(held, register)
+}
+
+// The registers of a gate hold the wires that it makes, from this number on; answers the number of the next wire.
+pub(crate) fn hold_wires(
+    held: &mut [u8],
+    gate: usize,
+    first: usize,
+    second: usize,
+    made: usize,
+) -> usize
+    requires { ⌜ (isGate gate ≡ true) × (made + 2 ≤ 65536) ⌝ }
+    ensures { λ r. ⌜ r ≡ made + wiresIn gate ⌝ }
+    ensures { λ r. ⌜ words (now (held .exit)) ≡ heldAfter (words (now (held .entry))) gate first second made ⌝ }
+{
+    put(held, first, made);
+    if wires_in(gate) < 2 {
+        return made + 1;
+    }
+    put(held, second, made + 1);
+    made + 2
+}
