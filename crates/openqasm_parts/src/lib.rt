@@ -24,6 +24,7 @@ use rules::slots::NO_WIRE;
 use text::put_bytes;
 ghost use Prim.Native.Nat.{ℕ, _≤_};
 ghost use mathlib.Core.Path.{_≡_};
+ghost use mathlib.Core.List.{List};
 ghost use lib.ListN.{length};
 ghost use Rattle.rules.specs.Circuits.{numbers};
 ghost use Rattle.rules.specs.Sizes.{most-labels, most-gates};
@@ -120,14 +121,16 @@ fn read_outputs(
     inputs: usize,
     gates: usize,
     held: &[u8],
-    kinds: &[u8],
     slots: &mut [u8],
 ) -> usize
     requires { ⌜ (slots-bytes ≤ length (now slots))
-        × ((made : ℕ) × GatesRead most-labels most-gates 0 (now text) at inputs gates made (now held) (now kinds) (now slots)) ⌝ }
-    ensures { λ r. ⌜ ((behind : ℕ)
+        × ((kinds : List ℕ) × (made : ℕ)
+        × GatesRead most-labels most-gates 0 (now text) at inputs gates made (now held) kinds (now slots)) ⌝ }
+    ensures { λ r. ⌜ ((kinds : List ℕ) (made : ℕ)
+        → GatesRead most-labels most-gates 0 (now (text .entry)) at inputs gates made (now (held .entry)) kinds (now (slots .entry))
+        → (behind : ℕ)
         × OutputsRead most-labels most-gates most-outputs 0 (now (text .entry)) behind inputs gates r
-        (now (held .entry)) (now (kinds .entry)) (now (slots .exit))) ⌝ }
+        (now (held .entry)) kinds (now (slots .exit))) ⌝ }
 {
     let from = 2 * ENTRY_SLOTS * (inputs + gates);
     let mut here = at + OUTPUTS_MARK;
@@ -188,14 +191,6 @@ pub fn read_listing(text: &[u8], kinds: &mut [u8], slots: &mut [u8], listing: &m
     number_registers(&mut held);
     let inputs = read_inputs(text, kinds, slots);
     let gates = read_gates(text, inputs.at, inputs.count, &mut held, kinds, slots);
-    let outputs = read_outputs(
-        text,
-        gates.at,
-        inputs.count,
-        gates.count,
-        &held,
-        kinds,
-        slots,
-    );
+    let outputs = read_outputs(text, gates.at, inputs.count, gates.count, &held, slots);
     assemble(listing, kinds, slots, inputs.count, gates.count, outputs)
 }

@@ -1,8 +1,8 @@
-use borrow.Author.Needs.{needs}
 use native.Mathlib.Omega.{arith}
 use mathlib.Core.Path.{subst}
 use Rattle.text.specs.Written.{Written}
 use Rattle.openqasm_parts.specs.Laws.Stored.{listing-stored}
+use borrow.Author.Needs.{needs}
 use Rattle.openqasm_parts.proofs.read_listing.Statement.{statement}
 use Rattle.openqasm_parts.proofs.read_listing.Tie as tie
 
@@ -55,46 +55,43 @@ read-outputs-requires : tie.Need-read-outputs-requires
 read-outputs-requires c κs =
     let r =
     c .before .before .before .before .before .before .before .before .before .before .before .before .before .before .before
-    .before .read-inputs in
-    let g = c .before .before .before .before .before .before .before .before .read-gates in (
+    .read-inputs in
+    let g = c .before .before .before .before .before .before .before .read-gates in (
       omega (
         arith,
         c .before .before .before .before .before .before .before .before .before .before .before .before .before .before .before
-            .before .before .before .before .before .before .before .if2 .left,
+            .before .before .before .before .before .before .if2 .left,
         r .kept .1 .1 .0,
         g .kept .1 .1 .1 .1 .1 .0,
       ),
-      g .ensures,
+      (g .last .1 .1 .1 .1 .0, g .ensures .0, g .ensures .1),
     )
 
 assemble-requires : tie.Need-assemble-requires
 assemble-requires c κs =
     let r =
     c .before .before .before .before .before .before .before .before .before .before .before .before .before .before .before
-    .before .before .before .before .before .before .before .read-inputs in
-    let g =
-    c .before .before .before .before .before .before .before .before .before .before .before .before .before .before
-    .read-gates in
+    .before .before .before .before .before .before .read-inputs in
+    let g = c .before .before .before .before .before .before .before .before .before .before .before .before .before .read-gates in
     let o = c .before .before .before .before .before .read-outputs in
-    let w = o .ensures .1 in (
+    let w = o .ensures _ (g .ensures .0) (g .ensures .1) .1 in (
       w .few-inputs,
       w .few-gates,
       omega (arith, w .few),
       omega (
         arith,
         c .before .before .before .before .before .before .before .before .before .before .before .before .before .before .before
-            .before .before .before .before .before .before .before .before .before .before .before .before .before .before .if1
-            .left,
+            .before .before .before .before .before .before .before .before .before .before .before .before .before .if1 .left,
         r .kept .1 .0,
         g .kept .1 .1 .1 .1 .0,
       ),
       omega (
         arith,
         c .before .before .before .before .before .before .before .before .before .before .before .before .before .before .before
-            .before .before .before .before .before .before .before .before .before .before .before .before .before .if2 .left,
+            .before .before .before .before .before .before .before .before .before .before .before .before .if2 .left,
         r .kept .1 .1 .0,
         g .kept .1 .1 .1 .1 .1 .0,
-        o .kept .1 .1 .1 .1 .1 .1 .0,
+        o .kept .1 .1 .1 .1 .1 .0,
       ),
     )
 
@@ -109,12 +106,15 @@ same-length-3 c = search needs
 
 returns-3 : tie.Need-returns-3
 returns-3 c =
+    let g =
+    c .before .before .before .before .before .before .before .before .before .before .before .before .before .before .before
+    .before .read-gates .ensures in
     λ long long′. subst (λ xs. Written
     (c .before .before .before .before .before .before .before .before .before .before .before .before .before .before .before
     .before .before .before .before .before .before .before .before .before .before .before .before .before .before .before
-    .before .before .before .before .before .before .before .args .listing .now) xs (c .before .before .assemble .last .0)
+    .before .before .before .before .before .before .args .listing .now) xs (c .before .before .assemble .last .0)
     (c .before .before .assemble .result)) (listing-stored
-    (c .before .before .before .before .before .before .before .before .read-outputs .ensures .1))
+    (c .before .before .before .before .before .before .before .before .read-outputs .ensures _ (g .0) (g .1) .1))
     (c .before .before .assemble .ensures)
 
 pub read-listing-spec : {M : Type 1} → statement M
