@@ -234,7 +234,7 @@ static inline size_t gawipsol_export_length(uint64_t answer)
  */
 uint64_t gawipsol_import(const uint8_t *text, size_t text_length,
                          uint8_t *out, size_t out_length,
-                         uint8_t *rows, size_t rows_length,
+                         uint8_t *slots, size_t slots_length,
                          uint8_t *listing, size_t listing_length,
                          uint8_t *table, size_t table_length,
                          uint8_t *exported, size_t exported_length);
@@ -293,7 +293,7 @@ static inline uint64_t gawipsol_check_in(struct gawipsol_machine *machine,
 
 /* The working memory of an import as one object, in the same way. */
 struct gawipsol_importer {
-    uint8_t rows[11072];
+    uint8_t slots[8960];
     uint8_t listing[GAWIPSOL_IMPORT_OUT];
     uint8_t table[GAWIPSOL_LISTING_WORK];
     uint8_t exported[GAWIPSOL_EXPORT_OUT];
@@ -306,7 +306,7 @@ static inline uint64_t gawipsol_import_in(struct gawipsol_importer *importer,
 {
     return gawipsol_import(text, text_length,
                            out, out_length,
-                           importer->rows, sizeof importer->rows,
+                           importer->slots, sizeof importer->slots,
                            importer->listing, sizeof importer->listing,
                            importer->table, sizeof importer->table,
                            importer->exported, sizeof importer->exported);

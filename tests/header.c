@@ -288,7 +288,7 @@ static void check_texts(void)
 /* The buffers of an import. */
 enum import_buffer {
     IMPORTED,
-    ROWS,
+    SLOTS,
     LISTING,
     TABLE,
     EXPORTED,
@@ -301,7 +301,7 @@ static void check_text_lengths(void)
     const struct text_case *of = &text_cases[0];
     size_t lengths[IMPORT_BUFFERS] = {
         sizeof imported,
-        sizeof importer.rows,
+        sizeof importer.slots,
         sizeof importer.listing,
         sizeof importer.table,
         sizeof importer.exported,
@@ -330,7 +330,7 @@ static void check_text_lengths(void)
         refusal(operation,
                 gawipsol_import(of->text, of->text_length,
                                 imported, lengths[IMPORTED],
-                                importer.rows, lengths[ROWS],
+                                importer.slots, lengths[SLOTS],
                                 importer.listing, lengths[LISTING],
                                 importer.table, lengths[TABLE],
                                 importer.exported, lengths[EXPORTED]),

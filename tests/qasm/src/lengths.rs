@@ -12,6 +12,12 @@ pub const LONGEST_TEXT: usize = 36 + LINE * MOST_INPUTS + LINE * MOST_GATES + 7 
 /// Output buffer and working memory of an export.
 pub const EXPORT: [usize; 2] = [LONGEST_TEXT, MOST_WIRES];
 
-/// Output buffer of an import, and its working memory: rows, listing, table and
-/// text.
-pub const IMPORT: [usize; 5] = [LONGEST, LONGEST - SIZES, LONGEST, MOST_WIRES, LONGEST_TEXT];
+/// Output buffer of an import, and its working memory: slots and outputs,
+/// listing, table and text.
+pub const IMPORT: [usize; 5] = [
+    LONGEST,
+    LONGEST - SIZES - (MOST_INPUTS + MOST_GATES),
+    LONGEST,
+    MOST_WIRES,
+    LONGEST_TEXT,
+];

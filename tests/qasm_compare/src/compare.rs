@@ -52,7 +52,7 @@ impl Comparison {
         let export = ["the output buffer", "the working memory"];
         let import = [
             "the output buffer",
-            "the rows",
+            "the slots",
             "the listing",
             "the table",
             "the exported text",

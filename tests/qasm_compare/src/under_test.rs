@@ -25,8 +25,8 @@ mod library {
             text_len: usize,
             out_ptr: *mut u8,
             out_len: usize,
-            rows_ptr: *mut u8,
-            rows_len: usize,
+            slots_ptr: *mut u8,
+            slots_len: usize,
             listing_ptr: *mut u8,
             listing_len: usize,
             table_ptr: *mut u8,
@@ -53,7 +53,7 @@ mod library {
 
     /// The exported import: output buffer, and four working memories.
     pub fn import(text: &[u8], buffers: [&mut [u8]; 5]) -> u64 {
-        let [out, rows, listing, table, exported] = buffers;
+        let [out, slots, listing, table, exported] = buffers;
         // As above.
         unsafe {
             gawipsol_import(
@@ -61,8 +61,8 @@ mod library {
                 text.len(),
                 out.as_mut_ptr(),
                 out.len(),
-                rows.as_mut_ptr(),
-                rows.len(),
+                slots.as_mut_ptr(),
+                slots.len(),
                 listing.as_mut_ptr(),
                 listing.len(),
                 table.as_mut_ptr(),
