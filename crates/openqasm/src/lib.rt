@@ -75,17 +75,41 @@ fn write_one(text: &mut [u8], at: usize, name: u8, r: usize) -> usize
     ensures { λ last. ⌜ Puts (now (text .entry)) at (oneLine name r) (now (text .exit)) last ⌝ }
 {
     let begun = put_byte(text, at, name);
-    let named = put_named(text, begun, b" q", r);
-    put_bytes(text, named, b"[0];\n")
+    let parted = put_bytes(text, begun, b" q");
+    let numbered = put_decimal(text, parted, r);
+    put_bytes(text, numbered, b"[0];\n")
 }
 
-// A line with two registers.
-fn write_two(text: &mut [u8], at: usize, before: &[u8], r: usize, between: &[u8], s: usize) -> usize
-    ensures { λ last. ⌜ Puts (now (text .entry)) at (twoLine (now (before .entry)) r (now (between .entry)) s) (now (text .exit)) last ⌝ }
+// The line of a CNOT.
+fn write_cnot(text: &mut [u8], at: usize, r: usize, s: usize) -> usize
+    ensures { λ last. ⌜ Puts (now (text .entry)) at (twoLine (ascii "cx q") r (ascii "[0],q") s) (now (text .exit)) last ⌝ }
 {
-    let first = put_named(text, at, before, r);
-    let second = put_named(text, first, between, s);
+    let named = put_bytes(text, at, b"cx q");
+    let first = put_decimal(text, named, r);
+    let parted = put_bytes(text, first, b"[0],q");
+    let second = put_decimal(text, parted, s);
     put_bytes(text, second, b"[0];\n")
+}
+
+// The line of a measurement.
+fn write_measurement(text: &mut [u8], at: usize, r: usize) -> usize
+    ensures { λ last. ⌜ Puts (now (text .entry)) at (twoLine (ascii "measure q") r (ascii "[0] -> c") r) (now (text .exit)) last ⌝ }
+{
+    let named = put_bytes(text, at, b"measure q");
+    let first = put_decimal(text, named, r);
+    let parted = put_bytes(text, first, b"[0] -> c");
+    let second = put_decimal(text, parted, r);
+    put_bytes(text, second, b"[0];\n")
+}
+
+// The line of a gate with this name on a qubit, under a bit.
+fn write_under_bit(text: &mut [u8], at: usize, name: u8, r: usize, s: usize) -> usize
+    ensures { λ last. ⌜ Puts (now (text .entry)) at (twoLine (ascii "if(c") r (ascii "==1) " ++ (name ∷ ascii " q")) s) (now (text .exit)) last ⌝ }
+{
+    let begun = put_bytes(text, at, b"if(c");
+    let first = put_decimal(text, begun, r);
+    let tested = put_bytes(text, first, b"==1) ");
+    write_one(text, tested, name, s)
 }
 
 // The line of a gate whose wires are in these registers; nothing where there is no such gate.
@@ -96,16 +120,16 @@ pub fn write_gate(text: &mut [u8], at: usize, gate: usize, r: usize, s: usize) -
         return write_one(text, at, letter(gate), r);
     }
     if gate == 5 {
-        return write_two(text, at, b"cx q", r, b"[0],q", s);
+        return write_cnot(text, at, r, s);
     }
     if gate == 6 {
-        return write_two(text, at, b"measure q", r, b"[0] -> c", r);
+        return write_measurement(text, at, r);
     }
     if gate == 7 {
-        return write_two(text, at, b"if(c", r, b"==1) x q", s);
+        return write_under_bit(text, at, b'x', r, s);
     }
     if gate == 8 {
-        return write_two(text, at, b"if(c", r, b"==1) z q", s);
+        return write_under_bit(text, at, b'z', r, s);
     }
     at
 }

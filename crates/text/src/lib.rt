@@ -53,15 +53,29 @@ pub fn put_bytes(text: &mut [u8], at: usize, bytes: &[u8]) -> usize
     at + i
 }
 
-// A number in decimal.
-pub fn put_decimal(text: &mut [u8], at: usize, n: usize) -> usize
+// A number in decimal, digit by digit.
+fn put_digits(text: &mut [u8], at: usize, n: usize) -> usize
     ensures { λ r. ⌜ Puts (now (text .entry)) at (decimal n) (now (text .exit)) r ⌝ }
 {
     if n < 10 {
         return put_byte(text, at, (ZERO + n) as u8);
     }
-    let here = put_decimal(text, at, n / 10);
+    let here = put_digits(text, at, n / 10);
     put_byte(text, here, (ZERO + n % 10) as u8)
+}
+
+// A number in decimal. Short numbers, as most are, need no recursion.
+pub fn put_decimal(text: &mut [u8], at: usize, n: usize) -> usize
+    ensures { λ r. ⌜ Puts (now (text .entry)) at (decimal n) (now (text .exit)) r ⌝ }
+{
+    if 100 <= n {
+        return put_digits(text, at, n);
+    }
+    if n < 10 {
+        return put_byte(text, at, (ZERO + n) as u8);
+    }
+    let tens = put_byte(text, at, (ZERO + n / 10) as u8);
+    put_byte(text, tens, (ZERO + n % 10) as u8)
 }
 
 // A space and a number.

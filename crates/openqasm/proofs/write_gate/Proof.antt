@@ -10,8 +10,10 @@ use Rattle.openqasm.proofs.write_gate.Tie as tie
 use Rattle.openqasm.proofs.write_gate.Reads as reads
 use Rattle.openqasm.proofs.write_gate.Lts as lts
 use Rattle.openqasm.proofs.letter.Reads as letter-reads
+use Rattle.openqasm.proofs.write_cnot.Reads as write-cnot-reads
+use Rattle.openqasm.proofs.write_measurement.Reads as write-measurement-reads
 use Rattle.openqasm.proofs.write_one.Reads as write-one-reads
-use Rattle.openqasm.proofs.write_two.Reads as write-two-reads
+use Rattle.openqasm.proofs.write_under_bit.Reads as write-under-bit-reads
 
 letter-requires : tie.Need-letter-requires
 letter-requires c κs = search needs
@@ -25,65 +27,41 @@ same-length c = search needs
 returns : tie.Need-returns
 returns c = let a = c .before .before .before .before .before .before .before .args in puts-same (ap (λ l. oneLine l (a .r)) (c .before .before .before .letter .ensures) ∙ gate-on-one (a .gate) (a .r) (a .s) (c .before .before .before .before .before .if1 .taken)) (c .before .before .write-one .ensures)
 
-slice-aggregate-write-two : tie.Need-slice-aggregate-write-two
-slice-aggregate-write-two c = search needs
-
-slice-aggregate-write-two-2 : tie.Need-slice-aggregate-write-two-2
-slice-aggregate-write-two-2 c = search needs
-
-write-two-requires : tie.Need-write-two-requires
-write-two-requires c κs = search needs
+write-cnot-requires : tie.Need-write-cnot-requires
+write-cnot-requires c κs = search needs
 
 same-length-2 : tie.Need-same-length-2
 same-length-2 c = search needs
 
 returns-2 : tie.Need-returns-2
-returns-2 c = let a = c .before .before .before .before .before .before .before .before .before .args in puts-same (gate-cnot (a .r) (a .s) ∙ ap (λ n. gateLine n (a .r ∷ a .s ∷ [])) (sym (c .before .before .before .before .before .before .if2 .taken))) (c .before .before .write-two .ensures)
+returns-2 c = let a = c .before .before .before .before .before .before .before .args in puts-same (gate-cnot (a .r) (a .s) ∙ ap (λ n. gateLine n (a .r ∷ a .s ∷ [])) (sym (c .before .before .before .before .if2 .taken))) (c .before .before .write-cnot .ensures)
 
-slice-aggregate-write-two-3 : tie.Need-slice-aggregate-write-two-3
-slice-aggregate-write-two-3 c = search needs
-
-slice-aggregate-write-two-4 : tie.Need-slice-aggregate-write-two-4
-slice-aggregate-write-two-4 c = search needs
-
-write-two-requires-2 : tie.Need-write-two-requires-2
-write-two-requires-2 c κs = search needs
+write-measurement-requires : tie.Need-write-measurement-requires
+write-measurement-requires c κs = search needs
 
 same-length-3 : tie.Need-same-length-3
 same-length-3 c = search needs
 
 returns-3 : tie.Need-returns-3
-returns-3 c = let a = c .before .before .before .before .before .before .before .before .before .before .args in puts-same (gate-measured (a .r) (a .s) ∙ ap (λ n. gateLine n (a .r ∷ a .s ∷ [])) (sym (c .before .before .before .before .before .before .if3 .taken))) (c .before .before .write-two2 .ensures)
+returns-3 c = let a = c .before .before .before .before .before .before .before .before .args in puts-same (gate-measured (a .r) (a .s) ∙ ap (λ n. gateLine n (a .r ∷ a .s ∷ [])) (sym (c .before .before .before .before .if3 .taken))) (c .before .before .write-measurement .ensures)
 
-slice-aggregate-write-two-5 : tie.Need-slice-aggregate-write-two-5
-slice-aggregate-write-two-5 c = search needs
-
-slice-aggregate-write-two-6 : tie.Need-slice-aggregate-write-two-6
-slice-aggregate-write-two-6 c = search needs
-
-write-two-requires-3 : tie.Need-write-two-requires-3
-write-two-requires-3 c κs = search needs
+write-under-bit-requires : tie.Need-write-under-bit-requires
+write-under-bit-requires c κs = search needs
 
 same-length-4 : tie.Need-same-length-4
 same-length-4 c = search needs
 
 returns-4 : tie.Need-returns-4
-returns-4 c = let a = c .before .before .before .before .before .before .before .before .before .before .before .args in puts-same (gate-bx (a .r) (a .s) ∙ ap (λ n. gateLine n (a .r ∷ a .s ∷ [])) (sym (c .before .before .before .before .before .before .if4 .taken))) (c .before .before .write-two3 .ensures)
+returns-4 c = let a = c .before .before .before .before .before .before .before .before .before .args in puts-same (gate-bx (a .r) (a .s) ∙ ap (λ n. gateLine n (a .r ∷ a .s ∷ [])) (sym (c .before .before .before .before .if4 .taken))) (c .before .before .write-under-bit .ensures)
 
-slice-aggregate-write-two-7 : tie.Need-slice-aggregate-write-two-7
-slice-aggregate-write-two-7 c = search needs
-
-slice-aggregate-write-two-8 : tie.Need-slice-aggregate-write-two-8
-slice-aggregate-write-two-8 c = search needs
-
-write-two-requires-4 : tie.Need-write-two-requires-4
-write-two-requires-4 c κs = search needs
+write-under-bit-requires-2 : tie.Need-write-under-bit-requires-2
+write-under-bit-requires-2 c κs = search needs
 
 same-length-5 : tie.Need-same-length-5
 same-length-5 c = search needs
 
 returns-5 : tie.Need-returns-5
-returns-5 c = let a = c .before .before .before .before .before .before .before .before .before .before .before .before .args in puts-same (gate-bz (a .r) (a .s) ∙ ap (λ n. gateLine n (a .r ∷ a .s ∷ [])) (sym (c .before .before .before .before .before .before .if5 .taken))) (c .before .before .write-two4 .ensures)
+returns-5 c = let a = c .before .before .before .before .before .before .before .before .before .before .args in puts-same (gate-bz (a .r) (a .s) ∙ ap (λ n. gateLine n (a .r ∷ a .s ∷ [])) (sym (c .before .before .before .before .if5 .taken))) (c .before .before .write-under-bit2 .ensures)
 
 returns-6 : tie.Need-returns-6
 returns-6 c = let a = c .before .before .before .before .before .before .args in puts-same (sym (no-gate (a .gate) (a .r ∷ a .s ∷ []) (omega (arith, c .before .before .before .before .if1 .left, c .before .before .before .if2 .left, c .before .before .if3 .left, c .before .if4 .left, c .if5 .left)))) (puts-none _ (a .at))
@@ -96,24 +74,16 @@ write-gate-spec =
     write-one-requires
     same-length
     returns
-    slice-aggregate-write-two
-    slice-aggregate-write-two-2
-    write-two-requires
+    write-cnot-requires
     same-length-2
     returns-2
-    slice-aggregate-write-two-3
-    slice-aggregate-write-two-4
-    write-two-requires-2
+    write-measurement-requires
     same-length-3
     returns-3
-    slice-aggregate-write-two-5
-    slice-aggregate-write-two-6
-    write-two-requires-3
+    write-under-bit-requires
     same-length-4
     returns-4
-    slice-aggregate-write-two-7
-    slice-aggregate-write-two-8
-    write-two-requires-4
+    write-under-bit-requires-2
     same-length-5
     returns-5
     returns-6)

@@ -41,11 +41,11 @@ pub gate-measured : (r s : ℕ) → twoLine (ascii "measure q") r (ascii "[0] ->
 unfolding gateLine
 gate-measured r s = refl
 
-pub gate-bx : (r s : ℕ) → twoLine (ascii "if(c") r (ascii "==1) x q") s ≡ gateLine 7 (r ∷ s ∷ [])
+pub gate-bx : (r s : ℕ) → twoLine (ascii "if(c") r (ascii "==1) " ++ (120 ∷ ascii " q")) s ≡ gateLine 7 (r ∷ s ∷ [])
 unfolding gateLine
 gate-bx r s = refl
 
-pub gate-bz : (r s : ℕ) → twoLine (ascii "if(c") r (ascii "==1) z q") s ≡ gateLine 8 (r ∷ s ∷ [])
+pub gate-bz : (r s : ℕ) → twoLine (ascii "if(c") r (ascii "==1) " ++ (122 ∷ ascii " q")) s ≡ gateLine 8 (r ∷ s ∷ [])
 unfolding gateLine
 gate-bz r s = refl
 
@@ -62,19 +62,6 @@ no-gate (suc (suc (suc (suc (suc (suc zero)))))) rs h = absurd (omega arith)
 no-gate (suc (suc (suc (suc (suc (suc (suc zero))))))) rs h = absurd (omega arith)
 no-gate (suc (suc (suc (suc (suc (suc (suc (suc zero)))))))) rs h = absurd (omega arith)
 no-gate (suc (suc (suc (suc (suc (suc (suc (suc (suc n))))))))) rs h = refl
-
--- A line with two registers is written.
-pub puts-two : (before between : List ℕ) (r s : ℕ) {t₀ t₁ t₂ t₃ : List ℕ} {at₀ at₁ at₂ at₃ : ℕ}
-    → Puts t₀ at₀ (before ++ decimal r) t₁ at₁
-    → Puts t₁ at₁ (between ++ decimal s) t₂ at₂
-    → Puts t₂ at₂ (ascii "[0];\n") t₃ at₃
-    → Puts t₀ at₀ (twoLine before r between s) t₃ at₃
-puts-two before between r s p q e =
-    puts-same
-    (append-assoc (before ++ decimal r) (between ++ decimal s) (ascii "[0];\n")
-    ∙ append-assoc before (decimal r) ((between ++ decimal s) ++ ascii "[0];\n")
-    ∙ ap (λ ys. before ++ (decimal r ++ ys)) (append-assoc between (decimal s) (ascii "[0];\n")))
-    (puts-both (puts-both p q) e)
 
 -- The declarations of a Qubit are written.
 pub puts-qubit : (k : ℕ) {t₀ t₁ t₂ t₃ : List ℕ} {at₀ at₁ at₂ at₃ : ℕ}
