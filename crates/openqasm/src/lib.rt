@@ -7,6 +7,7 @@ use refusals::Refusal;
 use text::put_byte;
 use text::put_bytes;
 use text::put_decimal;
+ghost use Prim.Native.Nat.{_≤_};
 ghost use mathlib.Core.Bool.{cond};
 ghost use mathlib.Core.List.{[], _∷_, _++_};
 ghost use lib.ListN.{getD};
@@ -102,14 +103,34 @@ fn write_measurement(text: &mut [u8], at: usize, r: usize) -> usize
     put_bytes(text, second, b"[0];\n")
 }
 
-// The line of a gate with this name on a qubit, under a bit.
-fn write_under_bit(text: &mut [u8], at: usize, name: u8, r: usize, s: usize) -> usize
-    ensures { λ last. ⌜ Puts (now (text .entry)) at (twoLine (ascii "if(c") r (ascii "==1) " ++ (name ∷ ascii " q")) s) (now (text .exit)) last ⌝ }
+// The first part of the line of a gate under a bit.
+fn write_test(text: &mut [u8], at: usize, r: usize) -> usize
+    ensures { λ last. ⌜ Puts (now (text .entry)) at (ascii "if(c" ++ decimal r) (now (text .exit)) last ⌝ }
 {
     let begun = put_bytes(text, at, b"if(c");
-    let first = put_decimal(text, begun, r);
-    let tested = put_bytes(text, first, b"==1) ");
-    write_one(text, tested, name, s)
+    put_decimal(text, begun, r)
+}
+
+// The last part, with the number of the qubit's register.
+fn write_last(text: &mut [u8], at: usize, s: usize) -> usize
+    ensures { λ last. ⌜ Puts (now (text .entry)) at (decimal s ++ ascii "[0];\n") (now (text .exit)) last ⌝ }
+{
+    let numbered = put_decimal(text, at, s);
+    put_bytes(text, numbered, b"[0];\n")
+}
+
+// The line of BX or BZ.
+fn write_under_bit(text: &mut [u8], at: usize, gate: usize, r: usize, s: usize) -> usize
+    requires { ⌜ (7 ≤ gate) × (gate ≤ 8) ⌝ }
+    ensures { λ last. ⌜ Puts (now (text .entry)) at (gateLine gate (r ∷ s ∷ [])) (now (text .exit)) last ⌝ }
+{
+    let tested = write_test(text, at, r);
+    if gate == 7 {
+        let named = put_bytes(text, tested, b"==1) x q");
+        return write_last(text, named, s);
+    }
+    let named = put_bytes(text, tested, b"==1) z q");
+    write_last(text, named, s)
 }
 
 // The line of a gate whose wires are in these registers; nothing where there is no such gate.
@@ -125,11 +146,8 @@ pub fn write_gate(text: &mut [u8], at: usize, gate: usize, r: usize, s: usize) -
     if gate == 6 {
         return write_measurement(text, at, r);
     }
-    if gate == 7 {
-        return write_under_bit(text, at, b'x', r, s);
-    }
-    if gate == 8 {
-        return write_under_bit(text, at, b'z', r, s);
+    if gate < 9 {
+        return write_under_bit(text, at, gate, r, s);
     }
     at
 }

@@ -25,6 +25,7 @@ use places::place_at;
 use refusals::Refusal;
 use rules::sizes::MOST_GATES;
 use rules::sizes::MOST_LABELS;
+use rules::wires_in;
 use text::put_byte;
 use text::put_bytes;
 use wire_table::make_wire;
@@ -76,15 +77,16 @@ fn write_gates(listing: &[u8], table: &mut [u8], text: &mut [u8], at: usize) -> 
     ensures { λ r. ⌜ Begins (now (table .exit)) (placesOf (inputsOf (now (listing .entry))) (gatesOf (now (listing .entry)))) ⌝ }
 {
     let inputs = input_count(listing);
-    let count = gate_count(listing);
+    let gates = gate_count(listing);
     let mut from = slots_from(listing, inputs);
     let mut made = inputs;
     let mut here = at;
     let mut i: usize = 0;
-    while i < count {
+    while i < gates {
         let gate = kind_at(listing, inputs + i);
-        let first = place_at(listing, from, gate, 0, table);
-        let second = place_at(listing, from, gate, 1, table);
+        let count = wires_in(gate);
+        let first = place_at(listing, from, count, 0, table);
+        let second = place_at(listing, from, count, 1, table);
         here = write_gate(text, here, gate, first / 2, second / 2);
         made = keep_places(gate, first, second, table, made);
         from += 2 * ENTRY_SLOTS;

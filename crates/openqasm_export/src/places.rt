@@ -1,7 +1,6 @@
 // The table of registers: a byte for each wire.
 use listing::BIT_INPUT;
 use rules::made_code;
-use rules::wires_in;
 use wire_table::make_wire;
 use words::byte_at;
 use words::word_at;
@@ -10,7 +9,7 @@ ghost use mathlib.Core.Path.{_≡_};
 ghost use mathlib.Core.List.{List, _++_, map};
 ghost use lib.ListN.{length, getD};
 ghost use Rattle.rules.specs.Types.{wireCode};
-ghost use Rattle.rules.specs.Gates.{wiresIn, wiresOut};
+ghost use Rattle.rules.specs.Gates.{wiresOut};
 ghost use Rattle.words.specs.Numbers.{wordsAt};
 ghost use Rattle.listing.specs.Reading.{inputType};
 ghost use Rattle.openqasm_export.specs.Places.{Begins, retyped, keptPlaces};
@@ -26,13 +25,19 @@ pub(crate) fn input_place(kind: usize, k: usize) -> u8
     (2 * k + 1) as u8
 }
 
-// The place of the wire in a slot of a gate whose slots stand from a place of the listing on; 0 in a slot that it does not use.
-pub(crate) fn place_at(listing: &[u8], from: usize, gate: usize, slot: usize, table: &[u8]) -> usize
+// The place of the wire in a slot, where so many wires stand from a place of the listing on; 0 behind them.
+pub(crate) fn place_at(
+    listing: &[u8],
+    from: usize,
+    count: usize,
+    slot: usize,
+    table: &[u8],
+) -> usize
     requires { ⌜ (from < 134217728) × (slot < 2) ⌝ }
-    ensures { λ r. ⌜ r ≡ getD (map (λ w. getD (now (table .entry)) w 0) (wordsAt (now (listing .entry)) from (wiresIn gate))) slot 0 ⌝ }
+    ensures { λ r. ⌜ r ≡ getD (map (λ w. getD (now (table .entry)) w 0) (wordsAt (now (listing .entry)) from count)) slot 0 ⌝ }
     ensures { λ r. ⌜ r < 256 ⌝ }
 {
-    if slot < wires_in(gate) {
+    if slot < count {
         return byte_at(table, word_at(listing, from + 2 * slot)) as usize;
     }
     0

@@ -3,7 +3,7 @@ use mathlib.Core.Path.{sym, ap, _∙_}
 use mathlib.Core.List.{[], _∷_}
 use Rattle.text.specs.Laws.Writing.{puts-none, puts-same}
 use Rattle.openqasm.specs.Layout.{gateLine}
-use Rattle.openqasm.specs.Laws.Lines.{oneLine, gate-on-one, gate-cnot, gate-measured, gate-bx, gate-bz, no-gate}
+use Rattle.openqasm.specs.Laws.Lines.{oneLine, gate-on-one, gate-cnot, gate-measured, no-gate}
 use borrow.Author.Needs.{needs}
 use Rattle.openqasm.proofs.write_gate.Statement.{statement}
 use Rattle.openqasm.proofs.write_gate.Tie as tie
@@ -46,25 +46,16 @@ returns-3 : tie.Need-returns-3
 returns-3 c = let a = c .before .before .before .before .before .before .before .before .args in puts-same (gate-measured (a .r) (a .s) ∙ ap (λ n. gateLine n (a .r ∷ a .s ∷ [])) (sym (c .before .before .before .before .if3 .taken))) (c .before .before .write-measurement .ensures)
 
 write-under-bit-requires : tie.Need-write-under-bit-requires
-write-under-bit-requires c κs = search needs
+write-under-bit-requires c κs = (omega (arith, c .before .before .before .before .if1 .left, c .before .before .before .if2 .left, c .before .before .if3 .left), omega (arith, c .before .if4 .taken))
 
 same-length-4 : tie.Need-same-length-4
 same-length-4 c = search needs
 
 returns-4 : tie.Need-returns-4
-returns-4 c = let a = c .before .before .before .before .before .before .before .before .before .args in puts-same (gate-bx (a .r) (a .s) ∙ ap (λ n. gateLine n (a .r ∷ a .s ∷ [])) (sym (c .before .before .before .before .if4 .taken))) (c .before .before .write-under-bit .ensures)
-
-write-under-bit-requires-2 : tie.Need-write-under-bit-requires-2
-write-under-bit-requires-2 c κs = search needs
-
-same-length-5 : tie.Need-same-length-5
-same-length-5 c = search needs
+returns-4 c = c .before .before .write-under-bit .ensures
 
 returns-5 : tie.Need-returns-5
-returns-5 c = let a = c .before .before .before .before .before .before .before .before .before .before .args in puts-same (gate-bz (a .r) (a .s) ∙ ap (λ n. gateLine n (a .r ∷ a .s ∷ [])) (sym (c .before .before .before .before .if5 .taken))) (c .before .before .write-under-bit2 .ensures)
-
-returns-6 : tie.Need-returns-6
-returns-6 c = let a = c .before .before .before .before .before .before .args in puts-same (sym (no-gate (a .gate) (a .r ∷ a .s ∷ []) (omega (arith, c .before .before .before .before .if1 .left, c .before .before .before .if2 .left, c .before .before .if3 .left, c .before .if4 .left, c .if5 .left)))) (puts-none _ (a .at))
+returns-5 c = let a = c .before .before .before .before .before .args in puts-same (sym (no-gate (a .gate) (a .r ∷ a .s ∷ []) (omega (arith, c .if4 .left)))) (puts-none _ (a .at))
 
 pub write-gate-spec : {M : Type 1} → statement M
 write-gate-spec =
@@ -83,7 +74,4 @@ write-gate-spec =
     write-under-bit-requires
     same-length-4
     returns-4
-    write-under-bit-requires-2
-    same-length-5
-    returns-5
-    returns-6)
+    returns-5)

@@ -41,11 +41,11 @@ pub gate-measured : (r s : ℕ) → twoLine (ascii "measure q") r (ascii "[0] ->
 unfolding gateLine
 gate-measured r s = refl
 
-pub gate-bx : (r s : ℕ) → twoLine (ascii "if(c") r (ascii "==1) " ++ (120 ∷ ascii " q")) s ≡ gateLine 7 (r ∷ s ∷ [])
+pub gate-bx : (r s : ℕ) → twoLine (ascii "if(c") r (ascii "==1) x q") s ≡ gateLine 7 (r ∷ s ∷ [])
 unfolding gateLine
 gate-bx r s = refl
 
-pub gate-bz : (r s : ℕ) → twoLine (ascii "if(c") r (ascii "==1) " ++ (122 ∷ ascii " q")) s ≡ gateLine 8 (r ∷ s ∷ [])
+pub gate-bz : (r s : ℕ) → twoLine (ascii "if(c") r (ascii "==1) z q") s ≡ gateLine 8 (r ∷ s ∷ [])
 unfolding gateLine
 gate-bz r s = refl
 
@@ -82,3 +82,14 @@ pub puts-declared : (k kind : ℕ) (α : Wire) {t t′ : List ℕ} {at at′ : �
     → Puts t at (declaration k α) t′ at′
     → Puts t at (declaration k (inputType kind)) t′ at′
 puts-declared k kind α e p = puts-same (ap (declaration k) e) p
+
+-- A line with two registers is written in three parts.
+pub puts-two : (before between : List ℕ) (r s : ℕ) {t₀ t₁ t₂ t₃ : List ℕ} {at₀ at₁ at₂ at₃ : ℕ}
+    → Puts t₀ at₀ (before ++ decimal r) t₁ at₁
+    → Puts t₁ at₁ between t₂ at₂
+    → Puts t₂ at₂ (decimal s ++ ascii "[0];\n") t₃ at₃
+    → Puts t₀ at₀ (twoLine before r between s) t₃ at₃
+puts-two before between r s p q e =
+    puts-same
+    (append-assoc before (decimal r) (between ++ (decimal s ++ ascii "[0];\n")))
+    (puts-both p (puts-both q e))

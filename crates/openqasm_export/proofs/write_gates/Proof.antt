@@ -23,17 +23,18 @@ use Rattle.listing.proofs.slots_from.Reads as slots-from-reads
 use Rattle.openqasm.proofs.write_gate.Reads as write-gate-reads
 use Rattle.openqasm_export.proofs.places.keep_places.Reads as keep-places-reads
 use Rattle.openqasm_export.proofs.places.place_at.Reads as place-at-reads
+use Rattle.rules.proofs.wires_in.Reads as wires-in-reads
 
 abbrev Inv-loop : tie.InvT-loop
-Inv-loop listing table₀ text₀ at inputs count from₀ made₀ here₀ i₀ table text from made here i =
-    (i ≤ count)
+Inv-loop listing table₀ text₀ at inputs gates from₀ made₀ here₀ i₀ table text from made here i =
+    (i ≤ gates)
     × (length table ≡ length table₀)
     × (length text ≡ length text₀)
     × (from ≡ slotsFrom listing (inputCount listing + i))
     × GatesWritten listing text₀ at table text here made i
 
 abbrev μ-loop : tie.MeasureT-loop
-μ-loop listing table₀ text₀ at inputs count from₀ made₀ here₀ i₀ table text from made here i = count - i
+μ-loop listing table₀ text₀ at inputs gates from₀ made₀ here₀ i₀ table text from made here i = gates - i
 
 input-count-requires : tie.Need-input-count-requires Inv-loop μ-loop
 input-count-requires c κs = search needs
@@ -61,44 +62,48 @@ add-kind-at c = search (needs, c .loop-test .taken, c .before .before .before .b
 kind-at-requires : tie.Need-kind-at-requires Inv-loop μ-loop
 kind-at-requires c κs = search needs
 
+wires-in-requires : tie.Need-wires-in-requires Inv-loop μ-loop
+wires-in-requires c κs = search needs
+
 place-at-requires : tie.Need-place-at-requires Inv-loop μ-loop
-place-at-requires c κs = (omega (arith, c .before .before .before .loop .inv .3, c .before .before .loop-test .taken, c .before .before .before .before .before .before .input-count .ensures, c .before .before .before .before .before .gate-count .ensures), omega arith)
+place-at-requires c κs = (omega (arith, c .before .before .before .before .loop .inv .3, c .before .before .before .loop-test .taken, c .before .before .before .before .before .before .before .input-count .ensures, c .before .before .before .before .before .before .gate-count .ensures), omega arith)
 
 place-at-requires-2 : tie.Need-place-at-requires-2 Inv-loop μ-loop
-place-at-requires-2 c κs = (omega (arith, c .before .before .before .before .before .loop .inv .3, c .before .before .before .before .loop-test .taken, c .before .before .before .before .before .before .before .before .input-count .ensures, c .before .before .before .before .before .before .before .gate-count .ensures), omega arith)
+place-at-requires-2 c κs = (omega (arith, c .before .before .before .before .before .before .loop .inv .3, c .before .before .before .before .before .loop-test .taken, c .before .before .before .before .before .before .before .before .before .input-count .ensures, c .before .before .before .before .before .before .before .before .gate-count .ensures), omega arith)
 
 write-gate-requires : tie.Need-write-gate-requires Inv-loop μ-loop
 write-gate-requires c κs = search needs
 
 keep-places-requires : tie.Need-keep-places-requires Inv-loop μ-loop
-keep-places-requires c κs = (c .before .before .before .before .before .before .before .place-at .ensures .1, c .before .before .before .before .before .place-at2 .ensures .1, omega (arith, c .before .before .before .before .before .before .before .before .before .before .before .loop .inv .4 .made-is, few-made (c .before .before .before .before .before .before .before .before .before .before .before .before .before .before .before .before .before .before .args .listing .now) (c .before .before .before .before .before .before .before .before .before .before .before .loop .i), c .before .before .before .before .before .before .before .before .before .before .loop-test .taken, c .before .before .before .before .before .before .before .before .before .before .before .before .before .before .input-count .ensures, c .before .before .before .before .before .before .before .before .before .before .before .before .before .gate-count .ensures))
+keep-places-requires c κs = (c .before .before .before .before .before .before .before .place-at .ensures .1, c .before .before .before .before .before .place-at2 .ensures .1, omega (arith, c .before .before .before .before .before .before .before .before .before .before .before .before .loop .inv .4 .made-is, few-made (c .before .before .before .before .before .before .before .before .before .before .before .before .before .before .before .before .before .before .before .args .listing .now) (c .before .before .before .before .before .before .before .before .before .before .before .before .loop .i), c .before .before .before .before .before .before .before .before .before .before .before .loop-test .taken, c .before .before .before .before .before .before .before .before .before .before .before .before .before .before .before .input-count .ensures, c .before .before .before .before .before .before .before .before .before .before .before .before .before .before .gate-count .ensures))
 
 mul-from : tie.Need-mul-from Inv-loop μ-loop
 mul-from c = search needs
 
 add-from : tie.Need-add-from Inv-loop μ-loop
-add-from c = search (needs, c .before .before .before .before .before .before .before .before .before .before .before .before .before .before .loop .inv .3, c .before .before .before .before .before .before .before .before .before .before .before .before .before .loop-test .taken, c .before .before .before .before .before .before .before .before .before .before .before .before .before .before .before .before .before .input-count .ensures, c .before .before .before .before .before .before .before .before .before .before .before .before .before .before .before .before .gate-count .ensures)
+add-from c = search (needs, c .before .before .before .before .before .before .before .before .before .before .before .before .before .before .before .loop .inv .3, c .before .before .before .before .before .before .before .before .before .before .before .before .before .before .loop-test .taken, c .before .before .before .before .before .before .before .before .before .before .before .before .before .before .before .before .before .before .input-count .ensures, c .before .before .before .before .before .before .before .before .before .before .before .before .before .before .before .before .before .gate-count .ensures)
 
 add-i : tie.Need-add-i Inv-loop μ-loop
-add-i c = search (needs, c .before .before .before .before .before .before .before .before .before .before .before .before .before .loop-test .taken)
+add-i c = search (needs, c .before .before .before .before .before .before .before .before .before .before .before .before .before .before .loop-test .taken)
 
 loop-less : tie.Need-loop-less Inv-loop μ-loop
-loop-less c = omega (arith, c .before .before .before .before .before .before .before .before .before .before .before .before .before .loop-test .taken)
+loop-less c = omega (arith, c .before .before .before .before .before .before .before .before .before .before .before .before .before .before .loop-test .taken)
 
 loop-again : tie.Need-loop-again Inv-loop μ-loop
 loop-again c =
-    let a = c .before .before .before .before .before .before .before .before .before .before .before .before .before .before .before .before .before .before .before .before .before .args in
+    let a = c .before .before .before .before .before .before .before .before .before .before .before .before .before .before .before .before .before .before .before .before .before .before .args in
     let b = a .listing .now in
-    let s = c .before .before .before .before .before .before .before .before .before .before .before .before .before .before .loop in
+    let s = c .before .before .before .before .before .before .before .before .before .before .before .before .before .before .before .loop in
     let w = s .inv .4 in
-    let p = c .before .before .before .before .before .before .before .before .before .before .before .before .before .before .before .before .before .before .before .before .before .pre .1 in
-    let kind : c .before .before .before .before .before .before .before .before .before .before .before .before .kind-at .result ≡ kindAt b (inputCount b + s .i) = c .before .before .before .before .before .before .before .before .before .before .before .before .kind-at .ensures .0 ∙ ap (λ n. kindAt b (n + s .i)) (c .before .before .before .before .before .before .before .before .before .before .before .before .before .before .before .before .before .input-count .ensures .0) in
-    let below : s .i < gateCount b = omega (arith, c .before .before .before .before .before .before .before .before .before .before .before .before .before .loop-test .taken, c .before .before .before .before .before .before .before .before .before .before .before .before .before .before .before .before .gate-count .ensures .0) in
+    let p = c .before .before .before .before .before .before .before .before .before .before .before .before .before .before .before .before .before .before .before .before .before .before .pre .1 in
+    let kind : c .before .before .before .before .before .before .before .before .before .before .before .before .before .kind-at .result ≡ kindAt b (inputCount b + s .i) = c .before .before .before .before .before .before .before .before .before .before .before .before .before .kind-at .ensures .0 ∙ ap (λ n. kindAt b (n + s .i)) (c .before .before .before .before .before .before .before .before .before .before .before .before .before .before .before .before .before .before .input-count .ensures .0) in
+    let below : s .i < gateCount b = omega (arith, c .before .before .before .before .before .before .before .before .before .before .before .before .before .before .loop-test .taken, c .before .before .before .before .before .before .before .before .before .before .before .before .before .before .before .before .before .gate-count .ensures .0) in
     let few = few-made b (s .i) in
     let room : s .made + 2 ≤ length (s .table) = omega (arith, few, w .made-is, s .inv .1, p .room, p .few-inputs, p .few-gates, below) in
-    let first = ap₂ (λ from n. getD (map (λ v. getD (s .table) v 0) (wordsAt b from (wiresIn n))) 0 0) (s .inv .3) kind in
-    let second = ap₂ (λ from n. getD (map (λ v. getD (s .table) v 0) (wordsAt b from (wiresIn n))) 1 0) (s .inv .3) kind in (
-      omega (arith, c .before .before .before .before .before .before .before .before .before .before .before .before .before .loop-test .taken),
+    let counted = c .before .before .before .before .before .before .before .before .before .before .before .before .wires-in .ensures ∙ ap wiresIn kind in
+    let first = ap₂ (λ from n. getD (map (λ v. getD (s .table) v 0) (wordsAt b from n)) 0 0) (s .inv .3) counted in
+    let second = ap₂ (λ from n. getD (map (λ v. getD (s .table) v 0) (wordsAt b from n)) 1 0) (s .inv .3) counted in (
+      omega (arith, c .before .before .before .before .before .before .before .before .before .before .before .before .before .before .loop-test .taken),
       c .before .before .keep-places .kept .1 .1 .1 .0 ∙ s .inv .1,
       c .before .before .before .before .before .before .write-gate .kept .0 ∙ s .inv .2,
       omega (arith, s .inv .3),
@@ -130,6 +135,7 @@ write-gates-spec =
     loop-holds
     add-kind-at
     kind-at-requires
+    wires-in-requires
     place-at-requires
     place-at-requires-2
     write-gate-requires

@@ -1,20 +1,14 @@
 use native.Mathlib.Omega.{arith}
-use mathlib.Core.Path.{_≡_, sym, _∙_, ap}
+use mathlib.Core.Path.{sym, _∙_, ap}
 use lib.ListN.{getD}
-use Prim.Native.Nat.{_<_}
-use Rattle.rules.specs.Gates.{wiresIn}
 use Rattle.openqasm_export.specs.Laws.Places.{word-mapped, none-mapped}
 use borrow.Author.Needs.{needs}
 use Rattle.openqasm_export.proofs.places.place_at.Statement.{statement}
 use Rattle.openqasm_export.proofs.places.place_at.Tie as tie
 use Rattle.openqasm_export.proofs.places.place_at.Reads as reads
 use Rattle.openqasm_export.proofs.places.place_at.Lts as lts
-use Rattle.rules.proofs.wires_in.Reads as wires-in-reads
 use Rattle.words.proofs.byte_at.Reads as byte-at-reads
 use Rattle.words.proofs.word_at.Reads as word-at-reads
-
-wires-in-requires : tie.Need-wires-in-requires
-wires-in-requires c κs = search needs
 
 mul-word-at : tie.Need-mul-word-at
 mul-word-at c = search needs
@@ -32,16 +26,15 @@ cast-result : tie.Need-cast-result
 cast-result c = search needs
 
 returns : tie.Need-returns
-returns c = let a = c .before .before .before .before .before .before .args in let m = a .table .now in (c .byte-at .ensures ∙ ap (λ w. getD m w 0) (c .before .word-at .ensures .0) ∙ sym (word-mapped (λ w. getD m w 0) (a .listing .now) (wiresIn (a .gate)) (a .slot) (a .from) (omega (arith, c .before .before .if1 .taken, c .before .before .before .wires-in .ensures))), omega arith)
+returns c = let a = c .before .before .before .before .before .args in let m = a .table .now in (c .byte-at .ensures ∙ ap (λ w. getD m w 0) (c .before .word-at .ensures .0) ∙ sym (word-mapped (λ w. getD m w 0) (a .listing .now) (a .count) (a .slot) (a .from) (c .before .before .if1 .taken)), omega arith)
 
 returns-2 : tie.Need-returns-2
-returns-2 c = let a = c .before .before .before .before .args in (sym (none-mapped (λ w. getD (a .table .now) w 0) (a .listing .now) (wiresIn (a .gate)) (a .slot) (a .from) (omega (arith, c .if1 .left, c .before .wires-in .ensures))), omega arith)
+returns-2 c = let a = c .before .before .before .args in (sym (none-mapped (λ w. getD (a .table .now) w 0) (a .listing .now) (a .count) (a .slot) (a .from) (c .if1 .left)), omega arith)
 
 pub place-at-spec : {M : Type 1} → statement M
 place-at-spec =
     tie.close
     (tie.spec
-    wires-in-requires
     mul-word-at
     add-word-at
     word-at-requires
