@@ -106,7 +106,7 @@ declaration-bytes = 26
 abbrev pub statement-bytes : ℕ
 statement-bytes = 26
 
--- The longest text of an accepted listing: 55,211 bytes. Every gate that is written makes as many wires as it takes, so there are as
+-- No text of an accepted listing is longer: 55,211 bytes. Every gate that is written makes as many wires as it takes, so there are as
 -- many outputs as inputs.
 abbrev pub most-text : ℕ
 most-text = 36 + declaration-bytes * most-labels + statement-bytes * most-gates + (7 + 4 * most-labels)

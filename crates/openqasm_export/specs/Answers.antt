@@ -13,7 +13,7 @@ use Rattle.openqasm.specs.declared.Conversion.{Conversion}
 use Rattle.openqasm.specs.declared.Conversion.the-variants.{Written, Refused}
 use Rattle.openqasm.specs.Layout.{exportOf, most-text}
 
--- The least lengths: the output buffer holds the longest text, the working memory a byte for each wire that a listing may make.
+-- The least lengths: the output buffer holds every text, the working memory a byte for each wire that a listing may make.
 abbrev pub export-lengths : List ℕ
 export-lengths = most-text ∷ most-wires ∷ []
 

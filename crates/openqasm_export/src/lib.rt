@@ -1,6 +1,6 @@
 // The export of a listing to OpenQASM 2.0 (02, ticket 4).
 // Believe: specs/Answers.
-// Main theorem: sound-fits (specs/Laws/Longest), that the longest text has 55,211 bytes.
+// Main law: sound-fits (specs/Laws/Longest), that no text is longer than 55,211 bytes.
 // write_text is the core, for the import too. Called by cabinet and by qasmout.
 mod places;
 
@@ -47,7 +47,7 @@ ghost use Rattle.openqasm.specs.Layout.{declarations, gateLines, outputName, ou
 ghost use Rattle.openqasm_export.specs.Answers.{exportedAs, outAfter, exportAnswer, exportBytes};
 ghost use Rattle.openqasm_export.specs.Places.{placesOf, Begins};
 
-// The longest text.
+// No text is longer.
 pub const MOST_TEXT: usize = 36 + 26 * MOST_LABELS + 26 * MOST_GATES + (7 + 4 * MOST_LABELS);
 
 const LINE_END: u8 = 10;

@@ -1,6 +1,5 @@
--- The lines that `wirelist` prints (01, "Listing"): "one line per input (wire, type), per gate (name, wires taken, colon,
--- wires made), the outputs and the steps"; "On refusal it prints one line, `refused`, number, place, parted by single
--- spaces."
+-- ASCII, decimal numbers and lines, for what `wirelist` prints (01, "Listing": words "parted by single spaces") and for OpenQASM
+-- texts (02, ticket 4).
 use Prim.Native.Nat.{ℕ, zero, suc, _+_, _/_, _%_}
 use Prim.Native.Char.{code}
 use Prim.Native.String.{String, [] as empty, _∷_ as character}

@@ -2,7 +2,7 @@
 // place of the next byte and answers the place behind those that it wrote.
 // Believe: specs/Text (decimal, words, lines) and specs/Written (what the buffer holds then).
 // Main laws: puts-both and puts-first (specs/Laws/Writing), length-decimal (specs/Laws/Decimals).
-// Called by wirelist's lines.
+// Called by wirelist's lines and by whatever writes an OpenQASM text or a listing read from one.
 ghost use mathlib.Core.List.{[], _∷_};
 ghost use Rattle.text.specs.Text.{decimal, spaced};
 ghost use Rattle.text.specs.Writing.{Puts};

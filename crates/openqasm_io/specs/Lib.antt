@@ -1,0 +1,4 @@
+pub mod Printing
+pub mod Answered
+pub mod Laws
+pub mod Theorems
