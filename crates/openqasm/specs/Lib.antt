@@ -1,3 +1,4 @@
 pub mod Layout
+pub mod Lines
 pub mod Laws
 pub mod Theorems

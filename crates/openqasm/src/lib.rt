@@ -17,7 +17,7 @@ ghost use Rattle.text.specs.Text.{ascii, decimal, spaced};
 ghost use Rattle.text.specs.Writing.{Puts};
 ghost use mathlib.Core.Path.{_≡_};
 ghost use Rattle.openqasm.specs.Layout.{header, bitRegister, declaration, gateLine, registerName};
-ghost use Rattle.openqasm.specs.Laws.Lines.{letters, oneLine, twoLine};
+ghost use Rattle.openqasm.specs.Lines.{letters, oneLine, twoLine};
 
 // What an export or an import answers: how many bytes it wrote, or a refusal.
 pub enum Conversion {

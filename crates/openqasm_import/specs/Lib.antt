@@ -1,4 +1,5 @@
 pub mod Answers
 pub mod Meaning
+pub mod Buffers
 pub mod Laws
 pub mod Theorems

@@ -29,7 +29,7 @@ ghost use Rattle.openqasm_import.specs.Answers.{isAccepted, sameBytes, i
 ghost use Rattle.openqasm.specs.declared.Conversion.the-variants.{Refused};
 ghost use Rattle.refusals.specs.declared.Refusal.the-variants.{Run};
 ghost use Rattle.openqasm_import.specs.Meaning.{ImportMeans};
-ghost use Rattle.openqasm_import.specs.Laws.Answering.{AllLong};
+ghost use Rattle.openqasm_import.specs.Buffers.{AllLong};
 
 // The longest listing.
 pub const MOST_BYTES: usize = SIZES + ENTRY_BYTES * (MOST_LABELS + MOST_GATES) + 2 * MOST_OUTPUTS;

@@ -1,6 +1,6 @@
 -- What stands at a place of an OpenQASM text, read loosely: only the bytes that tell items apart and the digits count, for the
 -- importer compares the text with an export in the end. An item is a declaration of an input, a gate, or the name of an output.
-use Prim.Native.Nat.{ℕ, _+_, _-_, _*_, _≤_, _<_}
+use Prim.Native.Nat.{ℕ, _+_, _-_, _*_}
 use mathlib.Core.Bool.{Bool, _&&_, cond}
 use mathlib.Core.List.{List}
 use lib.Dec.{eqb, ltb}
@@ -91,10 +91,3 @@ itemOf kind s = cond (eqb (between kind) 0) (oneNumber kind s) (twoNumbers kind 
 unfoldable pub itemIn : List ℕ → Item
 itemIn s =
     cond (eqb (kindIn s) no-item) (record { kind = no-item; first = 0; second = 0; length = 0 }) (itemOf (kindIn s) s)
-
--- What holds of each item that is read from bytes.
-pub record Bounded (i : Item) : Type 0 where
-  pub kind-small : i .kind < 256
-  pub first-small : i .first < 4096
-  pub second-small : i .second < 4096
-  pub length-small : i .length ≤ 26

@@ -4,10 +4,6 @@ use Rattle.cabinet_answers.specs.Packed.{packedConversion}
 use borrow.Author.Needs.{needs}
 use Rattle.cabinet.proofs.gawipsol_export.Statement.{statement}
 use Rattle.cabinet.proofs.gawipsol_export.Tie as tie
-use Rattle.cabinet.proofs.gawipsol_export.Reads as reads
-use Rattle.cabinet.proofs.gawipsol_export.Lts as lts
-use Rattle.cabinet_answers.proofs.pack_conversion.Reads as pack-conversion-reads
-use Rattle.openqasm_export.proofs.export.Reads as export-reads
 
 export-requires : tie.Need-export-requires
 export-requires c κs = search needs

@@ -4,10 +4,6 @@ use Rattle.cabinet_answers.specs.Packed.{packedConversion}
 use borrow.Author.Needs.{needs}
 use Rattle.cabinet.proofs.gawipsol_import.Statement.{statement}
 use Rattle.cabinet.proofs.gawipsol_import.Tie as tie
-use Rattle.cabinet.proofs.gawipsol_import.Reads as reads
-use Rattle.cabinet.proofs.gawipsol_import.Lts as lts
-use Rattle.cabinet_answers.proofs.pack_conversion.Reads as pack-conversion-reads
-use Rattle.openqasm_import.proofs.import.Reads as import-reads
 
 import-requires : tie.Need-import-requires
 import-requires c κs = search needs

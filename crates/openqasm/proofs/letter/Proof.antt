@@ -1,12 +1,11 @@
+-- `openqasm::letter` meets its contract. Assumes nothing.
 use mathlib.Core.Path.{sym}
 use native.Mathlib.Omega.{arith}
 use lib.ListN.{List·getD-eq-default}
-use Rattle.openqasm.specs.Laws.Lines.{letters}
+use Rattle.openqasm.specs.Lines.{letters}
 use borrow.Author.Needs.{needs}
 use Rattle.openqasm.proofs.letter.Statement.{statement}
 use Rattle.openqasm.proofs.letter.Tie as tie
-use Rattle.openqasm.proofs.letter.Reads as reads
-use Rattle.openqasm.proofs.letter.Lts as lts
 
 array-read-result : tie.Need-array-read-result
 array-read-result c = search needs

@@ -1,11 +1,8 @@
+-- `openqasm::put_named` meets its contract. Assumes nothing.
 use Rattle.text.specs.Laws.Writing.{puts-both}
 use borrow.Author.Needs.{needs}
 use Rattle.openqasm.proofs.put_named.Statement.{statement}
 use Rattle.openqasm.proofs.put_named.Tie as tie
-use Rattle.openqasm.proofs.put_named.Reads as reads
-use Rattle.openqasm.proofs.put_named.Lts as lts
-use Rattle.text.proofs.put_bytes.Reads as put-bytes-reads
-use Rattle.text.proofs.put_decimal.Reads as put-decimal-reads
 
 put-bytes-requires : tie.Need-put-bytes-requires
 put-bytes-requires c κs = search needs

@@ -1,11 +1,8 @@
+-- `openqasm::write_bit_register` meets its contract. Assumes nothing.
 use Rattle.text.specs.Laws.Writing.{puts-both}
 use borrow.Author.Needs.{needs}
 use Rattle.openqasm.proofs.write_bit_register.Statement.{statement}
 use Rattle.openqasm.proofs.write_bit_register.Tie as tie
-use Rattle.openqasm.proofs.write_bit_register.Reads as reads
-use Rattle.openqasm.proofs.write_bit_register.Lts as lts
-use Rattle.openqasm.proofs.put_named.Reads as put-named-reads
-use Rattle.text.proofs.put_bytes.Reads as put-bytes-reads
 
 slice-aggregate-put-named : tie.Need-slice-aggregate-put-named
 slice-aggregate-put-named c = search needs

@@ -1,3 +1,4 @@
+-- `openqasm::write_declaration` meets its contract. Assumes nothing.
 use mathlib.Core.Path.{sym, ap}
 use mathlib.Core.Bool.{cond}
 use borrow.Author.Tests.{eq-eqb, ne-eqb}
@@ -6,11 +7,6 @@ use Rattle.openqasm.specs.Laws.Lines.{puts-qubit, puts-declared}
 use borrow.Author.Needs.{needs}
 use Rattle.openqasm.proofs.write_declaration.Statement.{statement}
 use Rattle.openqasm.proofs.write_declaration.Tie as tie
-use Rattle.openqasm.proofs.write_declaration.Reads as reads
-use Rattle.openqasm.proofs.write_declaration.Lts as lts
-use Rattle.openqasm.proofs.put_named.Reads as put-named-reads
-use Rattle.openqasm.proofs.write_bit_register.Reads as write-bit-register-reads
-use Rattle.text.proofs.put_bytes.Reads as put-bytes-reads
 
 write-bit-register-requires : tie.Need-write-bit-register-requires
 write-bit-register-requires c κs = search needs

@@ -1,19 +1,14 @@
+-- `openqasm::write_gate` meets its contract. Assumes nothing.
 use native.Mathlib.Omega.{arith}
 use mathlib.Core.Path.{sym, ap, _∙_}
 use mathlib.Core.List.{[], _∷_}
 use Rattle.text.specs.Laws.Writing.{puts-none, puts-same}
 use Rattle.openqasm.specs.Layout.{gateLine}
-use Rattle.openqasm.specs.Laws.Lines.{oneLine, gate-on-one, gate-cnot, gate-measured, no-gate}
+use Rattle.openqasm.specs.Lines.{oneLine}
+use Rattle.openqasm.specs.Laws.Lines.{gate-on-one, gate-cnot, gate-measured, no-gate}
 use borrow.Author.Needs.{needs}
 use Rattle.openqasm.proofs.write_gate.Statement.{statement}
 use Rattle.openqasm.proofs.write_gate.Tie as tie
-use Rattle.openqasm.proofs.write_gate.Reads as reads
-use Rattle.openqasm.proofs.write_gate.Lts as lts
-use Rattle.openqasm.proofs.letter.Reads as letter-reads
-use Rattle.openqasm.proofs.write_cnot.Reads as write-cnot-reads
-use Rattle.openqasm.proofs.write_measurement.Reads as write-measurement-reads
-use Rattle.openqasm.proofs.write_one.Reads as write-one-reads
-use Rattle.openqasm.proofs.write_under_bit.Reads as write-under-bit-reads
 
 letter-requires : tie.Need-letter-requires
 letter-requires c κs = search needs

@@ -1,10 +1,8 @@
+-- `openqasm::write_header` meets its contract. Assumes nothing.
 use Rattle.text.specs.Laws.Writing.{puts-both}
 use borrow.Author.Needs.{needs}
 use Rattle.openqasm.proofs.write_header.Statement.{statement}
 use Rattle.openqasm.proofs.write_header.Tie as tie
-use Rattle.openqasm.proofs.write_header.Reads as reads
-use Rattle.openqasm.proofs.write_header.Lts as lts
-use Rattle.text.proofs.put_bytes.Reads as put-bytes-reads
 
 slice-aggregate-put-bytes : tie.Need-slice-aggregate-put-bytes
 slice-aggregate-put-bytes c = search needs

@@ -1,11 +1,8 @@
+-- `openqasm::write_last` meets its contract. Assumes nothing.
 use Rattle.text.specs.Laws.Writing.{puts-both}
 use borrow.Author.Needs.{needs}
 use Rattle.openqasm.proofs.write_last.Statement.{statement}
 use Rattle.openqasm.proofs.write_last.Tie as tie
-use Rattle.openqasm.proofs.write_last.Reads as reads
-use Rattle.openqasm.proofs.write_last.Lts as lts
-use Rattle.text.proofs.put_bytes.Reads as put-bytes-reads
-use Rattle.text.proofs.put_decimal.Reads as put-decimal-reads
 
 put-decimal-requires : tie.Need-put-decimal-requires
 put-decimal-requires c κs = search needs

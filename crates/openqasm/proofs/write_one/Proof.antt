@@ -1,12 +1,8 @@
+-- `openqasm::write_one` meets its contract. Assumes nothing.
 use Rattle.text.specs.Laws.Writing.{puts-both}
 use borrow.Author.Needs.{needs}
 use Rattle.openqasm.proofs.write_one.Statement.{statement}
 use Rattle.openqasm.proofs.write_one.Tie as tie
-use Rattle.openqasm.proofs.write_one.Reads as reads
-use Rattle.openqasm.proofs.write_one.Lts as lts
-use Rattle.text.proofs.put_byte.Reads as put-byte-reads
-use Rattle.text.proofs.put_bytes.Reads as put-bytes-reads
-use Rattle.text.proofs.put_decimal.Reads as put-decimal-reads
 
 put-byte-requires : tie.Need-put-byte-requires
 put-byte-requires c κs = search needs

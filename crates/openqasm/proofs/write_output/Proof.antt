@@ -1,3 +1,4 @@
+-- `openqasm::write_output` meets its contract. Assumes nothing.
 use mathlib.Core.Path.{sym, ap, _∙_}
 use mathlib.Core.Bool.{cond}
 use mathlib.Core.List.{[], _∷_, append-nil}
@@ -8,9 +9,6 @@ use Rattle.openqasm.specs.Layout.{registerName}
 use borrow.Author.Needs.{needs}
 use Rattle.openqasm.proofs.write_output.Statement.{statement}
 use Rattle.openqasm.proofs.write_output.Tie as tie
-use Rattle.openqasm.proofs.write_output.Reads as reads
-use Rattle.openqasm.proofs.write_output.Lts as lts
-use Rattle.openqasm.proofs.put_named.Reads as put-named-reads
 
 slice-aggregate-put-named : tie.Need-slice-aggregate-put-named
 slice-aggregate-put-named c = search needs

@@ -1,3 +1,4 @@
+-- `openqasm::write_under_bit` meets its contract. Assumes nothing.
 use native.Mathlib.Omega.{arith}
 use mathlib.Core.Path.{_≡_, sym, _∙_, ap}
 use mathlib.Core.List.{[], _∷_}
@@ -8,11 +9,6 @@ use Rattle.openqasm.specs.Laws.Lines.{gate-bx, gate-bz, puts-two}
 use borrow.Author.Needs.{needs}
 use Rattle.openqasm.proofs.write_under_bit.Statement.{statement}
 use Rattle.openqasm.proofs.write_under_bit.Tie as tie
-use Rattle.openqasm.proofs.write_under_bit.Reads as reads
-use Rattle.openqasm.proofs.write_under_bit.Lts as lts
-use Rattle.openqasm.proofs.write_last.Reads as write-last-reads
-use Rattle.openqasm.proofs.write_test.Reads as write-test-reads
-use Rattle.text.proofs.put_bytes.Reads as put-bytes-reads
 
 write-test-requires : tie.Need-write-test-requires
 write-test-requires c κs = search needs

@@ -2,26 +2,15 @@
 use Prim.Native.Nat.{ℕ, zero, suc, _+_, _≤_, _<_}
 use native.Mathlib.Omega.{arith}
 use mathlib.Core.Path.{_≡_, refl, sym, _∙_, ap}
-use mathlib.Core.Bool.{true, false, cond}
 use mathlib.Core.List.{List, [], _∷_, _++_, append-assoc, append-nil}
 use lib.ListN.{getD}
 use Rattle.rules.specs.Types.{Wire, Qubit}
 use Rattle.listing.specs.Reading.{inputType}
-use Rattle.text.specs.Text.{ascii, decimal, spaced, joined}
+use Rattle.text.specs.Text.{ascii, decimal}
 use Rattle.text.specs.Writing.{Puts}
-use Rattle.text.specs.Laws.Writing.{puts-none, puts-both, puts-same}
+use Rattle.text.specs.Laws.Writing.{puts-both, puts-same}
+use Rattle.openqasm.specs.Lines.{letters, oneLine, twoLine}
 use Rattle.openqasm.specs.Layout.{bitRegister, declaration, gateLine}
-
--- The names of the gates on one qubit.
-abbrev pub letters : List ℕ
-letters = 104 ∷ 120 ∷ 122 ∷ 115 ∷ 116 ∷ []
-
--- A line with one register, and one with two.
-abbrev pub oneLine : ℕ → ℕ → List ℕ
-oneLine name r = joined ((name ∷ []) ∷ ascii " q" ∷ decimal r ∷ ascii "[0];\n" ∷ [])
-
-abbrev pub twoLine : List ℕ → ℕ → List ℕ → ℕ → List ℕ
-twoLine before r between s = joined (before ∷ decimal r ∷ between ∷ decimal s ∷ ascii "[0];\n" ∷ [])
 
 -- The lines of the gates.
 pub gate-on-one : (n r s : ℕ) → n < 5 → oneLine (getD letters n 0) r ≡ gateLine n (r ∷ s ∷ [])

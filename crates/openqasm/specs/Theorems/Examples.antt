@@ -1,7 +1,7 @@
 -- Texts by computation: of no wire, of a gate on one qubit, of a CNOT whose outputs are exchanged, and of a measured Qubit whose Bit
 -- decides over another.
 use mathlib.Core.Path.{_≡_, refl}
-use mathlib.Core.List.{List, [], _∷_}
+use mathlib.Core.List.{[], _∷_}
 use Rattle.rules.specs.Types.{Bit, Qubit}
 use Rattle.rules.specs.Terms.{_on_}
 use Rattle.text.specs.Text.{ascii, decimal}

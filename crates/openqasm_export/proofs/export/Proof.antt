@@ -1,12 +1,8 @@
-use mathlib.Core.Path.{_∙_}
+-- `openqasm_export::export` meets its contract. Assumes nothing.
 use Rattle.openqasm_export.specs.Laws.Answering.{short-answered, both-long, long-answered}
 use borrow.Author.Needs.{needs}
 use Rattle.openqasm_export.proofs.export.Statement.{statement}
 use Rattle.openqasm_export.proofs.export.Tie as tie
-use Rattle.openqasm_export.proofs.export.Reads as reads
-use Rattle.openqasm_export.proofs.export.Lts as lts
-use Rattle.openqasm_export.proofs.export_uncleared.Reads as export-uncleared-reads
-use Rattle.words.proofs.clear.Reads as clear-reads
 
 returns : tie.Need-returns
 returns c = let a = c .before .before .before .before .args in short-answered (a .listing .now) (a .out .now) (a .work .now) (c .if1 .taken)

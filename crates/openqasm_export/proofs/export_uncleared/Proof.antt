@@ -1,3 +1,4 @@
+-- `openqasm_export::export_uncleared` meets its contract. Assumes nothing.
 use Prim.Native.Nat.{ℕ, _≤_, _<_}
 use lib.ListN.{length, getD}
 use Rattle.listing_check.specs.Answers.{most-wires}
@@ -6,10 +7,6 @@ use Rattle.openqasm_export.specs.Laws.Answering.{core-answer, accepted-w
 use borrow.Author.Needs.{needs}
 use Rattle.openqasm_export.proofs.export_uncleared.Statement.{statement}
 use Rattle.openqasm_export.proofs.export_uncleared.Tie as tie
-use Rattle.openqasm_export.proofs.export_uncleared.Reads as reads
-use Rattle.openqasm_export.proofs.export_uncleared.Lts as lts
-use Rattle.listing_check.proofs.check_uncleared.Reads as check-uncleared-reads
-use Rattle.openqasm_export.proofs.write_text.Reads as write-text-reads
 
 check-uncleared-requires : tie.Need-check-uncleared-requires
 check-uncleared-requires c κs = search needs

@@ -1,3 +1,4 @@
+-- `openqasm_export::write_gates` meets its contract. Assumes nothing.
 use borrow.Author.Needs.{needs}
 use Prim.Native.Nat.{_+_, _-_, _/_, _≤_, _<_}
 use native.Mathlib.Omega.{arith}
@@ -14,16 +15,6 @@ use Rattle.openqasm_export.specs.Places.{placesOf, Begins, keptPlaces}
 use Rattle.openqasm_export.specs.Laws.Writing.{GatesWritten, gates-start, places-made, gate-next, gates-end}
 use Rattle.openqasm_export.proofs.write_gates.Statement.{statement}
 use Rattle.openqasm_export.proofs.write_gates.Tie as tie
-use Rattle.openqasm_export.proofs.write_gates.Reads as reads
-use Rattle.openqasm_export.proofs.write_gates.Lts as lts
-use Rattle.listing.proofs.gate_count.Reads as gate-count-reads
-use Rattle.listing.proofs.input_count.Reads as input-count-reads
-use Rattle.listing.proofs.kind_at.Reads as kind-at-reads
-use Rattle.listing.proofs.slots_from.Reads as slots-from-reads
-use Rattle.openqasm.proofs.write_gate.Reads as write-gate-reads
-use Rattle.openqasm_export.proofs.places.keep_places.Reads as keep-places-reads
-use Rattle.openqasm_export.proofs.places.place_at.Reads as place-at-reads
-use Rattle.rules.proofs.wires_in.Reads as wires-in-reads
 
 abbrev Inv-loop : tie.InvT-loop
 Inv-loop listing table₀ text₀ at inputs gates from₀ made₀ here₀ i₀ table text from made here i =

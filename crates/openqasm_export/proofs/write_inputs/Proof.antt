@@ -1,3 +1,4 @@
+-- `openqasm_export::write_inputs` meets its contract. Assumes nothing.
 use borrow.Author.Needs.{needs}
 use Prim.Native.Nat.{_+_, _-_, _*_, _≤_, _<_}
 use native.Mathlib.Omega.{arith}
@@ -13,13 +14,6 @@ use Rattle.openqasm_export.specs.Laws.Places.{begins-more}
 use Rattle.openqasm_export.specs.Laws.Writing.{InputsWritten, inputs-start, inputs-next, inputs-end}
 use Rattle.openqasm_export.proofs.write_inputs.Statement.{statement}
 use Rattle.openqasm_export.proofs.write_inputs.Tie as tie
-use Rattle.openqasm_export.proofs.write_inputs.Reads as reads
-use Rattle.openqasm_export.proofs.write_inputs.Lts as lts
-use Rattle.listing.proofs.input_count.Reads as input-count-reads
-use Rattle.listing.proofs.kind_at.Reads as kind-at-reads
-use Rattle.openqasm.proofs.write_declaration.Reads as write-declaration-reads
-use Rattle.openqasm_export.proofs.places.input_place.Reads as input-place-reads
-use Rattle.wire_table.proofs.make_wire.Reads as make-wire-reads
 
 abbrev Inv-loop : tie.InvT-loop
 Inv-loop listing table₀ text₀ at count here₀ i₀ table text here i =

@@ -1,3 +1,4 @@
+-- `openqasm_export::write_names` meets its contract. Assumes nothing.
 use borrow.Author.Needs.{needs}
 use Prim.Native.Nat.{_+_, _-_, _*_, _≤_, _<_}
 use native.Mathlib.Omega.{arith}
@@ -8,13 +9,6 @@ use Rattle.listing.specs.Reading.{outputCount}
 use Rattle.openqasm_export.specs.Laws.Writing.{OutputsWritten, outputs-start, outputs-next, outputs-end}
 use Rattle.openqasm_export.proofs.write_names.Statement.{statement}
 use Rattle.openqasm_export.proofs.write_names.Tie as tie
-use Rattle.openqasm_export.proofs.write_names.Reads as reads
-use Rattle.openqasm_export.proofs.write_names.Lts as lts
-use Rattle.listing.proofs.output_count.Reads as output-count-reads
-use Rattle.listing.proofs.outputs_from.Reads as outputs-from-reads
-use Rattle.openqasm.proofs.write_output.Reads as write-output-reads
-use Rattle.words.proofs.byte_at.Reads as byte-at-reads
-use Rattle.words.proofs.word_at.Reads as word-at-reads
 
 abbrev Inv-loop : tie.InvT-loop
 Inv-loop listing table text₀ at count from here₀ j₀ text here j =

@@ -1,12 +1,8 @@
+-- `openqasm_export::write_outputs` meets its contract. Assumes nothing.
 use Rattle.openqasm_export.specs.Laws.Writing.{puts-outputs}
 use borrow.Author.Needs.{needs}
 use Rattle.openqasm_export.proofs.write_outputs.Statement.{statement}
 use Rattle.openqasm_export.proofs.write_outputs.Tie as tie
-use Rattle.openqasm_export.proofs.write_outputs.Reads as reads
-use Rattle.openqasm_export.proofs.write_outputs.Lts as lts
-use Rattle.openqasm_export.proofs.write_names.Reads as write-names-reads
-use Rattle.text.proofs.put_byte.Reads as put-byte-reads
-use Rattle.text.proofs.put_bytes.Reads as put-bytes-reads
 
 slice-aggregate-put-bytes : tie.Need-slice-aggregate-put-bytes
 slice-aggregate-put-bytes c = search needs

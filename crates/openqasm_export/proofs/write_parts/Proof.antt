@@ -1,14 +1,9 @@
+-- `openqasm_export::write_parts` meets its contract. Assumes nothing.
 use Rattle.listing_check.specs.Laws.Wires.{whole-kept}
 use Rattle.openqasm_export.specs.Laws.Writing.{puts-text}
 use borrow.Author.Needs.{needs}
 use Rattle.openqasm_export.proofs.write_parts.Statement.{statement}
 use Rattle.openqasm_export.proofs.write_parts.Tie as tie
-use Rattle.openqasm_export.proofs.write_parts.Reads as reads
-use Rattle.openqasm_export.proofs.write_parts.Lts as lts
-use Rattle.openqasm.proofs.write_header.Reads as write-header-reads
-use Rattle.openqasm_export.proofs.write_gates.Reads as write-gates-reads
-use Rattle.openqasm_export.proofs.write_inputs.Reads as write-inputs-reads
-use Rattle.openqasm_export.proofs.write_outputs.Reads as write-outputs-reads
 
 write-header-requires : tie.Need-write-header-requires
 write-header-requires c κs = search needs

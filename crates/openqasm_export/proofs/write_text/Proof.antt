@@ -1,15 +1,10 @@
+-- `openqasm_export::write_text` meets its contract. Assumes nothing.
 use native.Mathlib.Omega.{arith}
 use lib.ListN.{length}
 use Rattle.openqasm_export.specs.Laws.Places.{begins-none}
 use borrow.Author.Needs.{needs}
 use Rattle.openqasm_export.proofs.write_text.Statement.{statement}
 use Rattle.openqasm_export.proofs.write_text.Tie as tie
-use Rattle.openqasm_export.proofs.write_text.Reads as reads
-use Rattle.openqasm_export.proofs.write_text.Lts as lts
-use Rattle.listing.proofs.gate_count.Reads as gate-count-reads
-use Rattle.listing.proofs.input_count.Reads as input-count-reads
-use Rattle.openqasm_export.proofs.write_parts.Reads as write-parts-reads
-use Rattle.words.proofs.clear.Reads as clear-reads
 
 returns : tie.Need-returns
 returns c = λ whole. absurd (omega (arith, whole .room, c .if1 .taken))

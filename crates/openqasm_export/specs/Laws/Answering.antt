@@ -1,7 +1,7 @@
 -- The answer of an export, with the buffers that were lent.
 use Prim.Native.Nat.{ℕ, _≤_, _<_}
 use native.Mathlib.Omega.{arith}
-use mathlib.Core.Path.{_≡_, refl, sym, _∙_, ap, ap₂, subst}
+use mathlib.Core.Path.{_≡_, refl, sym, _∙_, ap, ap₂}
 use mathlib.Core.Bool.{Bool, true, false, _||_, cond}
 use mathlib.Core.List.{List, [], _∷_, _++_}
 use lib.Dec.{ltb}
@@ -16,7 +16,7 @@ use Rattle.listing.specs.Reading.{inputCount, gateCount, inputsOf, gatesOf, out
 use Rattle.listing.specs.Laws.Decoding.{length-inputs, length-first}
 use Rattle.listing_check.specs.declared.ListingAnswer.{ListingAnswer}
 use Rattle.listing_check.specs.declared.ListingAnswer.the-variants.{Accepted, Refused as NotListed}
-use Rattle.listing_check.specs.Answers.{most-wires, listing-lengths, listingCheckOf, listingCheckAnswer}
+use Rattle.listing_check.specs.Answers.{most-wires, listingCheckOf, listingCheckAnswer}
 use Rattle.listing_check.specs.Meaning.{SoundListing, many-inputs, many-gates}
 use Rattle.listing_check.specs.Wires.{Whole}
 use Rattle.listing_check.specs.Laws.Judging.{at-most, Judged, sizes-wrong, entry-wrong, wires-wrong, all-right, listing-judged, sound-read}

@@ -10,17 +10,15 @@ use lib.ListN.{length, getD, set, take, replicate, length-append, length-set}
 use lib.Seq.{getD-set-same, getD-set-other}
 use borrow.Author.Tests.{eq-eqb, ne-eqb}
 use Rattle.rules.specs.Types.{Wire, Bit, Qubit, wireCode}
-use Rattle.rules.specs.Gates.{gateOutputs, wiresIn, wiresOut}
+use Rattle.rules.specs.Gates.{gateOutputs}
 use Rattle.rules.specs.GateCodes.{wiresCode}
-use Rattle.rules.specs.Terms.{Gate, _on_}
-use Rattle.rules.specs.Circuits.{outputs}
+use Rattle.rules.specs.Terms.{_on_}
 use Rattle.words.specs.Numbers.{wordAt, wordsAt}
-use Rattle.wire_table.specs.Laws.Table.{FirstOf, first-of, none-of}
+use Rattle.wire_table.specs.Laws.Table.{first-of, none-of}
 use Rattle.listing.specs.Laws.ReadBack.{wires-fit}
 use Rattle.listing_check.specs.Laws.Answering.{cleared-table}
-use Rattle.openqasm.specs.Layout.{gateLine, registersOf, registerName}
-use Rattle.openqasm_export.specs.Laws.Registers.{as-many, AllCounted, length-registers}
-use Rattle.openqasm_export.specs.Places.{placeBytes, placesOf, Begins, retyped, keptPlaces}
+use Rattle.openqasm_export.specs.Laws.Registers.{as-many}
+use Rattle.openqasm_export.specs.Places.{placeBytes, Begins, retyped}
 
 -- The code of a wire's type is below 2.
 code-below : (α : Wire) → wireCode α < 2

@@ -8,7 +8,7 @@ use lib.Dec.{eqb}
 use lib.ListN.{length, getD, take, length-append, length-map}
 use Rattle.rules.specs.Types.{Wire, Bit, Qubit, wireCode}
 use Rattle.rules.specs.Gates.{gateOutputs, wiresIn, wiresOut, nth}
-use Rattle.rules.specs.Terms.{Gate, _on_}
+use Rattle.rules.specs.Terms.{_on_}
 use Rattle.rules.specs.Circuits.{numbers, outputs}
 use Rattle.words.specs.Numbers.{wordAt, wordsAt}
 use Rattle.text.specs.Text.{ascii, spaced}
@@ -23,9 +23,9 @@ use Rattle.listing_check.specs.Laws.Wires.{next-input, one-more-gate}
 use Rattle.openqasm.specs.Layout.{declaration, declarations, statements, statementLine, gateLine, gateLines, registersOf}
 use Rattle.openqasm.specs.Layout.{header, registerName, outputName, outputLine, exportText, exportOf}
 use Rattle.openqasm_export.specs.Places.{placeBytes, placesOf, Begins, keptPlaces}
-use Rattle.openqasm_export.specs.Laws.Registers.{as-many, AllCounted, first-counted, length-numbers, length-registers}
+use Rattle.openqasm_export.specs.Laws.Registers.{as-many, first-counted, length-numbers, length-registers}
 use Rattle.openqasm_export.specs.Laws.Places.{place-register, place-type, places-append, length-places, two-at-most}
-use Rattle.openqasm_export.specs.Laws.Places.{begins-same, begins-more}
+use Rattle.openqasm_export.specs.Laws.Places.{begins-same}
 
 -- THE INPUTS
 

@@ -1,12 +1,10 @@
+-- `openqasm_import::accepts` meets its contract. Assumes nothing.
 use mathlib.Core.Path.{sym, _∙_, ap}
 use Rattle.openqasm_export.specs.Laws.Answering.{core-answer}
 use Rattle.openqasm_import.specs.Answers.{isAccepted}
 use borrow.Author.Needs.{needs}
 use Rattle.openqasm_import.proofs.accepts.Statement.{statement}
 use Rattle.openqasm_import.proofs.accepts.Tie as tie
-use Rattle.openqasm_import.proofs.accepts.Reads as reads
-use Rattle.openqasm_import.proofs.accepts.Lts as lts
-use Rattle.listing_check.proofs.check_uncleared.Reads as check-uncleared-reads
 
 check-uncleared-requires : tie.Need-check-uncleared-requires
 check-uncleared-requires c κs = search needs

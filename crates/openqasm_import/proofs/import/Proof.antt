@@ -1,3 +1,4 @@
+-- `openqasm_import::import` meets its contract. Assumes nothing.
 use mathlib.Core.Path.{_∙_, ap}
 use lib.ListN.{replicate}
 use Rattle.openqasm_import.specs.Theorems.Imports.{import-means}
@@ -5,11 +6,6 @@ use Rattle.openqasm_import.specs.Laws.Answering.{short-answered, all-lon
 use borrow.Author.Needs.{needs}
 use Rattle.openqasm_import.proofs.import.Statement.{statement}
 use Rattle.openqasm_import.proofs.import.Tie as tie
-use Rattle.openqasm_import.proofs.import.Reads as reads
-use Rattle.openqasm_import.proofs.import.Lts as lts
-use Rattle.openqasm_import.proofs.import_uncleared.Reads as import-uncleared-reads
-use Rattle.openqasm_import.proofs.refused.Reads as refused-reads
-use Rattle.words.proofs.clear.Reads as clear-reads
 
 refused-requires : tie.Need-refused-requires
 refused-requires c κs = search needs

@@ -1,3 +1,4 @@
+-- `openqasm_import::import_uncleared` meets its contract. Assumes nothing.
 use Prim.Native.Nat.{_≤_}
 use native.Mathlib.Omega.{arith}
 use mathlib.Core.Path.{_≡_, sym, _∙_, ap, subst}
@@ -16,14 +17,6 @@ use Rattle.openqasm_import.specs.Laws.Answering.{not-accepted-answered, 
 use borrow.Author.Needs.{needs}
 use Rattle.openqasm_import.proofs.import_uncleared.Statement.{statement}
 use Rattle.openqasm_import.proofs.import_uncleared.Tie as tie
-use Rattle.openqasm_import.proofs.import_uncleared.Reads as reads
-use Rattle.openqasm_import.proofs.import_uncleared.Lts as lts
-use Rattle.openqasm_export.proofs.write_text.Reads as write-text-reads
-use Rattle.openqasm_import.proofs.accepts.Reads as accepts-reads
-use Rattle.openqasm_import.proofs.refused.Reads as refused-reads
-use Rattle.openqasm_import.proofs.same_bytes.Reads as same-bytes-reads
-use Rattle.openqasm_parts.proofs.read_listing.Reads as read-listing-reads
-use Rattle.text.proofs.put_bytes.Reads as put-bytes-reads
 
 read-listing-requires : tie.Need-read-listing-requires
 read-listing-requires c κs = search needs

@@ -1,3 +1,4 @@
+-- `openqasm_import::same_bytes` meets its contract. Assumes nothing.
 use borrow.Author.Needs.{needs}
 use Prim.Native.Nat.{_-_, _≤_}
 use native.Mathlib.Omega.{arith}
@@ -6,8 +7,6 @@ use lib.ListN.{length}
 use Rattle.openqasm_import.specs.Laws.Comparing.{other-lengths, Comparing, compare-next, compare-end}
 use Rattle.openqasm_import.proofs.same_bytes.Statement.{statement}
 use Rattle.openqasm_import.proofs.same_bytes.Tie as tie
-use Rattle.openqasm_import.proofs.same_bytes.Reads as reads
-use Rattle.openqasm_import.proofs.same_bytes.Lts as lts
 
 abbrev Inv-loop : tie.InvT-loop
 Inv-loop text exported same₀ i₀ same i =

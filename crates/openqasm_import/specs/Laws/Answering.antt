@@ -1,14 +1,14 @@
 -- The answer of an import, with the buffers that were lent.
 use Prim.Native.Nat.{ℕ, _≤_}
 use native.Mathlib.Omega.{arith}
-use mathlib.Core.Path.{_≡_, refl, sym, _∙_, ap, ap₂, subst}
+use mathlib.Core.Path.{_≡_, refl, sym, _∙_, ap, ap₂}
 use mathlib.Core.Bool.{Bool, true, false, _&&_, _||_, cond}
-use mathlib.Core.List.{List, [], _∷_, _++_}
+use mathlib.Core.List.{List, [], _∷_}
 use mathlib.Core.Option.{none, some}
 use lib.Dec.{ltb}
 use lib.ListN.{length, take, length-take}
 use Rattle.lent.specs.Lent.{tooShort, zeroed}
-use Rattle.lent.specs.Laws.Lent.{AtLeast, all-least, short-left, long-left}
+use Rattle.lent.specs.Laws.Lent.{all-least, short-left, long-left}
 use Rattle.refusals.specs.declared.Refusal.the-variants.{Run}
 use Rattle.text.specs.Writing.{Puts}
 use Rattle.text.specs.Written.{Written}
@@ -26,15 +26,8 @@ use Rattle.openqasm_parts.specs.Reading.{partsRead, listingRead, slots-bytes}
 use Rattle.openqasm_parts.specs.Theorems.ReadBack.{parts-few}
 use Rattle.openqasm_import.specs.Answers.{isAccepted, sameBytes, importOf, import-lengths, importedAs, outAfter}
 use Rattle.openqasm_import.specs.Answers.{importAnswer, importBytes}
+use Rattle.openqasm_import.specs.Buffers.{AllLong}
 use Rattle.openqasm_import.specs.Theorems.Imports.{read-sound}
-
--- No buffer is shorter than its least length.
-pub record AllLong (out slots listing table exported : List ℕ) : Type 0 where
-  pub out-long : most-bytes ≤ length out
-  pub slots-long : slots-bytes ≤ length slots
-  pub listing-long : most-bytes ≤ length listing
-  pub table-long : most-wires ≤ length table
-  pub exported-long : most-text ≤ length exported
 
 -- These bytes stand at the start of a buffer, before a place.
 pub record Stands (xs buffer : List ℕ) (at : ℕ) : Type 0 where

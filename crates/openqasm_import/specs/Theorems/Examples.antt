@@ -1,2 +1,1 @@
 -- Imports.
-use mathlib.Core.Path.{_≡_, refl}

@@ -6,15 +6,12 @@ use mathlib.Core.Bool.{Bool, true, false, _&&_, cond}
 use mathlib.Core.List.{List}
 use mathlib.Core.Option.{Option, none, some}
 use lib.ListN.{length}
-use Rattle.rules.specs.Types.{Wire}
-use Rattle.rules.specs.Terms.{Gate}
 use Rattle.rules.specs.Sizes.{most-labels, most-gates}
 use Rattle.listing.specs.Listing.{listingBytes, most-outputs}
 use Rattle.listing.specs.Reading.{inputsOf, gatesOf, outputsOf}
 use Rattle.listing.specs.Laws.Decoding.{inputs-back, gates-back, outputs-back}
 use Rattle.wire_table.specs.WireRules.{GoesOnce}
 use Rattle.listing_check.specs.declared.ListingAnswer.{ListingAnswer}
-use Rattle.listing_check.specs.declared.ListingAnswer.the-variants.{Accepted}
 use Rattle.listing_check.specs.Answers.{listingCheckOf}
 use Rattle.listing_check.specs.Meaning.{SoundListing}
 use Rattle.listing_check.specs.Laws.Judging.{Judged, sizes-wrong, entry-wrong, wires-wrong, all-right, listing-judged}

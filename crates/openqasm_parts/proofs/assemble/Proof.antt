@@ -1,3 +1,4 @@
+-- `openqasm_parts::assemble` meets its contract. Assumes nothing.
 use Prim.Native.Nat.{_+_, _*_}
 use native.Mathlib.Omega.{arith}
 use lib.ListN.{length-take}

@@ -1,3 +1,4 @@
+-- `openqasm_parts::is_input` meets its contract. Assumes nothing.
 use mathlib.Core.Path.{_≡_, refl, sym, ap, subst}
 use mathlib.Core.Bool.{true, _||_}
 use lib.Dec.{eqb}

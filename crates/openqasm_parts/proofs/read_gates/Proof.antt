@@ -1,3 +1,4 @@
+-- `openqasm_parts::read_gates` meets its contract. Assumes nothing.
 use borrow.Author.Needs.{needs}
 use Prim.Native.Nat.{_-_, _≤_}
 use native.Mathlib.Omega.{arith}

@@ -1,3 +1,4 @@
+-- `openqasm_parts::read_listing` meets its contract. Assumes nothing.
 use native.Mathlib.Omega.{arith}
 use mathlib.Core.Path.{subst}
 use Rattle.text.specs.Written.{Written}

@@ -1,61 +1,217 @@
-use mathlib.Core.Path.{sym, ap, _∙_}
-use lib.ListN.{drop, drop-of-length-le}
-use Rattle.openqasm_reader.specs.Items.{kindOf, itemIn}
-use Rattle.openqasm_reader.specs.Laws.Items.{nothing-here, item-one, item-two}
+use native.Mathlib.Omega.{arith}
+use mathlib.Core.Path.{refl, sym, ap, _∙_}
+use mathlib.Core.Bool.{cond}
+use borrow.Author.Tests.{eq-eqb, ne-eqb}
+use Rattle.openqasm_reader.specs.Items.{kindOf, before, between, behind}
+use Rattle.openqasm_reader.specs.Laws.Items.{byte-here, kind-none, inside, no-item-here, item-one, item-two}
 use borrow.Author.Needs.{needs}
 use Rattle.openqasm_reader.proofs.item_at.Statement.{statement}
 use Rattle.openqasm_reader.proofs.item_at.Tie as tie
 
-returns : tie.Need-returns
-unfolding itemIn kindOf
-returns c =
-    let a = c .before .before .args in
-    (ap itemIn (sym (drop-of-length-le (a .text .now) {i = a .at} (c .if1 .taken))), search needs)
-
-kind-at-requires : tie.Need-kind-at-requires
-kind-at-requires c κs = search needs
-
-returns-2 : tie.Need-returns-2
-returns-2 c =
-    let a = c .before .before .before .before .args in
-    (nothing-here (drop (a .at) (a .text .now)) _ (c .before .kind-at .ensures .0) (c .if2 .taken), search needs)
-
-between-numbers-requires : tie.Need-between-numbers-requires
-between-numbers-requires c κs = search needs
+byte-at-requires : tie.Need-byte-at-requires
+byte-at-requires c κs = search needs
 
 one-number-requires : tie.Need-one-number-requires
-one-number-requires c κs = search needs
+unfolding before behind
+one-number-requires c κs =
+    let a = c .before .before .before .args in
+    let here = inside (a .text .now) (a .at) (omega (arith, c .before .byte-at .ensures, c .match .keys1)) in
+    (search needs, (refl, refl))
 
-returns-3 : tie.Need-returns-3
-returns-3 c =
-    let a = c .before .before .before .before .before .before .before .args in
-    let kind = c .before .before .before .before .kind-at .ensures .0 in
-    let some = c .before .before .before .if2 .left in
-    let between = c .before .before .between-numbers .ensures .0 in
-    let one = c .one-number .ensures in
-    (item-one (drop (a .at) (a .text .now)) _ _ kind some (sym between ∙ c .before .if3 .taken) (one .0), one .1)
+one-number-requires-2 : tie.Need-one-number-requires-2
+unfolding before behind
+one-number-requires-2 c κs =
+    let a = c .before .before .before .args in
+    let here = inside (a .text .now) (a .at) (omega (arith, c .before .byte-at .ensures, c .match .keys2)) in
+    (search needs, (refl, refl))
+
+one-number-requires-3 : tie.Need-one-number-requires-3
+unfolding before behind
+one-number-requires-3 c κs =
+    let a = c .before .before .before .args in
+    let here = inside (a .text .now) (a .at) (omega (arith, c .before .byte-at .ensures, c .match .keys3)) in
+    (search needs, (refl, refl))
+
+one-number-requires-4 : tie.Need-one-number-requires-4
+unfolding before behind
+one-number-requires-4 c κs =
+    let a = c .before .before .before .args in
+    let here = inside (a .text .now) (a .at) (omega (arith, c .before .byte-at .ensures, c .match .keys4)) in
+    (search needs, (refl, refl))
+
+one-number-requires-5 : tie.Need-one-number-requires-5
+unfolding before behind
+one-number-requires-5 c κs =
+    let a = c .before .before .before .args in
+    let here = inside (a .text .now) (a .at) (omega (arith, c .before .byte-at .ensures, c .match .keys5)) in
+    (search needs, (refl, refl))
+
+add-byte-at : tie.Need-add-byte-at
+add-byte-at c =
+    let a = c .before .before .before .args in
+    let here = inside (a .text .now) (a .at) (omega (arith, c .before .byte-at .ensures, c .match .keys6)) in
+    search needs
+
+byte-at-requires-2 : tie.Need-byte-at-requires-2
+byte-at-requires-2 c κs = search needs
+
+one-number-requires-6 : tie.Need-one-number-requires-6
+unfolding before behind
+one-number-requires-6 c κs =
+    let m = c .before .before in
+    let a = m .before .before .before .args in
+    let here = inside (a .text .now) (a .at) (omega (arith, m .before .byte-at .ensures, m .match .keys6)) in
+    (search needs, (refl, refl))
 
 two-numbers-requires : tie.Need-two-numbers-requires
-two-numbers-requires c κs = search needs
+unfolding before between behind
+two-numbers-requires c κs =
+    let m = c .before .before in
+    let a = m .before .before .before .args in
+    let here = inside (a .text .now) (a .at) (omega (arith, m .before .byte-at .ensures, m .match .keys6)) in
+    (search needs, (refl, refl, refl))
+
+two-numbers-requires-2 : tie.Need-two-numbers-requires-2
+unfolding before between behind
+two-numbers-requires-2 c κs =
+    let a = c .before .before .before .args in
+    let here = inside (a .text .now) (a .at) (omega (arith, c .before .byte-at .ensures, c .match .keys7)) in
+    (search needs, (refl, refl, refl))
+
+controlled-gate-requires : tie.Need-controlled-gate-requires
+controlled-gate-requires c κs =
+    let a = c .before .before .before .args in
+    let byte = c .before .byte-at .ensures in
+    let here = inside (a .text .now) (a .at) (omega (arith, byte, c .match .keys8)) in
+    (search needs, sym byte ∙ c .match .keys8)
+
+two-numbers-requires-3 : tie.Need-two-numbers-requires-3
+unfolding before between behind
+two-numbers-requires-3 c κs =
+    let a = c .before .before .before .args in
+    let here = inside (a .text .now) (a .at) (omega (arith, c .before .byte-at .ensures, c .match .keys9)) in
+    (search needs, (refl, refl, refl))
+
+one-number-requires-7 : tie.Need-one-number-requires-7
+unfolding before behind
+one-number-requires-7 c κs =
+    let a = c .before .before .before .args in
+    let here = inside (a .text .now) (a .at) (omega (arith, c .before .byte-at .ensures, c .match .keys10)) in
+    (search needs, (refl, refl))
+
+returns : tie.Need-returns
+unfolding kindOf between
+returns c =
+    let a = c .before .before .before .before .args in
+    let first = sym (c .before .match .keys1) ∙ c .before .before .byte-at .ensures in
+    item-one (a .text .now) (a .at) 104 0 first refl _ refl refl (c .one-number .ensures)
+
+returns-2 : tie.Need-returns-2
+unfolding kindOf between
+returns-2 c =
+    let a = c .before .before .before .before .args in
+    let first = sym (c .before .match .keys2) ∙ c .before .before .byte-at .ensures in
+    item-one (a .text .now) (a .at) 120 1 first refl _ refl refl (c .one-number2 .ensures)
+
+returns-3 : tie.Need-returns-3
+unfolding kindOf between
+returns-3 c =
+    let a = c .before .before .before .before .args in
+    let first = sym (c .before .match .keys3) ∙ c .before .before .byte-at .ensures in
+    item-one (a .text .now) (a .at) 122 2 first refl _ refl refl (c .one-number3 .ensures)
 
 returns-4 : tie.Need-returns-4
+unfolding kindOf between
 returns-4 c =
-    let a = c .before .before .before .before .before .before .before .args in
-    let kind = c .before .before .before .before .kind-at .ensures .0 in
-    let some = c .before .before .before .if2 .left in
-    let between = c .before .before .between-numbers .ensures .0 in
-    let two = c .two-numbers .ensures in
-    (item-two (drop (a .at) (a .text .now)) _ _ kind some (λ e. c .before .if3 .left (between ∙ e)) (two .0), two .1)
+    let a = c .before .before .before .before .args in
+    let first = sym (c .before .match .keys4) ∙ c .before .before .byte-at .ensures in
+    item-one (a .text .now) (a .at) 115 3 first refl _ refl refl (c .one-number4 .ensures)
+
+returns-5 : tie.Need-returns-5
+unfolding kindOf between
+returns-5 c =
+    let a = c .before .before .before .before .args in
+    let first = sym (c .before .match .keys5) ∙ c .before .before .byte-at .ensures in
+    item-one (a .text .now) (a .at) 116 4 first refl _ refl refl (c .one-number5 .ensures)
+
+returns-6 : tie.Need-returns-6
+unfolding kindOf between
+returns-6 c =
+    let a = c .before .before .before .before .before .before .args in
+    let first = sym (c .before .before .before .match .keys6) ∙ c .before .before .before .before .byte-at .ensures in
+    let second = byte-here (a .text .now) (a .at) 1 _ _ (c .before .before .byte-at2 .ensures) refl in
+    let test = eq-eqb _ 114 (sym second ∙ c .before .if1 .taken) in
+    item-one (a .text .now) (a .at) 99 128 first (ap (λ b. cond b 128 5) test) _ refl refl (c .one-number6 .ensures)
+
+returns-7 : tie.Need-returns-7
+unfolding kindOf between
+returns-7 c =
+    let a = c .before .before .before .before .before .before .args in
+    let first = sym (c .before .before .before .match .keys6) ∙ c .before .before .before .before .byte-at .ensures in
+    let second = byte-here (a .text .now) (a .at) 1 _ _ (c .before .before .byte-at2 .ensures) refl in
+    let test = ne-eqb _ 114 (λ e. c .before .if1 .left (second ∙ e)) in
+    item-two (a .text .now) (a .at) 99 5 first (ap (λ b. cond b 128 5) test) _ refl refl (c .two-numbers .ensures)
+
+returns-8 : tie.Need-returns-8
+unfolding kindOf between
+returns-8 c =
+    let a = c .before .before .before .before .args in
+    let first = sym (c .before .match .keys7) ∙ c .before .before .byte-at .ensures in
+    item-two (a .text .now) (a .at) 109 6 first refl _ refl refl (c .two-numbers2 .ensures)
+
+returns-9 : tie.Need-returns-9
+returns-9 c = c .controlled-gate .ensures
+
+returns-10 : tie.Need-returns-10
+unfolding kindOf between
+returns-10 c =
+    let a = c .before .before .before .before .args in
+    let first = sym (c .before .match .keys9) ∙ c .before .before .byte-at .ensures in
+    item-two (a .text .now) (a .at) 113 129 first refl _ refl refl (c .two-numbers3 .ensures)
+
+returns-11 : tie.Need-returns-11
+unfolding kindOf between
+returns-11 c =
+    let a = c .before .before .before .before .args in
+    let first = sym (c .before .match .keys10) ∙ c .before .before .byte-at .ensures in
+    item-one (a .text .now) (a .at) 32 130 first refl _ refl refl (c .one-number7 .ensures)
+
+returns-12 : tie.Need-returns-12
+returns-12 c =
+    let a = c .before .before .before .args in
+    let r = c .match .rest in
+    let none = kind-none _ _ _
+    (r .0 .0 .0 .0 .0 .0 .0 .0 .0 .1) (r .0 .0 .0 .0 .0 .0 .0 .0 .1) (r .0 .0 .0 .0 .0 .0 .0 .1) (r .0 .0 .0 .0 .0 .0 .1)
+    (r .0 .0 .0 .0 .0 .1) (r .0 .0 .0 .0 .1) (r .0 .0 .0 .1) (r .0 .0 .1) (r .0 .1) (r .1) in
+    (no-item-here (a .text .now) (a .at) _ 255 (c .before .byte-at .ensures) none refl, search needs)
 
 pub item-at-spec : {M : Type 1} → statement M
 item-at-spec =
     tie.close
     (tie.spec
-    returns
-    kind-at-requires
-    returns-2
-    between-numbers-requires
+    byte-at-requires
     one-number-requires
-    returns-3
+    one-number-requires-2
+    one-number-requires-3
+    one-number-requires-4
+    one-number-requires-5
+    add-byte-at
+    byte-at-requires-2
+    one-number-requires-6
     two-numbers-requires
-    returns-4)
+    two-numbers-requires-2
+    controlled-gate-requires
+    two-numbers-requires-3
+    one-number-requires-7
+    returns
+    returns-2
+    returns-3
+    returns-4
+    returns-5
+    returns-6
+    returns-7
+    returns-8
+    returns-9
+    returns-10
+    returns-11
+    returns-12)

@@ -1,5 +1,6 @@
 use native.Mathlib.Omega.{arith}
-use mathlib.Core.Bool.{true, false}
+use mathlib.Core.Path.{sym, ap}
+use mathlib.Core.Bool.{true, false, cond}
 use Rattle.openqasm_reader.specs.Laws.Items.{digit-behind, two-digits, one-digit}
 use borrow.Author.Needs.{needs}
 use Rattle.openqasm_reader.proofs.number_at.Statement.{statement}
@@ -23,8 +24,8 @@ byte-at-requires-2 c κs = search needs
 is-digit-requires : tie.Need-is-digit-requires
 is-digit-requires c κs = search needs
 
-mul-result : tie.Need-mul-result
-mul-result c = search needs
+mul-t8 : tie.Need-mul-t8
+mul-t8 c = search needs
 
 cast-saturating-sub-2 : tie.Need-cast-saturating-sub-2
 cast-saturating-sub-2 c = search needs
@@ -32,8 +33,8 @@ cast-saturating-sub-2 c = search needs
 saturating-sub-requires-2 : tie.Need-saturating-sub-requires-2
 saturating-sub-requires-2 c κs = search needs
 
-add-result : tie.Need-add-result
-add-result c = search needs
+add-t11 : tie.Need-add-t11
+add-t11 c = search needs
 
 returns : tie.Need-returns
 returns c =
@@ -42,8 +43,10 @@ returns c =
     let first = c .before .before .before .before .saturating-sub .ensures in
     let next = c .before .before .before .byte-at2 .ensures in
     let digit = digit-behind (a .text .now) (a .at) _ _ true next (c .before .before .is-digit .ensures) (c .before .if1 .taken) in
-    let second = c .saturating-sub2 .ensures in
-    (two-digits (a .text .now) (a .at) _ (omega arith) _ (omega arith) digit, omega arith)
+    let second = c .saturating-sub2 .ensures in (
+      two-digits (a .text .now) (a .at) _ (omega arith) _ (omega arith) digit,
+      (sym (ap (λ b. cond b 2 1) digit), (omega arith, omega arith)),
+    )
 
 returns-2 : tie.Need-returns-2
 returns-2 c =
@@ -51,8 +54,10 @@ returns-2 c =
     let byte = c .before .before .before .before .byte-at .ensures in
     let first = c .before .before .before .saturating-sub .ensures in
     let next = c .before .before .byte-at2 .ensures in
-    let digit = digit-behind (a .text .now) (a .at) _ _ false next (c .before .is-digit .ensures) (c .if1 .left) in
-    (one-digit (a .text .now) (a .at) _ (omega arith) digit, omega arith)
+    let digit = digit-behind (a .text .now) (a .at) _ _ false next (c .before .is-digit .ensures) (c .if1 .left) in (
+      one-digit (a .text .now) (a .at) _ (omega arith) digit,
+      (sym (ap (λ b. cond b 2 1) digit), (omega arith, omega arith)),
+    )
 
 pub number-at-spec : {M : Type 1} → statement M
 number-at-spec =
@@ -64,9 +69,9 @@ number-at-spec =
     add-byte-at
     byte-at-requires-2
     is-digit-requires
-    mul-result
+    mul-t8
     cast-saturating-sub-2
     saturating-sub-requires-2
-    add-result
+    add-t11
     returns
     returns-2)

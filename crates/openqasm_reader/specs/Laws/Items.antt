@@ -1,15 +1,16 @@
 -- Laws of specs/Items.
-use Prim.Native.Nat.{ℕ, _+_, _-_, _*_, _≤_}
+use Prim.Native.Nat.{ℕ, zero, suc, _+_, _-_, _*_, _<_}
 use native.Mathlib.Omega.{arith}
-use mathlib.Core.Path.{_≡_, refl, sym, _∙_, ap}
+use mathlib.Core.Path.{_≡_, sym, _∙_, ap}
 use mathlib.Core.Bool.{Bool, true, false, cond}
-use mathlib.Core.List.{List}
-use lib.Dec.{eqb, ltb}
-use lib.ListN.{getD, drop}
+use mathlib.Core.List.{List, [], _∷_}
+use lib.Dec.{eqb}
+use lib.ListN.{length, getD, drop}
 use lib.Seq.{getD-drop, drop-drop}
-use borrow.Author.Tests.{eqb-true, eq-eqb, ne-eqb}
-use Rattle.openqasm_reader.specs.Items.{isDigit, digitsIn, numberIn, kindOf, kindIn, before, between, behind}
+use borrow.Author.Tests.{ne-eqb}
+use Rattle.openqasm_reader.specs.Items.{isDigit, digitsIn, numberIn, kindOf, before, between, behind}
 use Rattle.openqasm_reader.specs.Items.{oneNumber, twoNumbers, itemOf, itemIn}
+use Rattle.openqasm_reader.specs.Bounds.{Bounded}
 use Rattle.openqasm_reader.specs.declared.Item.{Item}
 
 -- Is the byte behind a place a digit?
@@ -40,11 +41,7 @@ module _ (s : List ℕ) (at first : ℕ) (f : first ≡ getD s at 0 - 48) where
 pub byte-here : (s : List ℕ) (at i j byte : ℕ) → byte ≡ getD s j 0 → j ≡ at + i → byte ≡ getD (drop at s) i 0
 byte-here s at i j byte e h = e ∙ ap (λ k. getD s k 0) h ∙ sym (getD-drop at s i 0)
 
--- Only behind an `if` the gate's name counts.
-pub name-unread : (first second name name′ : ℕ) → (first ≡ 105 → ⊥) → kindOf first second name ≡ kindOf first second name′
-unfolding kindOf
-name-unread first second name name′ h = rw (ne-eqb first 105 h)
-
+-- A byte that begins no item.
 pub kind-none : (f s n : ℕ)
     → (f ≡ 104 → ⊥)
     → (f ≡ 120 → ⊥)
@@ -72,20 +69,20 @@ kind-none f s n h x z p t c m i q o =
       ne-eqb f 32 o,
     )
 
--- The kind of the item at a place.
-pub kind-here : (s : List ℕ) (at first second name digits : ℕ)
-    → first ≡ getD s at 0
-    → second ≡ getD s (at + 1) 0
+-- The name of a gate behind an `if`.
+pub name-here : (s : List ℕ) (at name digits : ℕ)
     → digits ≡ digitsIn (drop (at + 4) s)
     → name ≡ getD s (at + 9 + digits) 0
-    → kindOf first second name ≡ kindIn (drop at s)
-kind-here s at first second name digits f g d n =
+    → name ≡ getD (drop at s) (9 + digitsIn (drop 4 (drop at s))) 0
+name-here s at name digits d n =
     let d′ : digits ≡ digitsIn (drop 4 (drop at s)) = d ∙ ap digitsIn (sym (drop-drop 4 at s)) in
-    let f′ : first ≡ getD (drop at s) 0 0 = byte-here s at 0 at first f (omega arith) in
-    let g′ : second ≡ getD (drop at s) 1 0 = byte-here s at 1 (at + 1) second g refl in
-    let n′ : name ≡ getD (drop at s) (9 + digitsIn (drop 4 (drop at s))) 0 =
-    byte-here s at (9 + digitsIn (drop 4 (drop at s))) (at + 9 + digits) name n (omega arith) in
-    cc
+    byte-here s at (9 + digitsIn (drop 4 (drop at s))) (at + 9 + digits) name n (omega arith)
+
+-- A place where a byte other than 0 stands is inside the text.
+pub inside : (s : List ℕ) (at : ℕ) → 0 < getD s at 0 → at < length s
+inside [] at h = omega arith
+inside (x ∷ xs) zero h = omega arith
+inside (x ∷ xs) (suc at) h = let deeper = inside xs at h in omega arith
 
 -- An item with one number and one with two.
 pub one-here : (s : List ℕ) (at kind b n d e : ℕ)
@@ -113,49 +110,33 @@ two-here s at kind b g n d m c e hb hg hn hd hm hc he =
     let q : drop (d + g) (drop (at + b) s) ≡ drop (at + b + d + g) s = drop-drop (d + g) (at + b) s ∙ ap (λ k. drop k s) sum in
     rw (p, ← hb, ← hg, ← he, ← hd, ← hn, q, ← hm, ← hc)
 
--- The item at the start of a text, by its kind.
-abbrev pub nothing : Item
+-- The item at a place, by the kind that its first byte gives.
+abbrev kindBy : ℕ → List ℕ → ℕ
+kindBy byte s = kindOf byte (getD s 1 0) (getD s (9 + digitsIn (drop 4 s)) 0)
+
+abbrev nothing : Item
 nothing = record { kind = 255; first = 0; second = 0; length = 0 }
 
 abbrev itemBy : ℕ → List ℕ → Item
 itemBy kind s = cond (eqb kind 255) nothing (itemOf kind s)
 
-pub nothing-here : (s : List ℕ) (k : ℕ) → k ≡ kindIn s → k ≡ 255 → nothing ≡ itemIn s
-unfolding itemIn
-nothing-here s k e h = ap (λ n. itemBy n s) (sym h ∙ e)
-
-module _ (s : List ℕ) (k : ℕ) (i : Item) (e : k ≡ kindIn s) (h : k ≡ 255 → ⊥) where
-  something : i ≡ itemOf k s → i ≡ itemIn s
+module _ (s : List ℕ) (at byte kind : ℕ) (first : byte ≡ getD s at 0) (known : kindBy byte (drop at s) ≡ kind) where
+  by-kind : itemBy kind (drop at s) ≡ itemIn (drop at s)
   unfolding itemIn
-  something d = d ∙ ap (λ t. cond t nothing (itemOf k s)) (sym (ne-eqb k 255 h)) ∙ ap (λ n. itemBy n s) e
+  by-kind =
+      let here = byte-here s at 0 at byte first (omega arith) in
+      ap (λ k. itemBy k (drop at s)) (sym known ∙ ap (λ b. kindBy b (drop at s)) here)
 
-  pub item-one : between k ≡ 0 → i ≡ oneNumber k s → i ≡ itemIn s
-  item-one b d = something (d ∙ ap (λ t. cond t (oneNumber k s) (twoNumbers k s)) (sym (eq-eqb (between k) 0 b)))
+  pub no-item-here : kind ≡ 255 → nothing ≡ itemIn (drop at s)
+  no-item-here none = ap (λ k. itemBy k (drop at s)) (sym none) ∙ by-kind
 
-  pub item-two : (between k ≡ 0 → ⊥) → i ≡ twoNumbers k s → i ≡ itemIn s
-  item-two b d = something (d ∙ ap (λ t. cond t (oneNumber k s) (twoNumbers k s)) (sym (ne-eqb (between k) 0 b)))
+  module _ (i : Item) (some : eqb kind 255 ≡ false) where
+    pub item-one : eqb (between kind) 0 ≡ true
+        → (i ≡ oneNumber kind (drop at s)) × Bounded i
+        → (i ≡ itemIn (drop at s)) × Bounded i
+    item-one one r = (r .0 ∙ sym (simp (some, one)) ∙ by-kind, r .1)
 
--- How far an item reaches.
-first-small : (a c d : Bool) → cond a 3 (cond c 4 (cond d 2 6)) ≤ 6
-first-small true c d = omega arith
-first-small false true d = omega arith
-first-small false false true = omega arith
-first-small false false false = omega arith
-
-second-small : (a b c d : Bool) → cond a 0 (cond b 5 (cond c 8 (cond d 11 0))) ≤ 11
-second-small true b c d = omega arith
-second-small false true c d = omega arith
-second-small false false true d = omega arith
-second-small false false false true = omega arith
-second-small false false false false = omega arith
-
-pub reach : (k : ℕ) → before k + between k ≤ 17
-unfolding before between
-reach k = of (eqb k 6) refl
-  where
-    of : (t : Bool) → eqb k 6 ≡ t → before k + between k ≤ 17
-    of true e = rw (eqb-true k 6 e) (omega arith)
-    of false e =
-        let b : before k ≤ 6 = rw e (first-small (ltb k 5) (ltb k 9) (eqb k 130)) in
-        let g : between k ≤ 11 = second-small (ltb k 5) (eqb k 5) (ltb k 9) (eqb k 129) in
-        omega arith
+    pub item-two : eqb (between kind) 0 ≡ false
+        → (i ≡ twoNumbers kind (drop at s)) × Bounded i
+        → (i ≡ itemIn (drop at s)) × Bounded i
+    item-two two r = (r .0 ∙ sym (simp (some, two)) ∙ by-kind, r .1)

@@ -1,3 +1,4 @@
+-- `text::put_bytes` meets its contract. Assumes nothing.
 use borrow.Author.Needs.{needs}
 use Prim.Native.Nat.{_+_, _-_, _≤_, _<_}
 use native.Mathlib.Omega.{arith}
@@ -8,9 +9,6 @@ use Rattle.text.specs.Laws.Writing.{puts-none, puts-byte}
 use Rattle.text.specs.Laws.Words.{puts-next, puts-all}
 use Rattle.text.proofs.put_bytes.Statement.{statement}
 use Rattle.text.proofs.put_bytes.Tie as tie
-use Rattle.text.proofs.put_bytes.Reads as reads
-use Rattle.text.proofs.put_bytes.Lts as lts
-use Rattle.text.proofs.put_some.Reads as put-some-reads
 
 abbrev Inv-loop : tie.InvT-loop
 Inv-loop text₀ at bytes i₀ text i =

@@ -1,3 +1,4 @@
+-- `openqasm_export::places::input_place` meets its contract. Assumes nothing.
 use native.Mathlib.Omega.{arith}
 use mathlib.Core.Path.{_≡_, sym, _∙_, ap}
 use mathlib.Core.Bool.{cond}
@@ -7,8 +8,6 @@ use Rattle.rules.specs.Types.{Bit, Qubit, wireCode}
 use borrow.Author.Needs.{needs}
 use Rattle.openqasm_export.proofs.places.input_place.Statement.{statement}
 use Rattle.openqasm_export.proofs.places.input_place.Tie as tie
-use Rattle.openqasm_export.proofs.places.input_place.Reads as reads
-use Rattle.openqasm_export.proofs.places.input_place.Lts as lts
 
 mul-result : tie.Need-mul-result
 mul-result c = search needs

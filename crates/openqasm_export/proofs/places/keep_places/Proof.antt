@@ -1,8 +1,9 @@
+-- `openqasm_export::places::keep_places` meets its contract. Assumes nothing.
 use native.Mathlib.Omega.{arith}
-use mathlib.Core.Path.{_≡_, sym, _∙_, ap, ap₂, subst}
+use mathlib.Core.Path.{sym, _∙_, ap, subst}
 use mathlib.Core.List.{_++_}
-use lib.ListN.{length, set}
-use Prim.Native.Nat.{_+_, _*_, _/_, _%_}
+use lib.ListN.{set}
+use Prim.Native.Nat.{_+_}
 use Rattle.rules.specs.Gates.{gateOutputs, wiresOut}
 use Rattle.rules.specs.GateCodes.{madeCode}
 use Rattle.openqasm_export.specs.Places.{Begins, keptPlaces}
@@ -10,11 +11,6 @@ use Rattle.openqasm_export.specs.Laws.Places.{kept-none, kept-one, kept-
 use borrow.Author.Needs.{needs}
 use Rattle.openqasm_export.proofs.places.keep_places.Statement.{statement}
 use Rattle.openqasm_export.proofs.places.keep_places.Tie as tie
-use Rattle.openqasm_export.proofs.places.keep_places.Reads as reads
-use Rattle.openqasm_export.proofs.places.keep_places.Lts as lts
-use Rattle.openqasm_export.proofs.places.retype.Reads as retype-reads
-use Rattle.rules.proofs.made_code.Reads as made-code-reads
-use Rattle.wire_table.proofs.make_wire.Reads as make-wire-reads
 
 made-code-requires : tie.Need-made-code-requires
 made-code-requires c κs = search needs

@@ -1,3 +1,4 @@
+-- `openqasm_export::places::place_at` meets its contract. Assumes nothing.
 use native.Mathlib.Omega.{arith}
 use mathlib.Core.Path.{sym, _∙_, ap}
 use lib.ListN.{getD}
@@ -5,10 +6,6 @@ use Rattle.openqasm_export.specs.Laws.Places.{word-mapped, none-mapped}
 use borrow.Author.Needs.{needs}
 use Rattle.openqasm_export.proofs.places.place_at.Statement.{statement}
 use Rattle.openqasm_export.proofs.places.place_at.Tie as tie
-use Rattle.openqasm_export.proofs.places.place_at.Reads as reads
-use Rattle.openqasm_export.proofs.places.place_at.Lts as lts
-use Rattle.words.proofs.byte_at.Reads as byte-at-reads
-use Rattle.words.proofs.word_at.Reads as word-at-reads
 
 mul-word-at : tie.Need-mul-word-at
 mul-word-at c = search needs

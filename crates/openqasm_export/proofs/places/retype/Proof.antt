@@ -1,3 +1,4 @@
+-- `openqasm_export::places::retype` meets its contract. Assumes nothing.
 use native.Mathlib.Omega.{arith}
 use mathlib.Core.Path.{_≡_, sym, _∙_, ap}
 use mathlib.Core.Bool.{cond}
@@ -6,8 +7,6 @@ use borrow.Author.Tests.{eq-eqb, ne-eqb}
 use borrow.Author.Needs.{needs}
 use Rattle.openqasm_export.proofs.places.retype.Statement.{statement}
 use Rattle.openqasm_export.proofs.places.retype.Tie as tie
-use Rattle.openqasm_export.proofs.places.retype.Reads as reads
-use Rattle.openqasm_export.proofs.places.retype.Lts as lts
 
 mul-result : tie.Need-mul-result
 mul-result c = search needs

@@ -1,3 +1,4 @@
+-- `openqasm_parts::entries::put_entry` meets its contract. Assumes nothing.
 use Rattle.openqasm_parts.specs.Laws.Stored.{puts-add, puts-words}
 use borrow.Author.Needs.{needs}
 use Rattle.openqasm_parts.proofs.entries.put_entry.Statement.{statement}

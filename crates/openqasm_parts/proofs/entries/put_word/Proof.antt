@@ -1,3 +1,4 @@
+-- `openqasm_parts::entries::put_word` meets its contract. Assumes nothing.
 use Rattle.text.specs.Laws.Writing.{puts-both}
 use borrow.Author.Needs.{needs}
 use Rattle.openqasm_parts.proofs.entries.put_word.Statement.{statement}

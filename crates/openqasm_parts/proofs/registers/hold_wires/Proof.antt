@@ -1,3 +1,4 @@
+-- `openqasm_parts::registers::hold_wires` meets its contract. Assumes nothing.
 use native.Mathlib.Omega.{arith}
 use Rattle.openqasm_parts.specs.Laws.Registers.{holds-one, holds-two}
 use borrow.Author.Needs.{needs}

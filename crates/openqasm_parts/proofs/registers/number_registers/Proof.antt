@@ -1,3 +1,4 @@
+-- `openqasm_parts::registers::number_registers` meets its contract. Assumes nothing.
 use borrow.Author.Needs.{needs}
 use Prim.Native.Nat.{_+_, _-_, _≤_}
 use native.Mathlib.Omega.{arith}

@@ -1,3 +1,4 @@
+-- `openqasm_parts::registers::second_wire_in` meets its contract. Assumes nothing.
 use native.Mathlib.Omega.{arith}
 use mathlib.Core.Path.{_∙_}
 use Rattle.openqasm_parts.specs.Laws.Registers.{no-second, second-is}

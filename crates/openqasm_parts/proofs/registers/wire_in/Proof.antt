@@ -1,3 +1,4 @@
+-- `openqasm_parts::registers::wire_in` meets its contract. Assumes nothing.
 use Prim.Native.Nat.{_<_}
 use native.Mathlib.Omega.{arith}
 use mathlib.Core.Path.{sym, subst}
