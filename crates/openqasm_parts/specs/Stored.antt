@@ -5,7 +5,7 @@ use mathlib.Core.Bool.{cond}
 use mathlib.Core.List.{List, [], _∷_, _++_, flatMap}
 use lib.Dec.{ltb}
 use lib.ListN.{length, set, take, drop}
-use Rattle.rules.specs.Gates.{isGate, wiresIn}
+use Rattle.rules.specs.Gates.{isGate}
 use Rattle.words.specs.Words.{words}
 use Rattle.words.specs.Regions.{Stands}
 use Rattle.listing.specs.Listing.{bytesOf, kinds as kindBytes, entry-slots, allSlots}
@@ -30,12 +30,12 @@ pub record Adds (m : List ℕ) (at : ℕ) (ys m′ : List ℕ) : Type 0 where
       → length xs + length ys ≤ length m
       → Stands m′ 0 (xs ++ ys)
 
--- What the registers hold when a gate's wires have been made, numbered from the next one on: the second one only where the gate
--- takes two.
+-- What the registers hold when a gate's wires, so many of them, have been made, numbered from the next one on: the second one only
+-- where there are two.
 abbrev pub heldAfter : List ℕ → ℕ → ℕ → ℕ → ℕ → List ℕ
-heldAfter held gate first second made =
+heldAfter held count first second made =
     let one = set held first made in
-    cond (ltb 1 (wiresIn gate)) (set one second (suc made)) one
+    cond (ltb 1 count) (set one second (suc made)) one
 
 -- The bytes of a listing: the sizes, the kinds that stand from the start of one buffer, and the slots and outputs of another.
 abbrev pub assembled : ℕ → ℕ → ℕ → List ℕ → List ℕ → List ℕ

@@ -21,6 +21,7 @@ use rules::is_gate;
 use rules::sizes::MOST_GATES;
 use rules::sizes::MOST_LABELS;
 use rules::slots::NO_WIRE;
+use rules::wires_in;
 use text::put_bytes;
 ghost use Prim.Native.Nat.{ℕ, _≤_};
 ghost use mathlib.Core.Path.{_≡_};
@@ -104,10 +105,11 @@ fn read_gates(
         if !is_gate(item.kind) {
             return Progress { count: i, at: here };
         }
+        let count = wires_in(item.kind);
         let first = wire_in(held, item.first);
-        let second = second_wire_in(held, item.kind, item.second);
+        let second = second_wire_in(held, count, item.second);
         put_entry(kinds, slots, inputs + i, item.kind, first, second);
-        made = hold_wires(held, item.kind, item.first, item.second, made);
+        made = hold_wires(held, count, item.first, item.second, made);
         here += item.length;
         i += 1;
     }

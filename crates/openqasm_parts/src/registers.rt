@@ -1,15 +1,13 @@
 // The registers: a word for each, the wire that it holds.
 use rules::sizes::MOST_LABELS;
 use rules::slots::NO_WIRE;
-use rules::wires_in;
 use words::get;
 use words::put;
 ghost use Prim.Native.Nat.{_+_, _*_, _≤_, _<_};
 ghost use mathlib.Core.Path.{_≡_};
-ghost use mathlib.Core.Bool.{true, cond};
+ghost use mathlib.Core.Bool.{cond};
 ghost use lib.Dec.{ltb};
 ghost use lib.ListN.{length, getD};
-ghost use Rattle.rules.specs.Gates.{isGate, wiresIn};
 ghost use Rattle.rules.specs.Circuits.{numbers};
 ghost use Rattle.rules.specs.Sizes.{most-labels};
 ghost use Rattle.rules.specs.Slots.{no-wire};
@@ -36,31 +34,31 @@ pub(crate) fn wire_in(held: &[u8], register: usize) -> usize
     get(held, register)
 }
 
-// The wire that the second register of a gate holds; NO_WIRE where the gate takes one wire only.
-pub(crate) fn second_wire_in(held: &[u8], gate: usize, register: usize) -> usize
-    ensures { λ r. ⌜ r ≡ cond (ltb (wiresIn gate) 2) no-wire (getD (words (now (held .entry))) register 0) ⌝ }
+// The wire that the second register of a gate holds; NO_WIRE where the gate takes fewer than two.
+pub(crate) fn second_wire_in(held: &[u8], count: usize, register: usize) -> usize
+    ensures { λ r. ⌜ r ≡ cond (ltb count 2) no-wire (getD (words (now (held .entry))) register 0) ⌝ }
     ensures { λ r. ⌜ r < 65536 ⌝ }
 {
-    if wires_in(gate) < 2 {
+    if count < 2 {
         return NO_WIRE;
     }
     wire_in(held, register)
 }
 
-// The registers of a gate hold the wires that it makes, from this number on; answers the number of the next wire.
+// The registers of a gate hold the wires that it makes, so many, from this number on; answers the number of the next wire.
 pub(crate) fn hold_wires(
     held: &mut [u8],
-    gate: usize,
+    count: usize,
     first: usize,
     second: usize,
     made: usize,
 ) -> usize
-    requires { ⌜ (isGate gate ≡ true) × (made + 2 ≤ 65536) ⌝ }
-    ensures { λ r. ⌜ r ≡ made + wiresIn gate ⌝ }
-    ensures { λ r. ⌜ words (now (held .exit)) ≡ heldAfter (words (now (held .entry))) gate first second made ⌝ }
+    requires { ⌜ (1 ≤ count) × (count ≤ 2) × (made + 2 ≤ 65536) ⌝ }
+    ensures { λ r. ⌜ r ≡ made + count ⌝ }
+    ensures { λ r. ⌜ words (now (held .exit)) ≡ heldAfter (words (now (held .entry))) count first second made ⌝ }
 {
     put(held, first, made);
-    if wires_in(gate) < 2 {
+    if count < 2 {
         return made + 1;
     }
     put(held, second, made + 1);

@@ -7,6 +7,7 @@ use lib.ListN.{length}
 use borrow.Author.Tests.{not-true, not-false}
 use Rattle.rules.specs.Sizes.{most-labels, most-gates}
 use Rattle.openqasm_parts.specs.Stored.{GatesRead}
+use Rattle.openqasm_parts.specs.Laws.Registers.{one-or-two}
 use Rattle.openqasm_parts.specs.Laws.Stored.{gates-start, gate-next, gates-stop}
 use Rattle.openqasm_parts.proofs.read_gates.Statement.{statement}
 use Rattle.openqasm_parts.proofs.read_gates.Tie as tie
@@ -49,6 +50,9 @@ returns c = (
       (c .before .is-gate .ensures) ∙ not-true (c .before .is-gate .result) (c .if1 .taken)),
 )
 
+wires-in-requires : tie.Need-wires-in-requires Inv-loop μ-loop
+wires-in-requires c κs = search needs
+
 wire-in-requires : tie.Need-wire-in-requires Inv-loop μ-loop
 wire-in-requires c κs = search needs
 
@@ -59,119 +63,87 @@ add-put-entry : tie.Need-add-put-entry Inv-loop μ-loop
 add-put-entry c =
     search (
       needs,
-      c .before .before .before .before .before .before .before .before .before .loop-test .taken,
-      c .before .before .before .before .before .before .before .before .before .before .loop .inv .4 .few-inputs,
+      c .before .before .before .before .before .before .before .before .before .before .loop-test .taken,
+      c .before .before .before .before .before .before .before .before .before .before .before .loop .inv .4 .few-inputs,
     )
 
 put-entry-requires : tie.Need-put-entry-requires Inv-loop μ-loop
 put-entry-requires c κs = (
   omega (
     arith,
-    c .before .before .before .before .before .before .before .before .before .loop-test .taken,
-    c .before .before .before .before .before .before .before .before .before .before .loop .inv .4 .few-inputs,
+    c .before .before .before .before .before .before .before .before .before .before .loop-test .taken,
+    c .before .before .before .before .before .before .before .before .before .before .before .loop .inv .4 .few-inputs,
   ),
-  c .before .before .before .before .before .before .before .before .read-item .ensures .1 .kind-small,
+  c .before .before .before .before .before .before .before .before .before .read-item .ensures .1 .kind-small,
   c .before .before .before .before .wire-in .ensures .1,
   c .before .before .second-wire-in .ensures .1,
 )
 
 hold-wires-requires : tie.Need-hold-wires-requires Inv-loop μ-loop
-hold-wires-requires c κs = (
-  sym
-      (c .before .before .before .before .before .before .before .before .before .before .before .before .before .is-gate
-      .ensures) ∙ not-false
-      (c .before .before .before .before .before .before .before .before .before .before .before .before .before .is-gate .result)
-      (c .before .before .before .before .before .before .before .before .before .before .before .before .if1 .left),
-  omega (
-    arith,
-    c .before .before .before .before .before .before .before .before .before .before .before .before .before .before .before
-        .loop-test .taken,
-    c .before .before .before .before .before .before .before .before .before .before .before .before .before .before .before
-        .before .loop .inv .4 .few-inputs,
-    c .before .before .before .before .before .before .before .before .before .before .before .before .before .before .before
-        .before .loop .inv .4 .few-made,
-  ),
-)
+hold-wires-requires c κs =
+    let u = c .before .before .before .before .before .before .before .before .before .before .before .before in
+    let counted = u .wires-in .ensures in
+    let t = u .before in
+    let s = t .before .before .before .before .loop .inv .4 in
+    let known = sym (t .before .is-gate .ensures) ∙ not-false (t .before .is-gate .result) (t .if1 .left) in
+    let takes = one-or-two (t .before .before .read-item .result .kind) known in (
+      omega (arith, counted, takes .0),
+      omega (arith, counted, takes .1),
+      omega (arith, t .before .before .before .loop-test .taken, s .few-inputs, s .few-made),
+    )
 
 add-here : tie.Need-add-here Inv-loop μ-loop
 add-here c =
+    let u = c .before .before .before .before .before .before .before .before .before in
+    let t = u .before .before .before .before .before .before .before .before in
+    let s = t .before .before .before .before .loop .inv .4 in
     search (
       needs,
-      c .before .before .before .before .before .before .before .before .before .before .before .before .before .before .before
-          .before .before .before .before .before .loop .inv .4 .near,
-      c .before .before .before .before .before .before .before .before .before .before .before .before .before .before .before
-          .before .before .before .before .before .loop .inv .4 .few-inputs,
-      c .before .before .before .before .before .before .before .before .before .before .before .before .before .before .before
-          .before .before .before .read-item .ensures .1 .length-small,
-      c .before .before .before .before .before .before .before .before .before .before .before .before .before .before .before
-          .before .before .before .before .loop-test .taken,
+      s .near,
+      s .few-inputs,
+      t .before .before .read-item .ensures .1 .length-small,
+      t .before .before .before .loop-test .taken,
     )
 
 add-i : tie.Need-add-i Inv-loop μ-loop
 add-i c =
-    search (
-      needs,
-      c .before .before .before .before .before .before .before .before .before .before .before .before .before .before .before
-          .before .before .before .before .loop-test .taken,
-    )
+    let u = c .before .before .before .before .before .before .before .before .before in
+    let t = u .before .before .before .before .before .before .before .before in
+    search (needs, t .before .before .before .loop-test .taken)
 
 loop-less : tie.Need-loop-less Inv-loop μ-loop
 loop-less c =
-    omega (
-      arith,
-      c .before .before .before .before .before .before .before .before .before .before .before .before .before .before .before
-          .before .before .before .before .loop-test .taken,
-    )
+    let u = c .before .before .before .before .before .before .before .before .before in
+    let t = u .before .before .before .before .before .before .before .before in
+    omega (arith, t .before .before .before .loop-test .taken)
 
 loop-again : tie.Need-loop-again Inv-loop μ-loop
 loop-again c =
-    let s =
-    c .before .before .before .before .before .before .before .before .before .before .before .before .before .before .before
-    .before .before .before .before .before .loop in
-    let r =
-    c .before .before .before .before .before .before .before .before .before .before .before .before .before .before .before
-    .before .before .before .read-item .ensures in
-    let below =
-    c .before .before .before .before .before .before .before .before .before .before .before .before .before .before .before
-    .before .before .before .before .loop-test .taken in
-    let few = s .inv .4 .few-inputs in (
+    let u = c .before .before .before .before .before .before .before .before .before in
+    let t = u .before .before .before .before .before .before .before .before in
+    let s = t .before .before .before .before .loop in
+    let item = t .before .before .read-item .result in
+    let r = t .before .before .read-item .ensures in
+    let below = t .before .before .before .loop-test .taken in
+    let known = sym (t .before .is-gate .ensures) ∙ not-false (t .before .is-gate .result) (t .if1 .left) in
+    let few = s .inv .4 .few-inputs in
+    let p = t .before .before .before .before .before .before .before .before .before .pre in
+    let put = u .put-entry in
+    let h = c .before .before .before .hold-wires in (
       omega (arith, below),
-      c .before .before .before .hold-wires .kept .0 ∙ s .inv .1,
-      c .before .before .before .before .before .before .before .before .before .put-entry .kept .0 ∙ s .inv .2,
-      c .before .before .before .before .before .before .before .before .before .put-entry .kept .1 .0 ∙ s .inv .3,
-      gate-next
-          (c .before .before .before .before .before .before .before .before .before .before .before .before .before .before .before
-          .before .before .before .read-item .result) (s .inv .4) (omega (arith, below)) (r .0) (sym
-          (c .before .before .before .before .before .before .before .before .before .before .before .before .before .before .before
-          .before .before .is-gate .ensures) ∙ not-false
-          (c .before .before .before .before .before .before .before .before .before .before .before .before .before .before .before
-          .before .before .is-gate .result)
-          (c .before .before .before .before .before .before .before .before .before .before .before .before .before .before .before
-          .before .if1 .left)) (r .1 .length-small)
-          (omega (
-            arith,
-            below,
-            few,
-            s .inv .2,
-            c .before .before .before .before .before .before .before .before .before .before .before .before .before .before
-                .before .before .before .before .before .before .before .before .before .before .before .pre .0,
-          ))
-          (omega (
-            arith,
-            below,
-            few,
-            s .inv .3,
-            c .before .before .before .before .before .before .before .before .before .before .before .before .before .before
-                .before .before .before .before .before .before .before .before .before .before .before .pre .1,
-          ))
-          (c .before .before .before .before .before .before .before .before .before .before .before .before .before .before
-          .wire-in .ensures .0)
-          (c .before .before .before .before .before .before .before .before .before .before .before .before .second-wire-in
-          .ensures .0)
-          (c .before .before .before .before .before .before .before .before .before .put-entry .ensures .0)
-          (c .before .before .before .before .before .before .before .before .before .put-entry .ensures .1)
-          (c .before .before .before .hold-wires .ensures .0)
-          (c .before .before .before .hold-wires .ensures .1),
+      h .kept .0 ∙ s .inv .1,
+      put .kept .0 ∙ s .inv .2,
+      put .kept .1 .0 ∙ s .inv .3,
+      gate-next item (s .inv .4) (omega (arith, below)) (r .0) known (r .1 .length-small)
+          (omega (arith, below, few, s .inv .2, p .0))
+          (omega (arith, below, few, s .inv .3, p .1))
+          (u .before .before .before .before .before .before .before .wires-in .ensures)
+          (u .before .before .before .before .before .wire-in .ensures .0)
+          (u .before .before .before .second-wire-in .ensures .0)
+          (put .ensures .0)
+          (put .ensures .1)
+          (h .ensures .0)
+          (h .ensures .1),
     )
 
 same-length-4 : tie.Need-same-length-4 Inv-loop μ-loop
@@ -206,6 +178,7 @@ read-gates-spec =
     same-length-2
     same-length-3
     returns
+    wires-in-requires
     wire-in-requires
     second-wire-in-requires
     add-put-entry

@@ -61,42 +61,43 @@ registers-end first m most k is long all =
     ∙ ap (numbers 0) all
 
 -- A gate takes one wire or two.
-module _ (gate : ℕ) (known : isGate gate ≡ true) where
-  one-or-two : (1 ≤ wiresIn gate) × (wiresIn gate ≤ 2)
-  one-or-two = (takes-some gate (subst IsTrue (sym known) tt), wires-fit gate)
+pub one-or-two : (gate : ℕ) → isGate gate ≡ true → (1 ≤ wiresIn gate) × (wiresIn gate ≤ 2)
+one-or-two gate known = (takes-some gate (subst IsTrue (sym known) tt), wires-fit gate)
 
-  module _ (m : List ℕ) (first second made : ℕ) where
-    -- What it makes is held where what it takes was.
-    pub holds-one : (m′ : List ℕ)
-        → made < 65536
-        → wiresIn gate < 2
-        → m′ ≡ putWords 1 m first (made ∷ [])
-        → (made + 1 ≡ made + wiresIn gate) × (words m′ ≡ heldAfter (words m) gate first second made)
-    holds-one m′ small one put = (
-      omega (arith, one-or-two),
-      small-put m m′ first made small put
-          ∙ sym (ap (λ b. cond b (set (set (words m) first made) second (suc made)) (set (words m) first made))
-          (le-ltb 1 (wiresIn gate) (omega arith))),
-    )
+-- What a gate makes is held where what it takes was.
+module _ (count : ℕ) (m : List ℕ) (first second made : ℕ) where
+  pub holds-one : (m′ : List ℕ)
+      → made < 65536
+      → 1 ≤ count
+      → count < 2
+      → m′ ≡ putWords 1 m first (made ∷ [])
+      → (made + 1 ≡ made + count) × (words m′ ≡ heldAfter (words m) count first second made)
+  holds-one m′ small some one put = (
+    omega arith,
+    small-put m m′ first made small put
+        ∙ sym (ap (λ b. cond b (set (set (words m) first made) second (suc made)) (set (words m) first made))
+        (le-ltb 1 count (omega arith))),
+  )
 
-    pub holds-two : (m′ m″ : List ℕ)
-        → made + 1 < 65536
-        → 2 ≤ wiresIn gate
-        → m′ ≡ putWords 1 m first (made ∷ [])
-        → m″ ≡ putWords 1 m′ second ((made + 1) ∷ [])
-        → (made + 2 ≡ made + wiresIn gate) × (words m″ ≡ heldAfter (words m) gate first second made)
-    holds-two m′ m″ small two put put′ =
-        let next : made + 1 ≡ suc made = omega arith in (
-          omega (arith, one-or-two),
-          small-put m′ m″ second (made + 1) small put′
-              ∙ ap₂ (λ l n. set l second n) (small-put m m′ first made (omega arith) put) next
-              ∙ sym (ap (λ b. cond b (set (set (words m) first made) second (suc made)) (set (words m) first made))
-              (lt-ltb 1 (wiresIn gate) (omega arith))),
-        )
+  pub holds-two : (m′ m″ : List ℕ)
+      → made + 1 < 65536
+      → count ≤ 2
+      → 2 ≤ count
+      → m′ ≡ putWords 1 m first (made ∷ [])
+      → m″ ≡ putWords 1 m′ second ((made + 1) ∷ [])
+      → (made + 2 ≡ made + count) × (words m″ ≡ heldAfter (words m) count first second made)
+  holds-two m′ m″ small fits two put put′ =
+      let next : made + 1 ≡ suc made = omega arith in (
+        omega arith,
+        small-put m′ m″ second (made + 1) small put′
+            ∙ ap₂ (λ l n. set l second n) (small-put m m′ first made (omega arith) put) next
+            ∙ sym (ap (λ b. cond b (set (set (words m) first made) second (suc made)) (set (words m) first made))
+            (lt-ltb 1 count (omega arith))),
+      )
 
--- The second slot of a gate.
-pub no-second : (gate w : ℕ) → wiresIn gate < 2 → no-wire ≡ cond (ltb (wiresIn gate) 2) no-wire w
-no-second gate w one = sym (ap (λ b. cond b no-wire w) (lt-ltb (wiresIn gate) 2 one))
+-- The second slot of a gate that takes so many wires.
+pub no-second : (count w : ℕ) → count < 2 → no-wire ≡ cond (ltb count 2) no-wire w
+no-second count w one = sym (ap (λ b. cond b no-wire w) (lt-ltb count 2 one))
 
-pub second-is : (gate w : ℕ) → 2 ≤ wiresIn gate → w ≡ cond (ltb (wiresIn gate) 2) no-wire w
-second-is gate w two = sym (ap (λ b. cond b no-wire w) (le-ltb (wiresIn gate) 2 two))
+pub second-is : (count w : ℕ) → 2 ≤ count → w ≡ cond (ltb count 2) no-wire w
+second-is count w two = sym (ap (λ b. cond b no-wire w) (le-ltb count 2 two))

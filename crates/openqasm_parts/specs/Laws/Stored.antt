@@ -361,7 +361,7 @@ gates-start {labels} {text} {kinds = kinds} {slots = slots} {at} {inputs} gates 
     }
 
 module _ {labels gates : ℕ} {text held kinds slots : List ℕ} {at inputs i made : ℕ} where
-  pub gate-next : {held′ kinds′ slots′ : List ℕ} {made′ first second : ℕ} (item : Item)
+  pub gate-next : {held′ kinds′ slots′ : List ℕ} {count made′ first second : ℕ} (item : Item)
       → GatesRead labels gates (gates - i) text at inputs i made held kinds slots
       → i < gates
       → item ≡ itemIn (drop at text)
@@ -369,20 +369,21 @@ module _ {labels gates : ℕ} {text held kinds slots : List ℕ} {at inputs i ma
       → item .length ≤ 26
       → inputs + i + 1 ≤ length kinds
       → 2 * entry-slots * (inputs + i + 1) ≤ length slots
+      → count ≡ wiresIn (item .kind)
       → first ≡ getD (words held) (item .first) 0
-      → second ≡ cond (ltb (wiresIn (item .kind)) 2) no-wire (getD (words held) (item .second) 0)
+      → second ≡ cond (ltb count 2) no-wire (getD (words held) (item .second) 0)
       → Adds kinds (inputs + i) (item .kind ∷ []) kinds′
       → Adds slots (2 * entry-slots * (inputs + i)) (flatMap bytesOf (first ∷ second ∷ [])) slots′
-      → made′ ≡ made + wiresIn (item .kind)
-      → words held′ ≡ heldAfter (words held) (item .kind) (item .first) (item .second) made
+      → made′ ≡ made + count
+      → words held′ ≡ heldAfter (words held) count (item .first) (item .second) made
       → GatesRead labels gates (gates - (i + 1)) text (at + item .length) inputs (i + 1) made′ held′ kinds′ slots′
-  gate-next {slots′ = slots′} item w below is wants short room room′ is-first is-second kind wires makes holds =
+  gate-next {slots′ = slots′} item w below is wants short room room′ counted is-first is-second kind wires makes holds =
       let p = w .so-far in
       let n = item .kind in
       let here : item ≡ itemIn (p .rest) = is ∙ ap itemIn (sym (w .stored .rest-is)) in
       let slots-are =
       ap₂ (λ x y. x ∷ y ∷ []) is-first is-second
-      ∙ ap (λ l. getD l (item .first) 0 ∷ cond (ltb (wiresIn n) 2) no-wire (getD l (item .second) 0) ∷ []) (w .held-are)
+      ∙ ap₂ (λ k l. getD l (item .first) 0 ∷ cond (ltb k 2) no-wire (getD l (item .second) 0) ∷ []) counted (w .held-are)
       ∙ two-slots (wiresIn n) (getD (p .held) (item .first) 0) (getD (p .held) (item .second) 0)
       (takes-some n (subst IsTrue (sym wants) tt)) (wires-fit n) in
       record {
@@ -391,11 +392,12 @@ module _ {labels gates : ℕ} {text held kinds slots : List ℕ} {at inputs i ma
         stored = stored-gate item (w .stored) wants room room′ kind
             (subst (λ ws. Adds slots (2 * entry-slots * (inputs + i)) (flatMap bytesOf ws) slots′) slots-are wires);
         held-are = holds
-            ∙ ap₂ (λ l m. heldAfter l n (item .first) (item .second) m) (w .held-are) (w .made-is);
-        made-is = makes ∙ ap (λ m. m + wiresIn n) (w .made-is);
+            ∙ ap (λ k. heldAfter (words held) k (item .first) (item .second) made) counted
+            ∙ ap₂ (λ l m. heldAfter l (wiresIn n) (item .first) (item .second) m) (w .held-are) (w .made-is);
+        made-is = makes ∙ ap₂ _+_ (w .made-is) counted;
         few-inputs = w .few-inputs;
         few = omega (arith, w .few);
-        few-made = omega (arith, w .few-made, wires-fit n);
+        few-made = omega (arith, w .few-made, counted, wires-fit n);
         near = omega (arith, w .near);
       }
 

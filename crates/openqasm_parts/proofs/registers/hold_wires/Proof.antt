@@ -8,9 +8,6 @@ use Rattle.openqasm_parts.proofs.registers.hold_wires.Tie as tie
 put-requires : tie.Need-put-requires
 put-requires c κs = search needs
 
-wires-in-requires : tie.Need-wires-in-requires
-wires-in-requires c κs = search needs
-
 add-result : tie.Need-add-result
 add-result c = search needs
 
@@ -19,16 +16,11 @@ same-length c = search needs
 
 returns : tie.Need-returns
 returns c =
-    let a = c .before .before .before .before .before .before .before .args in
-    holds-one (a .gate) (c .before .before .before .before .before .before .before .pre .0) (a .held .now) (a .first) (a .second)
-    (a .made) (c .before .before .before .before .put .last .0) (omega (
-      arith,
-      c .before .before .before .before .before .before .before .pre .1,
-    )) (omega (
-      arith,
-      c .before .wires-in .ensures,
-      c .if1 .taken,
-    )) (c .before .before .before .before .put .ensures)
+    let s = c .before .before .before .before .before .before in
+    let a = s .args in
+    let first = c .before .before .before .put in
+    holds-one (a .count) (a .held .now) (a .first) (a .second) (a .made) (first .last .0) (omega (arith, s .pre .2)) (s .pre .0)
+    (omega (arith, c .if1 .taken)) (first .ensures)
 
 add-put : tie.Need-add-put
 add-put c = search needs
@@ -44,23 +36,19 @@ same-length-2 c = search needs
 
 returns-2 : tie.Need-returns-2
 returns-2 c =
-    let a = c .before .before .before .before .before .before .before .before .before .before .before .args in
-    holds-two (a .gate) (c .before .before .before .before .before .before .before .before .before .before .before .pre .0)
-    (a .held .now) (a .first) (a .second) (a .made)
-    (c .before .before .before .before .before .before .before .before .put .last .0) (c .before .before .put2 .last .0) (omega
-    (arith, c .before .before .before .before .before .before .before .before .before .before .before .pre .1)) (omega (
-      arith,
-      c .before .before .before .before .before .wires-in .ensures,
-      c .before .before .before .before .if1 .left,
-    ))
-    (c .before .before .before .before .before .before .before .before .put .ensures) (c .before .before .put2 .ensures)
+    let s = c .before .before .before .before .before .before .before .before .before .before in
+    let a = s .args in
+    let first = c .before .before .before .before .before .before .before .put in
+    let second = c .before .before .put2 in
+    holds-two (a .count) (a .held .now) (a .first) (a .second) (a .made) (first .last .0) (second .last .0)
+    (omega (arith, s .pre .2)) (s .pre .1) (omega (arith, c .before .before .before .before .if1 .left))
+    (first .ensures) (second .ensures)
 
 pub hold-wires-spec : {M : Type 1} → statement M
 hold-wires-spec =
     tie.close
     (tie.spec
     put-requires
-    wires-in-requires
     add-result
     same-length
     returns

@@ -6,25 +6,17 @@ use borrow.Author.Needs.{needs}
 use Rattle.openqasm_parts.proofs.registers.second_wire_in.Statement.{statement}
 use Rattle.openqasm_parts.proofs.registers.second_wire_in.Tie as tie
 
-wires-in-requires : tie.Need-wires-in-requires
-wires-in-requires c κs = search needs
-
 returns : tie.Need-returns
-returns c =
-    (no-second (c .before .before .before .args .gate) _ (omega (arith, c .before .wires-in .ensures, c .if1 .taken)), omega arith)
+returns c = (no-second (c .before .before .args .count) _ (omega (arith, c .if1 .taken)), omega arith)
 
 wire-in-requires : tie.Need-wire-in-requires
 wire-in-requires c κs = search needs
 
 returns-2 : tie.Need-returns-2
 returns-2 c = (
-  c .wire-in .ensures .0 ∙ second-is (c .before .before .before .before .args .gate) _ (omega (
-    arith,
-    c .before .before .wires-in .ensures,
-    c .before .if1 .left,
-  )),
+  c .wire-in .ensures .0 ∙ second-is (c .before .before .before .args .count) _ (omega (arith, c .before .if1 .left)),
   c .wire-in .ensures .1,
 )
 
 pub second-wire-in-spec : {M : Type 1} → statement M
-second-wire-in-spec = tie.close (tie.spec wires-in-requires returns wire-in-requires returns-2)
+second-wire-in-spec = tie.close (tie.spec returns wire-in-requires returns-2)
