@@ -1,8 +1,9 @@
 // The entries of a listing, one behind the other: kinds in one buffer, slots in another.
 use listing::ENTRY_SLOTS;
 use text::put_byte;
-ghost use Prim.Native.Nat.{_*_, _<_};
+ghost use Prim.Native.Nat.{_+_, _*_, _≤_, _<_};
 ghost use mathlib.Core.List.{[], _∷_, flatMap};
+ghost use lib.ListN.{length};
 ghost use Rattle.text.specs.Writing.{Puts};
 ghost use Rattle.listing.specs.Listing.{bytesOf, entry-slots};
 ghost use Rattle.openqasm_parts.specs.Stored.{Adds};
@@ -16,7 +17,7 @@ pub(crate) fn put_word(bytes: &mut [u8], at: usize, n: usize) -> usize
     put_byte(bytes, here, (n / 256) as u8)
 }
 
-// The kind and the slots of an entry, behind those of the entries before it.
+// The kind and the slots of an entry, behind those of the entries before it. There is room for them, so nothing is asked.
 pub(crate) fn put_entry(
     kinds: &mut [u8],
     slots: &mut [u8],
@@ -26,11 +27,15 @@ pub(crate) fn put_entry(
     second: usize,
 )
     requires { ⌜ (entry < 65536) × (kind < 256) × (first < 65536) × (second < 65536) ⌝ }
+    requires { ⌜ (entry < length (now kinds)) × (2 * entry-slots * entry + 4 ≤ length (now slots)) ⌝ }
     ensures { λ r. ⌜ Adds (now (kinds .entry)) entry (kind ∷ []) (now (kinds .exit)) ⌝ }
     ensures { λ r. ⌜ Adds (now (slots .entry)) (2 * entry-slots * entry) (flatMap bytesOf (first ∷ second ∷ []))
         (now (slots .exit)) ⌝ }
 {
-    put_byte(kinds, entry, kind as u8);
-    let here = put_word(slots, 2 * ENTRY_SLOTS * entry, first);
-    put_word(slots, here, second);
+    kinds[entry] = kind as u8;
+    let at = 2 * ENTRY_SLOTS * entry;
+    slots[at] = (first % 256) as u8;
+    slots[at + 1] = (first / 256) as u8;
+    slots[at + 2] = (second % 256) as u8;
+    slots[at + 3] = (second / 256) as u8;
 }

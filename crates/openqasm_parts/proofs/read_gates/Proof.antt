@@ -69,14 +69,16 @@ add-put-entry c =
 
 put-entry-requires : tie.Need-put-entry-requires Inv-loop μ-loop
 put-entry-requires c κs = (
-  omega (
-    arith,
-    c .before .before .before .before .before .before .before .before .before .before .loop-test .taken,
-    c .before .before .before .before .before .before .before .before .before .before .before .loop .inv .4 .few-inputs,
+  (
+    omega (arith, c .before .before .before .before .before .before .before .before .before .before .loop-test .taken, c .before .before .before .before .before .before .before .before .before .before .before .loop .inv .4 .few-inputs),
+    c .before .before .before .before .before .before .before .before .before .read-item .ensures .1 .kind-small,
+    c .before .before .before .before .wire-in .ensures .1,
+    c .before .before .second-wire-in .ensures .1,
   ),
-  c .before .before .before .before .before .before .before .before .before .read-item .ensures .1 .kind-small,
-  c .before .before .before .before .wire-in .ensures .1,
-  c .before .before .second-wire-in .ensures .1,
+  (
+    omega (arith, c .before .before .before .before .before .before .before .before .before .before .loop-test .taken, c .before .before .before .before .before .before .before .before .before .before .before .loop .inv .4 .few-inputs, c .before .before .before .before .before .before .before .before .before .before .before .loop .inv .2, c .before .before .before .before .before .before .before .before .before .before .before .before .before .before .before .before .pre .0),
+    omega (arith, c .before .before .before .before .before .before .before .before .before .before .loop-test .taken, c .before .before .before .before .before .before .before .before .before .before .before .loop .inv .4 .few-inputs, c .before .before .before .before .before .before .before .before .before .before .before .loop .inv .3, c .before .before .before .before .before .before .before .before .before .before .before .before .before .before .before .before .pre .1),
+  ),
 )
 
 hold-wires-requires : tie.Need-hold-wires-requires Inv-loop μ-loop

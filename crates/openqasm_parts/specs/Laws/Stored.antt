@@ -5,7 +5,7 @@ use mathlib.Core.Path.{_≡_, refl, sym, _∙_, ap, ap₂, subst}
 use mathlib.Core.Bool.{Bool, true, false, _||_, cond}
 use mathlib.Core.List.{List, [], _∷_, _++_, map, flatMap, append-assoc, append-nil, reverse-cons}
 use lib.Dec.{T as IsTrue, eqb, ltb}
-use lib.ListN.{length, getD, take, drop, length-append, take-append-drop}
+use lib.ListN.{length, getD, set, take, drop, length-append, length-set, take-append-drop}
 use lib.Seq.{take-all, drop-drop}
 use borrow.Author.Tests.{eqb-true}
 use Rattle.rules.specs.Types.{Wire, Bit, Qubit}
@@ -18,7 +18,7 @@ use Rattle.words.specs.Words.{words}
 use Rattle.words.specs.Regions.{Stands}
 use Rattle.text.specs.Written.{Written}
 use Rattle.text.specs.Writing.{Puts}
-use Rattle.text.specs.Laws.Writing.{puts-both, puts-first, all-written}
+use Rattle.text.specs.Laws.Writing.{puts-byte, puts-both, puts-first, all-written}
 use Rattle.listing.specs.Listing.{bytesOf, inputKind, gateKind, entry-slots, slots as slotsFor, inputSlots, gateSlots, oldestFirst}
 use Rattle.listing.specs.Listing.{kinds as kindBytes, allSlots, listingBytes, most-outputs}
 use Rattle.listing.specs.Reading.{inputType}
@@ -56,6 +56,30 @@ puts-add {m} {ys} {m′} {at} {at′} p = record { behind = stands-more }
         let w = p .behind m xs before in
         let behind : length (xs ++ ys) ≡ at′ = omega (arith, w .place) in
         ap (λ k. take k m′) behind ∙ all-written w (omega arith)
+
+-- One byte and four are put where there is room for them.
+pub one-added : (m : List ℕ) (at x : ℕ) → at < length m → Adds m at (x ∷ []) (set m at x)
+one-added m at x room = puts-add (puts-byte m at x room)
+
+pub four-added : (m : List ℕ) (at x y z w : ℕ)
+    → at + 4 ≤ length m
+    → Adds m at (x ∷ y ∷ z ∷ w ∷ []) (set (set (set (set m at x) (at + 1) y) (at + 2) z) (at + 3) w)
+four-added m at x y z w room =
+    let third : at + 1 + 1 ≡ at + 2 = omega arith in
+    let fourth : at + 2 + 1 ≡ at + 3 = omega arith in
+    let m₁ = set m at x in
+    let m₂ = set m₁ (at + 1) y in
+    let m₃ = set m₂ (at + 2) z in
+    let l₁ = length-set m at x in
+    let l₂ = length-set m₁ (at + 1) y in
+    let l₃ = length-set m₂ (at + 2) z in
+    puts-add
+    (puts-both (puts-byte m at x (omega arith))
+    (puts-both (puts-byte m₁ (at + 1) y (omega arith))
+    (puts-both
+    (subst (λ k. Puts m₂ k (z ∷ []) m₃ (at + 3)) (sym third)
+    (subst (Puts m₂ (at + 2) (z ∷ []) m₃) fourth (puts-byte m₂ (at + 2) z (omega arith))))
+    (puts-byte m₃ (at + 3) w (omega arith)))))
 
 -- Two words, one behind the other.
 pub puts-words : {m m′ m″ : List ℕ} {at at′ at″ : ℕ} (first second : ℕ)
