@@ -1,4 +1,3 @@
-pub mod Registers
 pub mod Places
 pub mod Writing
 pub mod Longest

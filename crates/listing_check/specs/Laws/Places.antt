@@ -1,6 +1,8 @@
 -- Which refusals the check of a listing gives, and how large the numbers of its answers are.
 use Prim.Native.Nat.{ℕ, _+_, _≤_, _<_}
 use native.Mathlib.Omega.{arith}
+use native.Mathlib.Decide.{decLt}
+use mathlib.Core.Path.{_≡_}
 use mathlib.Core.List.{List}
 use lib.ListN.{length}
 use Rattle.rules.specs.Types.{Wire}
@@ -9,7 +11,7 @@ use Rattle.rules.specs.Sizes.{most-labels, most-gates}
 use Rattle.refusals.specs.Refusals.{refusalPlace}
 use Rattle.refusals.specs.declared.Refusal.{Refusal}
 use Rattle.refusals.specs.declared.Refusal.the-variants.{Form, Typing, Run}
-use Rattle.listing.specs.Listing.{most-outputs}
+use Rattle.listing.specs.Listing.{most-outputs, most-bytes}
 use Rattle.listing.specs.Reading.{inputCount, gateCount, outputCount, outputsFrom}
 use Rattle.listing.specs.Laws.Decoding.{length-words, length-inputs, length-first}
 use Rattle.wire_table.specs.WireRules.{WrongGate, the-newest, an-older, WrongOutput, this-output, later-output}
@@ -17,9 +19,9 @@ use Rattle.wire_table.specs.WireRules.{Makes, an-input, newest-makes, older-mak
 use Rattle.listing_check.specs.declared.ListingAnswer.{ListingAnswer}
 use Rattle.listing_check.specs.declared.ListingAnswer.the-variants.{Accepted, Refused}
 use Rattle.listing_check.specs.Answers.{listingCheckOf}
-use Rattle.listing_check.specs.Meaning.{SizesWrong, many-inputs, many-gates, many-outputs}
+use Rattle.listing_check.specs.Meaning.{SizesWrong, many-inputs, many-gates, many-outputs, other-length}
 use Rattle.listing_check.specs.Laws.Judging.{at-most, Judged, sizes-wrong, entry-wrong, wires-wrong, all-right}
-use Rattle.listing_check.specs.Laws.Judging.{listing-judged}
+use Rattle.listing_check.specs.Laws.Judging.{listing-judged, judged-answer}
 
 -- THE PLACE OF A BROKEN RULE
 
@@ -85,3 +87,19 @@ module _ (b : List ℕ) where
 
   pub listing-bounds : ListingBounds (listingCheckOf b)
   listing-bounds = judged-within (listing-judged b)
+
+-- WHAT IS LONGER THAN THE LONGEST LISTING
+
+-- It has another length than its sizes give, or sizes beyond their most.
+long-wrong : (b : List ℕ) → most-bytes < length b → SizesWrong b
+long-wrong b long =
+    of (decLt most-labels (inputCount b)) (decLt most-gates (gateCount b)) (decLt most-outputs (outputCount b))
+  where
+    of : Dec (most-labels < inputCount b) → Dec (most-gates < gateCount b) → Dec (most-outputs < outputCount b) → SizesWrong b
+    of (yes p) g o = many-inputs p
+    of (no n) (yes p) o = many-gates p
+    of (no n) (no m) (yes p) = many-outputs p
+    of (no n) (no m) (no k) = other-length (λ e. omega arith)
+
+pub long-refused : (b : List ℕ) → most-bytes < length b → listingCheckOf b ≡ Refused (Run 24 0)
+long-refused b long = judged-answer b (sizes-wrong (long-wrong b long))

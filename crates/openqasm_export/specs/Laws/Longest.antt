@@ -25,7 +25,7 @@ use Rattle.listing_check.specs.Laws.Judging.{sound-known, sound-read}
 use Rattle.openqasm.specs.Layout.{header, bitRegister, declaration, Statement, on-one, on-two, measurement, under-bit, statements}
 use Rattle.openqasm.specs.Layout.{statementLine, gateLine, registersOf, declarations, gateLines, registerName, outputName}
 use Rattle.openqasm.specs.Layout.{outputLine, exportText, exportOf, declaration-bytes, statement-bytes, most-text}
-use Rattle.openqasm_export.specs.Laws.Registers.{as-many, AllCounted, known-counted, length-numbers, registers-few, taken-few}
+use Rattle.openqasm.specs.Laws.Registers.{as-many, AllCounted, known-counted, length-numbers, registers-few, taken-few}
 
 -- AS MANY OUTPUTS AS INPUTS
 

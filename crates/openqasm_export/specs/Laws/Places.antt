@@ -17,7 +17,7 @@ use Rattle.words.specs.Numbers.{wordAt, wordsAt}
 use Rattle.wire_table.specs.Laws.Table.{first-of, none-of}
 use Rattle.listing.specs.Laws.ReadBack.{wires-fit}
 use Rattle.listing_check.specs.Laws.Answering.{cleared-table}
-use Rattle.openqasm_export.specs.Laws.Registers.{as-many}
+use Rattle.openqasm.specs.Laws.Registers.{as-many}
 use Rattle.openqasm_export.specs.Places.{placeBytes, Begins, retyped}
 
 -- The code of a wire's type is below 2.

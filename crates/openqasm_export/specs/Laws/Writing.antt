@@ -23,7 +23,7 @@ use Rattle.listing_check.specs.Laws.Wires.{next-input, one-more-gate}
 use Rattle.openqasm.specs.Layout.{declaration, declarations, statements, statementLine, gateLine, gateLines, registersOf}
 use Rattle.openqasm.specs.Layout.{header, registerName, outputName, outputLine, exportText, exportOf}
 use Rattle.openqasm_export.specs.Places.{placeBytes, placesOf, Begins, keptPlaces}
-use Rattle.openqasm_export.specs.Laws.Registers.{as-many, first-counted, length-numbers, length-registers}
+use Rattle.openqasm.specs.Laws.Registers.{as-many, first-counted, length-numbers, numbers-more, length-registers}
 use Rattle.openqasm_export.specs.Laws.Places.{place-register, place-type, places-append, length-places, two-at-most}
 use Rattle.openqasm_export.specs.Laws.Places.{begins-same}
 
@@ -38,13 +38,6 @@ declared-more k (β ∷ I) α =
     let e : suc k + length I ≡ k + suc (length I) = omega arith in
     ap (λ l. declaration k β ++ l) (declared-more (suc k) I α ∙ ap (λ n. declarations (suc k) I ++ declaration n α) e)
     ∙ sym (append-assoc (declaration k β) (declarations (suc k) I) (declaration (k + suc (length I)) α))
-
--- One more number.
-numbers-more : (n k : ℕ) → numbers n (suc k) ≡ numbers n k ++ ((n + k) ∷ [])
-numbers-more n zero = let e : n ≡ n + 0 = omega arith in ap (λ m. m ∷ []) e
-numbers-more n (suc k) =
-    let e : suc n + k ≡ n + suc k = omega arith in
-    ap (λ l. n ∷ l) (numbers-more (suc n) k ∙ ap (λ m. numbers (suc n) k ++ (m ∷ [])) e)
 
 -- The places of the inputs, and of one more.
 inputs-placed : (I : List Wire) → placesOf I [] ≡ placeBytes (numbers 0 (length I)) I

@@ -6,12 +6,9 @@ use mathlib.Core.Path.{_≡_, sym, _∙_, ap}
 use mathlib.Core.List.{List}
 use lib.ListN.{length, take, length-take}
 use lib.Seq.{take-all}
-use Rattle.rules.specs.Sizes.{most-labels, most-gates}
 use Rattle.refusals.specs.declared.Refusal.the-variants.{Run}
-use Rattle.listing.specs.Listing.{most-bytes, most-outputs}
-use Rattle.listing.specs.Reading.{inputCount, gateCount, outputCount}
-use Rattle.listing_check.specs.Meaning.{SizesWrong, many-inputs, many-gates, many-outputs, other-length}
-use Rattle.listing_check.specs.Laws.Judging.{sizes-wrong, judged-answer}
+use Rattle.listing.specs.Listing.{most-bytes}
+use Rattle.listing_check.specs.Laws.Places.{long-refused}
 use Rattle.openqasm.specs.Layout.{most-text}
 use Rattle.openqasm_export.specs.Laws.Longest.{sound-fits}
 use Rattle.openqasm_import.specs.Meaning.{ExportedFrom}
@@ -19,28 +16,18 @@ use Rattle.openqasm_import.specs.Theorems.Imports.{import-means}
 use Rattle.openqasm_io.specs.Printing.{most-listing-read, most-text-read, refusalLine, answerBytes, exportedBytes}
 use Rattle.openqasm_io.specs.Printing.{foundBytes, importedBytes}
 
--- What is longer than the longest listing has another length than its sizes give, or sizes beyond their most.
-long-wrong : (b : List ℕ) → most-bytes < length b → SizesWrong b
-long-wrong b long =
-    of (decLt most-labels (inputCount b)) (decLt most-gates (gateCount b)) (decLt most-outputs (outputCount b))
-  where
-    of : Dec (most-labels < inputCount b) → Dec (most-gates < gateCount b) → Dec (most-outputs < outputCount b) → SizesWrong b
-    of (yes p) g o = many-inputs p
-    of (no n) (yes p) o = many-gates p
-    of (no n) (no m) (yes p) = many-outputs p
-    of (no n) (no m) (no k) = other-length (λ e. omega arith)
-
-long-refused : (b : List ℕ) → most-bytes < length b → exportedBytes b ≡ refusalLine (Run 24 0)
+-- What is longer than the longest listing is refused.
+long-unexported : (b : List ℕ) → most-bytes < length b → exportedBytes b ≡ refusalLine (Run 24 0)
 unfolding exportedBytes
-long-refused b long = ap (answerBytes b) (judged-answer b (sizes-wrong (long-wrong b long)))
+long-unexported b long = ap (answerBytes b) (long-refused b long)
 
 pub same-export : (b : List ℕ) → exportedBytes (take most-listing-read b) ≡ exportedBytes b
 same-export b = of (decLt most-listing-read (length b))
   where
     of : Dec (most-listing-read < length b) → exportedBytes (take most-listing-read b) ≡ exportedBytes b
     of (yes long) =
-        long-refused (take most-listing-read b) (omega (arith, length-take most-listing-read b))
-        ∙ sym (long-refused b (omega arith))
+        long-unexported (take most-listing-read b) (omega (arith, length-take most-listing-read b))
+        ∙ sym (long-unexported b (omega arith))
     of (no short) = ap exportedBytes (take-all most-listing-read b (omega arith))
 
 -- What is longer than the longest text is the export of no listing that is accepted.

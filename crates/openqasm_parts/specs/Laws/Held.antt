@@ -6,11 +6,11 @@ use mathlib.Core.Path.{_≡_, refl, sym, _∙_, ap, ap₂, subst}
 use mathlib.Core.Bool.{Bool}
 use mathlib.Core.List.{List, [], _∷_, _++_, map}
 use mathlib.Core.Option.{Option, none, some}
-use lib.Dec.{T as IsTrue, eqb, leb, eqb→eq, leb→le}
+use lib.Dec.{T as IsTrue, eqb, leb, leb→le}
 use lib.ListN.{length, getD, set, length-append, length-set, length-map, List·getD-append}
 use lib.Seq.{getD-append-add, getD-set-same, getD-set-other}
 use Rattle.rules.specs.Types.{Wire, wires}
-use Rattle.rules.specs.Gates.{GateType, _to_, gateTable, gateType, isSome, isGate, gateOutputs, outputWires, inputWires, wiresIn}
+use Rattle.rules.specs.Gates.{GateType, _to_, gateTable, gateType, isSome, isGate, inputWires, wiresIn}
 use Rattle.rules.specs.Terms.{Gate, _on_}
 use Rattle.rules.specs.Circuits.{numbers, outputs, taken, one-if, count, OfTypes, wires-end, next-wire, TakesEarlier, next-gate}
 use Rattle.rules.specs.Laws.Wires.{Compared, equal, unequal, compared, one-if-equal, count-append}
@@ -18,20 +18,9 @@ use Rattle.rules.specs.Laws.Wires.{nth-some-within, every-nth}
 use Rattle.rules.specs.Laws.KnownGates.{KnownGates}
 use Rattle.listing.specs.Laws.Bytes.{mapped-at}
 use Rattle.openqasm.specs.Layout.{registersOf}
+use Rattle.openqasm.specs.Laws.Registers.{known-counted, length-numbers, length-registers, map-below, registers-within}
 
--- A gate of the table makes as many wires as it takes.
-as-many : GateType → Bool
-as-many (T to U) = eqb (length (wires U)) (length (wires T))
-
-pub makes-as-many : (n : ℕ) → length (gateOutputs n) ≡ wiresIn n
-unfolding as-many wiresIn
-makes-as-many n = of (gateType n) refl
-  where
-    of : (g : Option GateType) → gateType n ≡ g → length (outputWires g) ≡ length (inputWires g)
-    of none e = refl
-    of (some (T to U)) e = eqb→eq _ _ (every-nth as-many gateTable n e tt)
-
--- It takes at least one.
+-- A gate of the table takes at least one wire.
 takes-one : GateType → Bool
 takes-one (T to U) = leb 1 (length (wires T))
 
@@ -43,11 +32,7 @@ takes-some n known = of (gateType n) refl known
     of none e none-such = absurd none-such
     of (some (T to U)) e there = leb→le _ _ (every-nth takes-one gateTable n e tt)
 
--- Numbers in a row: how many, and the one at a place.
-pub length-numbers : (n k : ℕ) → length (numbers n k) ≡ k
-length-numbers n zero = refl
-length-numbers n (suc k) = ap suc (length-numbers (suc n) k)
-
+-- The number at a place of numbers in a row.
 number-at : (n k i : ℕ) → i < k → getD (numbers n k) i 0 ≡ n + i
 number-at n zero i below = absurd (omega arith)
 number-at n (suc k) zero below = omega arith
@@ -56,42 +41,6 @@ number-at n (suc k) (suc i) below = omega (arith, number-at (suc n) k i (omega a
 -- The register of a wire.
 abbrev pub registerOf : List Wire → List Gate → ℕ → ℕ
 registerOf I gs w = getD (registersOf I gs) w 0
-
--- Every wire that is made has a register.
-length-registers : (I : List Wire) (gs : List Gate) → KnownGates gs → length (registersOf I gs) ≡ length (I ++ outputs gs)
-length-registers I [] known = omega (arith, length-numbers 0 (length I), length-append I (outputs []))
-length-registers I ((n on ws) ∷ gs) known =
-    omega (
-      arith,
-      length-append (registersOf I gs) (map (registerOf I gs) ws),
-      length-map ws (registerOf I gs),
-      length-registers I gs (known .2),
-      length-append I (outputs gs),
-      length-append I (outputs gs ++ gateOutputs n),
-      length-append (outputs gs) (gateOutputs n),
-      makes-as-many n,
-      known .1,
-    )
-
--- Lists of numbers below a bound, where 0 is read behind the end: two lists joined, a function on each entry, numbers in a row.
-below-append : (most : ℕ) (xs ys : List ℕ)
-    → ((i : ℕ) → getD xs i 0 < most)
-    → ((i : ℕ) → getD ys i 0 < most)
-    → (i : ℕ)
-    → getD (xs ++ ys) i 0 < most
-below-append most [] ys below below′ i = below′ i
-below-append most (x ∷ xs) ys below below′ zero = below zero
-below-append most (x ∷ xs) ys below below′ (suc i) = below-append most xs ys (λ j. below (suc j)) below′ i
-
-pub below-map : (most : ℕ) (f : ℕ → ℕ) (xs : List ℕ) → 0 < most → ((x : ℕ) → f x < most) → (i : ℕ) → getD (map f xs) i 0 < most
-below-map most f [] room below i = room
-below-map most f (x ∷ xs) room below zero = below x
-below-map most f (x ∷ xs) room below (suc i) = below-map most f xs room below i
-
-below-numbers : (most n k : ℕ) → 0 < most → n + k ≤ most → (i : ℕ) → getD (numbers n k) i 0 < most
-below-numbers most n zero room few i = room
-below-numbers most n (suc k) room few zero = omega arith
-below-numbers most n (suc k) room few (suc i) = below-numbers most (suc n) k room (omega arith) i
 
 -- A number stands in a list as often as after a function that can be undone there.
 count-undone : (f undo : ℕ → ℕ) (w : ℕ) (xs : List ℕ)
@@ -173,15 +122,6 @@ module _ (most : ℕ) where
   length-held I ((n on ws) ∷ gs) =
       length-holding (heldBehind I gs) (map (registerOf I gs) ws) (length (I ++ outputs gs)) ∙ length-held I gs
 
-  -- Wires are in these registers only.
-  pub registers-below : (I : List Wire) (gs : List Gate) → 0 < most → length I ≤ most → (w : ℕ) → registerOf I gs w < most
-  registers-below I [] room few w = below-numbers most 0 (length I) room (omega arith) w
-  registers-below I ((n on ws) ∷ gs) room few w =
-      below-append most (registersOf I gs) (map (registerOf I gs) ws)
-      (registers-below I gs room few)
-      (below-map most (registerOf I gs) ws room (registers-below I gs room few))
-      w
-
   -- A wire that has been made and that no gate has taken is what its register holds.
   pub held-back : (I : List Wire) (gs : List Gate)
       → 0 < most
@@ -228,13 +168,13 @@ module _ (most : ℕ) where
           let apart = count-undone (registerOf I gs) (λ r. getD held r 0) w ws this (undone back) in
           ap
           (λ r. getD (holding held new m) r 0)
-          (List·getD-append rs new 0 w (omega (arith, length-registers I gs (known .2))))
+          (List·getD-append rs new 0 w (omega (arith, length-registers I gs (known-counted gs (known .2)))))
           ∙ holds-other held new m (getD rs w 0) (omega arith)
           ∙ this
       of back (no fresh) =
           let i = w - m in
-          let long = length-registers I gs (known .2) in
-          let more = length-registers I ((n on ws) ∷ gs) known in
+          let long = length-registers I gs (known-counted gs (known .2)) in
+          let more = length-registers I ((n on ws) ∷ gs) (known-counted ((n on ws) ∷ gs) known) in
           let below : i < length ws = omega (arith, length-append rs new, length-map ws (registerOf I gs)) in
           let x = getD ws i 0 in
           let stands = counted-at ws i below in
@@ -245,6 +185,6 @@ module _ (most : ℕ) where
           ∙ ap (λ r. getD (holding held new m) r 0) (getD-append-add rs new i 0)
           ∙ holds-new held new m i
           (omega (arith, length-map ws (registerOf I gs)))
-          (omega (arith, length-held I gs, below-map most (registerOf I gs) ws room (registers-below I gs room few) i))
+          (omega (arith, length-held I gs, map-below most room (registerOf I gs) (registers-within most room I few gs) ws i))
           (subst (λ r. count r new ≤ 1) (sym (mapped-at (registerOf I gs) 0 ws i below)) single)
           ∙ omega arith

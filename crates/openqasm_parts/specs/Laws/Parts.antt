@@ -26,8 +26,9 @@ use Rattle.openqasm_reader.specs.Items.{isDigit, bit-item, qubit-item, itemIn}
 use Rattle.openqasm_parts.specs.Reading.{Parts, isInput, withInput, withGate, isOutput, withOutput, itemsRead}
 use Rattle.openqasm_parts.specs.Laws.Items.{item, Reads, declaration-reads, gate-reads, output-reads}
 use Rattle.openqasm_parts.specs.Laws.Reading.{item-next}
-use Rattle.openqasm_parts.specs.Laws.Held.{makes-as-many, takes-some, registerOf, registers-below, holding, heldBehind}
-use Rattle.openqasm_parts.specs.Laws.Held.{below-map, typed-made, held-back}
+use Rattle.openqasm.specs.Laws.Registers.{as-many, map-below, registers-few}
+use Rattle.openqasm_parts.specs.Laws.Held.{takes-some, registerOf, holding, heldBehind}
+use Rattle.openqasm_parts.specs.Laws.Held.{typed-made, held-back}
 
 -- Parts, one after the other.
 abbrev parts : List Wire → List Gate → List ℕ → List ℕ → ℕ → List ℕ → Parts
@@ -135,14 +136,14 @@ one-gate I n ws gs second bytes text rest known many back both left =
       length-append I (outputs gs),
       length-append I (outputs gs ++ gateOutputs n),
       length-append (outputs gs) (gateOutputs n),
-      makes-as-many n,
+      as-many n,
     ) in
     ap₂ (λ vs h. parts I ((n on vs) ∷ gs) [] h (made + wiresIn n) (drop bytes text)) (e .0) (e .1)
     ∙ ap₂ (parts I ((n on ws) ∷ gs) [] (holding held rs made)) more left
 
 -- Registers have at most two digits.
 few-registers : (I : List Wire) (gs : List Gate) → length I ≤ most-labels → (w : ℕ) → registerOf I gs w < 100
-few-registers I gs few w = omega (arith, registers-below most-labels I gs (omega arith) few w)
+few-registers I gs few w = omega (arith, registers-few I gs w few)
 
 -- The line of the newest gate is read.
 line-reads : (I : List Wire) (n : ℕ) (ws : List ℕ) (gs : List Gate) (rest : List ℕ)
@@ -151,7 +152,7 @@ line-reads : (I : List Wire) (n : ℕ) (ws : List ℕ) (gs : List Gate) (rest : 
     → let rs = map (registerOf I gs) ws in
     (s : ℕ) × Reads (gateLine n rs ++ rest) n (getD rs 0 0) s rest × (1 < wiresIn n → s ≡ getD rs 1 0)
 line-reads I n ws gs rest few known =
-    let small = below-map 100 (registerOf I gs) ws (omega arith) (few-registers I gs few) in
+    let small = map-below 100 (omega arith) (registerOf I gs) (few-registers I gs few) ws in
     gate-reads n (map (registerOf I gs) ws) rest known (small 0) (small 1)
 
 -- Gates are read, the oldest first, and then at most k more.

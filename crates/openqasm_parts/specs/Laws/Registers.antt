@@ -1,5 +1,5 @@
 -- Laws of the registers in lent memory, a word for each.
-use Prim.Native.Nat.{ℕ, zero, suc, _+_, _%_, _≤_, _<_}
+use Prim.Native.Nat.{ℕ, suc, _+_, _%_, _≤_, _<_}
 use native.Mathlib.Omega.{arith}
 use mathlib.Core.Path.{_≡_, sym, _∙_, ap, ap₂, subst}
 use mathlib.Core.Bool.{true, cond}
@@ -14,15 +14,9 @@ use Rattle.rules.specs.Slots.{no-wire}
 use Rattle.words.specs.Words.{words, putWords}
 use Rattle.words.specs.Laws.Words.{word-put}
 use Rattle.listing.specs.Laws.ReadBack.{wires-fit}
+use Rattle.openqasm.specs.Laws.Registers.{length-numbers, numbers-more}
 use Rattle.openqasm_parts.specs.Stored.{heldAfter}
-use Rattle.openqasm_parts.specs.Laws.Held.{takes-some, length-numbers}
-
--- One more number.
-numbers-more : (n k : ℕ) → numbers n k ++ ((n + k) ∷ []) ≡ numbers n (suc k)
-numbers-more n zero = let e : n + 0 ≡ n = omega arith in ap (λ m. m ∷ []) e
-numbers-more n (suc k) =
-    let e : n + suc k ≡ suc n + k = omega arith in
-    ap (λ m. n ∷ (numbers (suc n) k ++ (m ∷ []))) e ∙ ap (λ l. n ∷ l) (numbers-more (suc n) k)
+use Rattle.openqasm_parts.specs.Laws.Held.{takes-some}
 
 -- A word below 65536 is put.
 small-put : (m m′ : List ℕ) (i v : ℕ) → v < 65536 → m′ ≡ putWords 1 m i (v ∷ []) → words m′ ≡ set (words m) i v
@@ -46,7 +40,7 @@ registers-next first m m′ k is below small put =
     ∙ ap (λ j. set (numbers 0 k ++ (getD first k 0 ∷ drop (suc k) first)) j k) (sym k′)
     ∙ set-append-seam (numbers 0 k) (getD first k 0) (drop (suc k) first) k
     ∙ sym (append-assoc (numbers 0 k) (k ∷ []) (drop (suc k) first))
-    ∙ ap (λ l. l ++ drop (suc k) first) (ap (λ j. numbers 0 k ++ (j ∷ [])) from-zero ∙ numbers-more 0 k)
+    ∙ ap (λ l. l ++ drop (suc k) first) (ap (λ j. numbers 0 k ++ (j ∷ [])) from-zero ∙ sym (numbers-more 0 k))
     ∙ ap (λ j. numbers 0 j ++ drop j first) next
 
 pub registers-end : (first m : List ℕ) (most k : ℕ)

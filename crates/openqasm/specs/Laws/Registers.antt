@@ -52,6 +52,13 @@ pub length-numbers : (n k : ℕ) → length (numbers n k) ≡ k
 length-numbers n zero = refl
 length-numbers n (suc k) = ap suc (length-numbers (suc n) k)
 
+-- One more number.
+pub numbers-more : (n k : ℕ) → numbers n (suc k) ≡ numbers n k ++ ((n + k) ∷ [])
+numbers-more n zero = let e : n ≡ n + 0 = omega arith in ap (λ m. m ∷ []) e
+numbers-more n (suc k) =
+    let e : suc n + k ≡ n + suc k = omega arith in
+    ap (λ l. n ∷ l) (numbers-more (suc n) k ∙ ap (λ m. numbers (suc n) k ++ (m ∷ [])) e)
+
 -- Each wire that is made has a register.
 pub length-registers : (I : List Wire) (gs : List Gate) → AllCounted gs → length (registersOf I gs) ≡ length (I ++ outputs gs)
 length-registers I [] counted = length-numbers 0 (length I) ∙ ap length (sym (append-nil I))
@@ -71,7 +78,7 @@ length-registers I ((n on ws) ∷ gs) counted =
     )
 
 -- What stands at any place of a list is below m: its numbers are, and so is the 0 behind its end.
-abbrev Below : ℕ → List ℕ → Type 0
+abbrev pub Below : ℕ → List ℕ → Type 0
 Below m rs = (w : ℕ) → getD rs w 0 < m
 
 -- So it is in a row of numbers, in two such lists joined, and in a list of what a function gives.
@@ -85,13 +92,13 @@ joined-below m [] ys first second w = second w
 joined-below m (x ∷ xs) ys first second zero = first 0
 joined-below m (x ∷ xs) ys first second (suc w) = joined-below m xs ys (λ v. first (suc v)) second w
 
-map-below : (m : ℕ) → 0 < m → (f : ℕ → ℕ) → ((w : ℕ) → f w < m) → (ws : List ℕ) → Below m (map f ws)
+pub map-below : (m : ℕ) → 0 < m → (f : ℕ → ℕ) → ((w : ℕ) → f w < m) → (ws : List ℕ) → Below m (map f ws)
 map-below m positive f below [] w = positive
 map-below m positive f below (v ∷ ws) zero = below v
 map-below m positive f below (v ∷ ws) (suc w) = map-below m positive f below ws w
 
 -- Registers are below any number that is not 0 and not less than the number of inputs.
-registers-within : (m : ℕ) → 0 < m → (I : List Wire) → length I ≤ m → (gs : List Gate) → Below m (registersOf I gs)
+pub registers-within : (m : ℕ) → 0 < m → (I : List Wire) → length I ≤ m → (gs : List Gate) → Below m (registersOf I gs)
 registers-within m positive I few [] = numbers-below m positive 0 (length I) (omega arith)
 registers-within m positive I few ((n on ws) ∷ gs) =
     let rs = registersOf I gs in
