@@ -44,10 +44,10 @@ withInput p i =
 abbrev pub wiresTaken : Parts → Item → List ℕ
 wiresTaken p i = take (wiresIn (i .kind)) (getD (p .held) (i .first) 0 ∷ getD (p .held) (i .second) 0 ∷ [])
 
-abbrev pub heldThen : Parts → Item → List ℕ
-heldThen p i =
-    let one = set (p .held) (i .first) (p .made) in
-    cond (ltb 1 (wiresIn (i .kind))) (set one (i .second) (suc (p .made))) one
+-- What registers hold when so many wires have been made, numbered on: the second one only where there are two.
+abbrev pub heldAfter : List ℕ → ℕ → ℕ → ℕ → ℕ → List ℕ
+heldAfter held count first second made =
+    let one = set held first made in cond (ltb 1 count) (set one second (suc made)) one
 
 abbrev pub withGate : Parts → Item → Parts
 withGate p i =
@@ -55,7 +55,7 @@ withGate p i =
       inputs = p .inputs;
       gates = (i .kind on wiresTaken p i) ∷ p .gates;
       outs = p .outs;
-      held = heldThen p i;
+      held = heldAfter (p .held) (wiresIn (i .kind)) (i .first) (i .second) (p .made);
       made = p .made + wiresIn (i .kind);
       rest = drop (i .length) (p .rest);
     }
@@ -105,9 +105,6 @@ partsRead text =
 abbrev pub listingRead : List ℕ → List ℕ
 listingRead text = let p = partsRead text in listingBytes (p .inputs) (p .gates) (p .outs)
 
--- What the reading needs: a byte for the kind of each entry; the slots of each entry, and the outputs behind them.
-abbrev pub kinds-bytes : ℕ
-kinds-bytes = most-labels + most-gates
-
+-- What the slots of all entries take, and the outputs behind them.
 abbrev pub slots-bytes : ℕ
 slots-bytes = 2 * entry-slots * (most-labels + most-gates) + 2 * most-outputs

@@ -1,16 +1,19 @@
 -- The parts of a listing in lent memory while they are read: kinds and slots from the start of two buffers, as a listing has them.
-use Prim.Native.Nat.{ℕ, suc, _+_, _*_, _≤_}
+use Prim.Native.Nat.{ℕ, _+_, _*_, _≤_}
 use mathlib.Core.Path.{_≡_}
-use mathlib.Core.Bool.{cond}
 use mathlib.Core.List.{List, [], _∷_, _++_, flatMap}
-use lib.Dec.{ltb}
-use lib.ListN.{length, set, take, drop}
+use lib.ListN.{length, take, drop}
 use Rattle.rules.specs.Gates.{isGate}
+use Rattle.rules.specs.Sizes.{most-labels, most-gates}
 use Rattle.words.specs.Words.{words}
 use Rattle.words.specs.Regions.{Stands}
 use Rattle.listing.specs.Listing.{bytesOf, kinds as kindBytes, entry-slots, allSlots}
 use Rattle.openqasm_parts.specs.Reading.{Parts, isInput, withInput, withGate, isOutput, withOutput, itemsRead}
 use Rattle.openqasm_parts.specs.Reading.{begun, atOutputs}
+
+-- The kinds take a byte for each entry.
+abbrev pub kinds-bytes : ℕ
+kinds-bytes = most-labels + most-gates
 
 -- The parts behind the declarations, behind the gates and behind the outputs, at most so many of each.
 unfoldable pub behindInputs : ℕ → List ℕ → Parts
@@ -29,13 +32,6 @@ pub record Adds (m : List ℕ) (at : ℕ) (ys m′ : List ℕ) : Type 0 where
       → Stands m 0 xs
       → length xs + length ys ≤ length m
       → Stands m′ 0 (xs ++ ys)
-
--- What the registers hold when a gate's wires, so many of them, have been made, numbered from the next one on: the second one only
--- where there are two.
-abbrev pub heldAfter : List ℕ → ℕ → ℕ → ℕ → ℕ → List ℕ
-heldAfter held count first second made =
-    let one = set held first made in
-    cond (ltb 1 count) (set one second (suc made)) one
 
 -- The bytes of a listing: the sizes, the kinds that stand from the start of one buffer, and the slots and outputs of another.
 abbrev pub assembled : ℕ → ℕ → ℕ → List ℕ → List ℕ → List ℕ

@@ -32,8 +32,8 @@ ghost use Rattle.rules.specs.Sizes.{most-labels, most-gates};
 ghost use Rattle.words.specs.Words.{words};
 ghost use Rattle.text.specs.Written.{Written};
 ghost use Rattle.listing.specs.Listing.{most-outputs};
-ghost use Rattle.openqasm_parts.specs.Reading.{isInput, listingRead, kinds-bytes, slots-bytes};
-ghost use Rattle.openqasm_parts.specs.Stored.{assembled, InputsRead, GatesRead, OutputsRead};
+ghost use Rattle.openqasm_parts.specs.Reading.{isInput, listingRead, slots-bytes};
+ghost use Rattle.openqasm_parts.specs.Stored.{kinds-bytes, assembled, InputsRead, GatesRead, OutputsRead};
 
 // What the reading needs: a byte for the kind of each entry; the slots of each entry, and the outputs behind them.
 pub const KINDS_BYTES: usize = MOST_LABELS + MOST_GATES;

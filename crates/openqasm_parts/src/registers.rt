@@ -12,7 +12,7 @@ ghost use Rattle.rules.specs.Circuits.{numbers};
 ghost use Rattle.rules.specs.Sizes.{most-labels};
 ghost use Rattle.rules.specs.Slots.{no-wire};
 ghost use Rattle.words.specs.Words.{words};
-ghost use Rattle.openqasm_parts.specs.Stored.{heldAfter};
+ghost use Rattle.openqasm_parts.specs.Reading.{heldAfter};
 
 // Register k holds wire k.
 pub(crate) fn number_registers(held: &mut [u8])

@@ -27,7 +27,7 @@ use Rattle.openqasm.specs.Layout.{exportOf, most-text}
 use Rattle.openqasm_export.specs.Answers.{export-lengths, exportedAs, outAfter, exportAnswer, exportBytes}
 use Rattle.openqasm_export.specs.Laws.Longest.{as-many-outputs, text-fits, sound-fits}
 
-or-false : (t : Bool) → t || false ≡ t
+pub or-false : (t : Bool) → t || false ≡ t
 or-false true = refl
 or-false false = refl
 

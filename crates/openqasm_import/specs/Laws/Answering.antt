@@ -1,7 +1,7 @@
 -- The answer of an import, with the buffers that were lent.
 use Prim.Native.Nat.{ℕ, _≤_}
 use native.Mathlib.Omega.{arith}
-use mathlib.Core.Path.{_≡_, refl, sym, _∙_, ap, ap₂}
+use mathlib.Core.Path.{_≡_, sym, _∙_, ap, ap₂}
 use mathlib.Core.Bool.{Bool, true, false, _&&_, _||_, cond}
 use mathlib.Core.List.{List, [], _∷_}
 use mathlib.Core.Option.{none, some}
@@ -21,7 +21,7 @@ use Rattle.openqasm.specs.declared.Conversion.{Conversion}
 use Rattle.openqasm.specs.declared.Conversion.the-variants.{Written as Wrote, Refused}
 use Rattle.openqasm.specs.Layout.{exportOf, most-text}
 use Rattle.openqasm_export.specs.Laws.Longest.{sound-fits}
-use Rattle.openqasm_export.specs.Laws.Answering.{written-whole, accepted-whole}
+use Rattle.openqasm_export.specs.Laws.Answering.{or-false, written-whole, accepted-whole}
 use Rattle.openqasm_parts.specs.Reading.{partsRead, listingRead, slots-bytes}
 use Rattle.openqasm_parts.specs.Theorems.ReadBack.{parts-few}
 use Rattle.openqasm_import.specs.Answers.{isAccepted, sameBytes, importOf, import-lengths, importedAs, outAfter}
@@ -137,10 +137,6 @@ module _ (text : List ℕ) where
         ltb (length out) most-bytes
         || (ltb (length slots) slots-bytes
         || (ltb (length listing) most-bytes || (ltb (length table) most-wires || ltb (length exported) most-text)))
-
-    or-false : (t : Bool) → t || false ≡ t
-    or-false true = refl
-    or-false false = refl
 
     same-test : tooShort import-lengths lent ≡ tested
     same-test =

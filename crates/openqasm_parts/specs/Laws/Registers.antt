@@ -15,7 +15,7 @@ use Rattle.words.specs.Words.{words, putWords}
 use Rattle.words.specs.Laws.Words.{word-put}
 use Rattle.listing.specs.Laws.ReadBack.{wires-fit}
 use Rattle.openqasm.specs.Laws.Registers.{length-numbers, numbers-more}
-use Rattle.openqasm_parts.specs.Stored.{heldAfter}
+use Rattle.openqasm_parts.specs.Reading.{heldAfter}
 use Rattle.openqasm_parts.specs.Laws.Held.{takes-some}
 
 -- A word below 65536 is put.

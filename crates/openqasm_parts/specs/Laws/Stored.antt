@@ -28,8 +28,8 @@ use Rattle.listing.specs.Laws.ReadBack.{wires-fit}
 use Rattle.openqasm_reader.specs.declared.Item.{Item}
 use Rattle.openqasm_reader.specs.Items.{bit-item, qubit-item, itemIn}
 use Rattle.openqasm_parts.specs.Reading.{Parts, isInput, withInput, wiresTaken, withGate, isOutput, withOutput, itemsRead}
-use Rattle.openqasm_parts.specs.Reading.{begun, atOutputs, partsRead, listingRead}
-use Rattle.openqasm_parts.specs.Stored.{behindInputs, behindGates, behindOutputs, Adds, heldAfter, assembled, Stored}
+use Rattle.openqasm_parts.specs.Reading.{heldAfter, begun, atOutputs, partsRead, listingRead}
+use Rattle.openqasm_parts.specs.Stored.{behindInputs, behindGates, behindOutputs, Adds, assembled, Stored}
 use Rattle.openqasm_parts.specs.Stored.{InputsRead, GatesRead, OutputsRead}
 use Rattle.openqasm_parts.specs.Laws.Reading.{items-keep, items-end}
 use Rattle.openqasm_parts.specs.Laws.Held.{takes-some}
