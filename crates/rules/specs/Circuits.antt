@@ -8,7 +8,7 @@ use lib.Dec.{eqb}
 use lib.ListN.{length}
 use Rattle.rules.specs.Types.{Wire, Ty, wires}
 use Rattle.rules.specs.Gates.{_to_, nth, gateType, gateOutputs}
-use Rattle.rules.specs.Terms.{Tuple, single, both, labels, tupleFrom, Gate, _on_, Boxed, boxed}
+use Rattle.rules.specs.Terms.{Tuple, single, both, labels, tupleFrom, Gate, _on_, Boxed, boxed, empty}
 
 -- 01: "Each frame has a circuit (inputs with types, gates in order)". The gates stand newest first.
 pub data Circuit : Type 0 where
@@ -101,6 +101,7 @@ renameGate ℓs next (n on ws) = n on map (rename ℓs next) ws
 -- A result tuple with its wires renamed likewise.
 abbrev pub renameTuple : List ℕ → ℕ → Tuple → Tuple
 renameTuple ℓs next (single w) = single (rename ℓs next w)
+renameTuple ℓs next empty = empty
 renameTuple ℓs next (both t u) = both (renameTuple ℓs next t) (renameTuple ℓs next u)
 
 -- 000, definition 2.13: the circuit after append. 01: "Apply copies the constant's gates in order".

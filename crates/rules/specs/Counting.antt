@@ -2,13 +2,14 @@
 -- it is used exactly once; none bound outside a lift is used inside it".
 use mathlib.Core.Bool.{Bool, true, false, _&&_}
 use Rattle.rules.specs.Terms.{Term, variable, label, gate, constant, abstraction, application, pair, let-in, lift}
-use Rattle.rules.specs.Terms.{force, box, apply}
+use Rattle.rules.specs.Terms.{force, box, apply, unit-value}
 
 -- Is this a term of a program file? Those have no circuit constants.
 abbrev pub source : Term → Bool
 source (variable n) = true
 source (label ℓ) = true
 source (gate n) = true
+source unit-value = true
 source (constant b) = false
 source (abstraction A M) = source M
 source (application M N) = source M && source N

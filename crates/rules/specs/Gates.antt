@@ -4,7 +4,7 @@ use mathlib.Core.Bool.{Bool, true, false}
 use mathlib.Core.List.{List, [], _∷_}
 use mathlib.Core.Option.{Option, none, some}
 use lib.ListN.{length}
-use Rattle.rules.specs.Types.{Wire, Bit, Qubit, Ty, wire, _⊗_, wires}
+use Rattle.rules.specs.Types.{Wire, Bit, Qubit, Ty, wire, unit, _⊗_, wires}
 
 -- The types of a gate: it is a constant of type Circ from input to output (01: "Gate types are Circ of these").
 pub data GateType : Type 0 where
@@ -12,7 +12,7 @@ pub data GateType : Type 0 where
 
 infix 50 _to_
 -- 01: "0 H, 1 X, 2 Z, 3 S, 4 T: Qubit to Qubit. 5 CNOT: a pair of Qubits to the same. 6 Meas: Qubit to Bit.
--- 7 BX, 8 BZ: a pair of Bit and Qubit to the same."
+-- 7 BX, 8 BZ: a pair of Bit and Qubit to the same." 02, ticket 5: "gates 9 Init, unit to Qubit, and 10 Discard, Bit to unit".
 abbrev pub gateTable : List GateType
 gateTable =
     (wire Qubit to wire Qubit)
@@ -24,6 +24,8 @@ gateTable =
     ∷ (wire Qubit to wire Bit)
     ∷ (wire Bit ⊗ wire Qubit to wire Bit ⊗ wire Qubit)
     ∷ (wire Bit ⊗ wire Qubit to wire Bit ⊗ wire Qubit)
+    ∷ (unit to wire Qubit)
+    ∷ (wire Bit to unit)
     ∷ []
 
 -- What stands at a place of a list, if anything.
@@ -41,7 +43,7 @@ abbrev pub isSome : Option GateType → Bool
 isSome none = false
 isSome (some g) = true
 
--- 01: "A label or gate has its number": is this number one of the nine gates?
+-- 01: "A label or gate has its number": is this number one of the gates?
 unfoldable pub isGate : ℕ → Bool
 isGate n = isSome (gateType n)
 

@@ -6,10 +6,10 @@ use mathlib.Core.List.{List, _∷_}
 use mathlib.Core.Option.{Option, none, some, Option·map}
 use lib.Dec.{T as IsTrue, eqb, leb}
 use Rattle.rules.specs.Types.{Ty, wire, _⊗_, _⊸_, !_, Circ, isWireType, copyable, entries, most-entries, Wire-discrete}
-use Rattle.rules.specs.Types.{Ty-discrete}
+use Rattle.rules.specs.Types.{Ty-discrete, unit}
 use Rattle.rules.specs.Gates.{GateType, _to_, nth, gateType}
 use Rattle.rules.specs.Terms.{Term, variable, label, gate, constant, abstraction, application, pair, let-in, lift}
-use Rattle.rules.specs.Terms.{force, box, apply}
+use Rattle.rules.specs.Terms.{force, box, apply, unit-value}
 use Rattle.rules.specs.Circuits.{one-if}
 use Rattle.rules.specs.Typing.{LabelContext}
 
@@ -22,6 +22,7 @@ abbrev pub uses : ℕ → Term → ℕ
 uses n (variable m) = one-if (eqb n m)
 uses n (label ℓ) = 0
 uses n (gate m) = 0
+uses n unit-value = 0
 uses n (constant b) = 0
 uses n (abstraction A M) = uses (suc n) M
 uses n (application M N) = uses n M + uses n N
@@ -37,6 +38,7 @@ abbrev pub labelUses : ℕ → Term → ℕ
 labelUses ℓ (variable m) = 0
 labelUses ℓ (label k) = one-if (eqb ℓ k)
 labelUses ℓ (gate m) = 0
+labelUses ℓ unit-value = 0
 labelUses ℓ (constant b) = 0
 labelUses ℓ (abstraction A M) = labelUses ℓ M
 labelUses ℓ (application M N) = labelUses ℓ M + labelUses ℓ N
@@ -50,6 +52,7 @@ labelUses ℓ (apply M N) = labelUses ℓ M + labelUses ℓ N
 -- The halves of a pair type, if it is one.
 abbrev pub asPair : Ty → Option (Ty × Ty)
 asPair (wire α) = none
+asPair unit = none
 asPair (A ⊗ B) = some (A, B)
 asPair (A ⊸ B) = none
 asPair (! A) = none
@@ -58,6 +61,7 @@ asPair (Circ T U) = none
 -- What a function type takes and gives, if it is one.
 abbrev pub asFunction : Ty → Option (Ty × Ty)
 asFunction (wire α) = none
+asFunction unit = none
 asFunction (A ⊗ B) = none
 asFunction (A ⊸ B) = some (A, B)
 asFunction (! A) = none
@@ -66,6 +70,7 @@ asFunction (Circ T U) = none
 -- 01: "force undoes it": the type of which a type is the reusable kind, if it is.
 abbrev pub asReusable : Ty → Option Ty
 asReusable (wire α) = none
+asReusable unit = none
 asReusable (A ⊗ B) = none
 asReusable (A ⊸ B) = none
 asReusable (! A) = some A
@@ -74,6 +79,7 @@ asReusable (Circ T U) = none
 -- What a circuit type takes and gives, if it is one.
 abbrev pub asCirc : Ty → Option (Ty × Ty)
 asCirc (wire α) = none
+asCirc unit = none
 asCirc (A ⊗ B) = none
 asCirc (A ⊸ B) = none
 asCirc (! A) = none
@@ -138,6 +144,7 @@ abbrev pub infer : List Ty → LabelContext → Term → Option Ty
 infer Γ Q (variable n) = nth Γ n
 infer Γ Q (label ℓ) = Option·map wire (Q ℓ)
 infer Γ Q (gate n) = Option·map gateNodeType (gateType n)
+infer Γ Q unit-value = some unit
 infer Γ Q (constant b) = none
 infer Γ Q (abstraction A M) = given (infer (A ∷ Γ) Q M) λ B. abstractionType A B
 infer Γ Q (application M N) = given (infer Γ Q M) λ F. given (infer Γ Q N) λ A. applicationType F A

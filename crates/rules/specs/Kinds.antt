@@ -20,6 +20,10 @@ reusable-kind = 4
 abbrev pub circuit-kind : ℕ
 circuit-kind = 5
 
+-- 02, ticket 5: "a unit type (type kind 6), its value (term kind 27), both without parts".
+abbrev pub unit-kind : ℕ
+unit-kind = 6
+
 -- 01, term section: "16 variable, 17 label, 26 gate (no parts); 18 abstraction, 22 lift, 23 force, 24 box (one);
 -- 19 application, 20 pair, 21 let, 25 apply (two)."
 abbrev pub variable-kind : ℕ
@@ -54,6 +58,9 @@ apply-kind = 25
 
 abbrev pub gate-kind : ℕ
 gate-kind = 26
+
+abbrev pub unit-value-kind : ℕ
+unit-value-kind = 27
 
 -- A circuit constant, which no file has: the machine's own kind.
 abbrev pub constant-kind : ℕ

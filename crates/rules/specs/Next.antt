@@ -7,7 +7,7 @@ use Rattle.rules.specs.Types.{Ty, wires}
 use Rattle.rules.specs.Gates.{GateType, _to_, gateType}
 use Rattle.rules.specs.Terms.{Tuple, single, both, tupleFrom, Gate, Boxed, boxed, Term, variable, label, gate}
 use Rattle.rules.specs.Terms.{constant, abstraction, application, pair, let-in, lift, force, box, apply, value, tuple}
-use Rattle.rules.specs.Terms.{substitute}
+use Rattle.rules.specs.Terms.{substitute, unit-value, empty}
 use Rattle.rules.specs.Circuits.{Circuit, circuit, appended, returned, gateBoxed}
 use Rattle.rules.specs.Contexts.{EvaluationContext, hole, application-left, application-right, pair-left, pair-right}
 use Rattle.rules.specs.Contexts.{let-first, force-of, box-of, apply-left, apply-right, plug}
@@ -36,6 +36,7 @@ abbrev pub find : (M : Term) → Found M
 find (variable n) = free
 find (label ℓ) = is-value tt
 find (gate n) = is-value tt
+find unit-value = is-value tt
 find (constant b) = is-value tt
 find (abstraction A M) = is-value tt
 find (application M N) =
@@ -63,6 +64,7 @@ abbrev pub tupleOf : Term → Option Tuple
 tupleOf (variable n) = none
 tupleOf (label ℓ) = some (single ℓ)
 tupleOf (gate n) = none
+tupleOf unit-value = some empty
 tupleOf (constant b) = none
 tupleOf (abstraction A M) = none
 tupleOf (application M N) = none
@@ -87,6 +89,7 @@ abbrev pub view : (M : Term) → View M
 view (variable n) = other-view (variable n)
 view (label ℓ) = other-view (label ℓ)
 view (gate n) = gate-view n
+view unit-value = other-view unit-value
 view (constant b) = constant-view b
 view (abstraction A M) = abstraction-view A M
 view (application M N) = other-view (application M N)
@@ -168,6 +171,7 @@ module _ (C : Circuit) (E : EvaluationContext) (X : List Frame) (K : List Boxed)
   stepRedex (variable n) = none
   stepRedex (label ℓ) = none
   stepRedex (gate n) = none
+  stepRedex unit-value = none
   stepRedex (constant b) = none
   stepRedex (abstraction A M) = none
   stepRedex (application M N) = stepApplication (view M) N
@@ -195,6 +199,7 @@ module _ (gs : List Gate) (r : Tuple) (C : Circuit) (X : List Frame) (K : List B
   closeRedex E (variable n) = none
   closeRedex E (label ℓ) = none
   closeRedex E (gate n) = none
+  closeRedex E unit-value = none
   closeRedex E (constant b) = none
   closeRedex E (abstraction A M) = none
   closeRedex E (application M N) = none

@@ -3,7 +3,7 @@ use Prim.Native.Nat.{ℕ, zero, suc, _+_, _≤_}
 use mathlib.Core.List.{List, [], _∷_}
 use lib.ListN.{length}
 use Rattle.rules.specs.Terms.{Boxed, boxed, Term, variable, label, gate, constant, abstraction, application, pair}
-use Rattle.rules.specs.Terms.{let-in, lift, force, box, apply}
+use Rattle.rules.specs.Terms.{let-in, lift, force, box, apply, unit-value}
 use Rattle.rules.specs.Circuits.{circuit}
 use Rattle.rules.specs.Steps.{Frame, frame, Configuration, configuration, _⟶_}
 
@@ -12,6 +12,7 @@ abbrev pub nodes : Term → ℕ
 nodes (variable n) = 1
 nodes (label ℓ) = 1
 nodes (gate n) = 1
+nodes unit-value = 1
 nodes (constant b) = 1
 nodes (abstraction A M) = 1 + nodes M
 nodes (application M N) = 1 + (nodes M + nodes N)

@@ -3,21 +3,25 @@ use Prim.Native.Nat.{ℕ, zero, suc, _+_}
 use mathlib.Core.Bool.{Bool, true, false, _&&_}
 use mathlib.Core.List.{List, [], _∷_, _++_}
 use lib.ListN.{length}
-use Rattle.rules.specs.Types.{Ty, wire, _⊗_, _⊸_, !_, Circ, wires}
+use Rattle.rules.specs.Types.{Ty, wire, unit, _⊗_, _⊸_, !_, Circ, wires}
 
--- 000, 2.2: label tuples, ℓ, k ::= ℓ | ⟨ℓ, k⟩.
+-- 000, 2.2: label tuples, ℓ, k ::= ℓ | ⟨ℓ, k⟩. 02, ticket 5: unit's value "counts there as part of a label tuple".
 pub data Tuple : Type 0 where
   single : ℕ → Tuple
+  empty : Tuple
   both : Tuple → Tuple → Tuple
 
 -- The labels of a tuple, left to right.
 abbrev pub labels : Tuple → List ℕ
 labels (single ℓ) = ℓ ∷ []
+labels empty = []
 labels (both t u) = labels t ++ labels u
 
--- The tuple of T's wires, numbered left to right from n (000, definition 2.12, with 01's numbering).
+-- The tuple of T's wires, numbered left to right from n (000, definition 2.12, with 01's numbering). 02, ticket 5: unit's "value
+-- stands in a tuple wherever the type has unit".
 abbrev pub tupleFrom : ℕ → Ty → Tuple
 tupleFrom n (wire α) = single n
+tupleFrom n unit = empty
 tupleFrom n (T ⊗ U) = both (tupleFrom n T) (tupleFrom (n + length (wires T)) U)
 tupleFrom n (A ⊸ B) = single n
 tupleFrom n (! A) = single n
@@ -33,10 +37,11 @@ pub data Boxed : Type 0 where
   boxed : Ty → List Gate → Tuple → Boxed
 
 -- 000, 2.2: M, N ::= x | ℓ | λx.M | M N | ⟨M, N⟩ | let ⟨x, y⟩ = M in N | lift M | force M | box_T M | apply(M, N) | (ℓ, C, ℓ').
--- 01 adds the gates as constants and the type of an abstraction's variable. A variable counts the binders between it
--- and its own; let binds two, 0 the second half and 1 the first.
+-- 01 adds the gates as constants and the type of an abstraction's variable, 02's ticket 5 unit's value. A variable counts the
+-- binders between it and its own; let binds two, 0 the second half and 1 the first.
 pub data Term : Type 0 where
   variable label gate : ℕ → Term
+  unit-value : Term
   constant : Boxed → Term
   abstraction : Ty → Term → Term
   application pair let-in : Term → Term → Term
@@ -44,11 +49,12 @@ pub data Term : Type 0 where
   box : Ty → Term → Term
   apply : Term → Term → Term
 
--- 000, 2.2: V, W ::= ℓ | λx.M | ⟨V, W⟩ | lift M | (ℓ, C, ℓ'). 01 adds the gates.
+-- 000, 2.2: V, W ::= ℓ | λx.M | ⟨V, W⟩ | lift M | (ℓ, C, ℓ'). 01 adds the gates, 02's ticket 5 unit's value.
 abbrev pub value : Term → Bool
 value (variable n) = false
 value (label ℓ) = true
 value (gate n) = true
+value unit-value = true
 value (constant b) = true
 value (abstraction A M) = true
 value (application M N) = false
@@ -62,6 +68,7 @@ value (apply M N) = false
 -- A label tuple as a term.
 abbrev pub tuple : Tuple → Term
 tuple (single ℓ) = label ℓ
+tuple empty = unit-value
 tuple (both t u) = pair (tuple t) (tuple u)
 
 -- The labels of a term in file order, every occurrence. The labels inside a circuit constant are its own and not the term's.
@@ -69,6 +76,7 @@ abbrev pub termLabels : Term → List ℕ
 termLabels (variable n) = []
 termLabels (label ℓ) = ℓ ∷ []
 termLabels (gate n) = []
+termLabels unit-value = []
 termLabels (constant b) = []
 termLabels (abstraction A M) = termLabels M
 termLabels (application M N) = termLabels M ++ termLabels N
@@ -97,6 +105,7 @@ abbrev pub under : ℕ → List Term → Term → Term
 under k Ws (variable n) = variableAt k Ws n (variable n)
 under k Ws (label ℓ) = label ℓ
 under k Ws (gate n) = gate n
+under k Ws unit-value = unit-value
 under k Ws (constant b) = constant b
 under k Ws (abstraction A M) = abstraction A (under (suc k) Ws M)
 under k Ws (application M N) = application (under k Ws M) (under k Ws N)

@@ -6,9 +6,10 @@ use lib.Dec.{T as IsTrue}
 use mathlib.Core.List.{List, [], _∷_}
 use mathlib.Core.Option.{Option, none, some}
 use Rattle.rules.specs.Types.{Wire, Ty, wire, _⊗_, _⊸_, !_, Circ, isWireType, copyable, wires, entries, most-entries}
+use Rattle.rules.specs.Types.{unit}
 use Rattle.rules.specs.Gates.{_to_, gateType}
 use Rattle.rules.specs.Terms.{Tuple, Gate, boxed, Term, variable, label, gate, constant, abstraction, application}
-use Rattle.rules.specs.Terms.{pair, let-in, lift, force, box, apply, tuple}
+use Rattle.rules.specs.Terms.{pair, let-in, lift, force, box, apply, tuple, unit-value}
 use Rattle.rules.specs.Circuits.{Sound, loose}
 
 -- A typing context gives each variable in scope, innermost first, a type, or none where another part of the term has it.
@@ -83,6 +84,10 @@ pub data _∣_⊢_∶_ : Context → LabelContext → Term → Ty → Type 0 whe
   by-gate : {Γ : Context} {Q : LabelContext} {n : ℕ} {T U : Ty}
       → Parameter Γ → NoLabel Q → gateType n ≡ some (T to U)
       → Γ ∣ Q ⊢ gate n ∶ Circ T U
+  -- 02, ticket 5: unit's value has no label, and its type "may be copied and dropped".
+  by-unit : {Γ : Context} {Q : LabelContext}
+      → Parameter Γ → NoLabel Q
+      → Γ ∣ Q ⊢ unit-value ∶ unit
   -- 01: "A constant has type Circ from T to U if its circuit is sound with T's wires as inputs, and its result, the
   -- label tuple at box exit, has type U and holds each loose wire exactly once."
   by-circ : {Γ : Context} {Q : LabelContext} {T U : Ty} {gs : List Gate} {r : Tuple}

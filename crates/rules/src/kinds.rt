@@ -1,4 +1,4 @@
-// The kinds of 01's type section and term section, by name.
+// The kinds of 01's type section and term section and of 02's unit, by name.
 
 // Types.
 pub const BIT: usize = 0;
@@ -12,6 +12,8 @@ pub const FUNCTION: usize = 3;
 pub const REUSABLE: usize = 4;
 
 pub const CIRCUIT: usize = 5;
+
+pub const UNIT: usize = 6;
 
 // Terms.
 pub const VARIABLE: usize = 16;
@@ -35,6 +37,8 @@ pub const BOX: usize = 24;
 pub const APPLY: usize = 25;
 
 pub const GATE: usize = 26;
+
+pub const UNIT_VALUE: usize = 27;
 
 // A circuit constant, which no file has: the machine's own kind.
 pub const CONSTANT: usize = 32;

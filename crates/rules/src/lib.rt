@@ -13,7 +13,7 @@ ghost use Rattle.rules.specs.GateCodes.{takenCode, madeCode, typeEntries
 ghost use Rattle.rules.specs.Gates.{isGate};
 
 // How many gates there are, and the most entries of a gate's type.
-pub const GATES: usize = 9;
+pub const GATES: usize = 11;
 
 const MOST_TYPE: usize = 7;
 
@@ -22,19 +22,19 @@ const NONE: u8 = 255;
 
 // How many wires each gate takes, how many it makes, and how many entries its type has. The compiled code builds a constant
 // table at each lookup, so the numbers that are asked for often stand in small tables of their own.
-const WIRES_IN: [u8; GATES] = [1, 1, 1, 1, 1, 2, 1, 2, 2];
+const WIRES_IN: [u8; GATES] = [1, 1, 1, 1, 1, 2, 1, 2, 2, 0, 1];
 
-const WIRES_OUT: [u8; GATES] = [1, 1, 1, 1, 1, 2, 1, 2, 2];
+const WIRES_OUT: [u8; GATES] = [1, 1, 1, 1, 1, 2, 1, 2, 2, 1, 0];
 
-const TYPE_ENTRIES: [u8; GATES] = [3, 3, 3, 3, 3, 7, 3, 7, 7];
+const TYPE_ENTRIES: [u8; GATES] = [3, 3, 3, 3, 3, 7, 3, 7, 7, 3, 3];
 
 // The types of the wires that each gate takes and makes, in one number: digits of base 4, that of the first wire the lowest, 1 for
 // Bit and 2 for Qubit. One lookup gives all of them.
-const TAKEN_CODES: [u8; GATES] = [2, 2, 2, 2, 2, 10, 2, 9, 9];
+const TAKEN_CODES: [u8; GATES] = [2, 2, 2, 2, 2, 10, 2, 9, 9, 0, 1];
 
-const MADE_CODES: [u8; GATES] = [2, 2, 2, 2, 2, 10, 1, 9, 9];
+const MADE_CODES: [u8; GATES] = [2, 2, 2, 2, 2, 10, 1, 9, 9, 2, 0];
 
-// The type of each gate in preorder, by 01's type section: 0 Bit, 1 Qubit, 2 pair, 5 circuit.
+// The type of each gate in preorder, by 01's type section: 0 Bit, 1 Qubit, 2 pair, 5 circuit; 6 unit.
 const TYPE_CODES: [[u8; MOST_TYPE]; GATES] = [
     // 0 H
     [5, 1, 1, NONE, NONE, NONE, NONE],
@@ -54,6 +54,10 @@ const TYPE_CODES: [[u8; MOST_TYPE]; GATES] = [
     [5, 2, 0, 1, 2, 0, 1],
     // 8 BZ
     [5, 2, 0, 1, 2, 0, 1],
+    // 9 Init
+    [5, 6, 1, NONE, NONE, NONE, NONE],
+    // 10 Discard
+    [5, 0, 6, NONE, NONE, NONE, NONE],
 ];
 
 // A byte as a number. Of `b[i] as usize` a proof would have to say that the byte fits.

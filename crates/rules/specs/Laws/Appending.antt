@@ -9,16 +9,16 @@ use native.Mathlib.Omega.{arith}
 use native.Mathlib.Nat.{zero-add, add-zero, suc-add}
 use lib.Dec.{T as IsTrue, eqb, leb, leb→le}
 use lib.ListN.{length, length-append}
-use Rattle.rules.specs.Types.{Wire, Ty, wire, _⊗_, _⊸_, !_, Circ, isWireType, wires, entries, most-entries}
+use Rattle.rules.specs.Types.{Wire, Ty, wire, _⊗_, _⊸_, !_, Circ, isWireType, wires, entries, most-entries, unit}
 use Rattle.rules.specs.Gates.{GateType, _to_, gateTable, nth, gateType, outputWires, gateOutputs}
 use Rattle.rules.specs.Terms.{Tuple, single, both, labels, tupleFrom, Gate, _on_, Term, variable, label, gate}
 use Rattle.rules.specs.Terms.{constant, abstraction, application, pair, let-in, lift, force, box, apply, tuple}
-use Rattle.rules.specs.Terms.{termLabels}
+use Rattle.rules.specs.Terms.{termLabels, unit-value, empty}
 use Rattle.rules.specs.Circuits.{outputs, numbers, madeBy, taken, count, OfTypes, wires-end, next-wire, TakesEarlier}
 use Rattle.rules.specs.Circuits.{no-gate, next-gate, Sound, if-none, loose, GoneOnce, rename, renameGate, renameTuple}
 use Rattle.rules.specs.Circuits.{gateBoxed}
 use Rattle.rules.specs.Typing.{LabelContext, Shares, nowhere, left, right, copied, split-end, Never, SplitsLabels}
-use Rattle.rules.specs.Typing.{parameters-end, OnlyLabel, Bounded, _∣_⊢_∶_, by-label, by-circ, by-tuple}
+use Rattle.rules.specs.Typing.{parameters-end, OnlyLabel, Bounded, _∣_⊢_∶_, by-label, by-circ, by-tuple, by-unit}
 use Rattle.rules.specs.Inference.{labelUses}
 use Rattle.rules.specs.Theorems.Counting.{closed→plain, has→counted, plain-unused}
 use Rattle.rules.specs.Laws.Wires.{Compared, equal, unequal, compared, one-if-equal, one-if-unequal, count-append}
@@ -112,10 +112,16 @@ segment-single n α = (there n, others n)
     others (suc n) zero f = refl
     others (suc n) (suc k) f = others n k (λ p. f (ap suc p))
 
+segment-none : (n k : ℕ) → segment n [] k ≡ none
+segment-none zero k = refl
+segment-none (suc n) zero = refl
+segment-none (suc n) (suc k) = segment-none n k
+
 -- The tuple of T's wires, numbered from n on, has type T.
 pub tupleFrom-typed : (n : ℕ) (T : Ty) → IsTrue (isWireType T) → Bounded T
     → [] ∣ segment n (wires T) ⊢ tuple (tupleFrom n T) ∶ T
 tupleFrom-typed n (wire α) t b = by-label parameters-end (segment-single n α)
+tupleFrom-typed n unit t b = by-unit parameters-end (segment-none n)
 tupleFrom-typed n (A ⊗ B) t b =
     by-tuple
     b
@@ -146,6 +152,7 @@ uses-counted : (ℓ : ℕ) (M : Term) → count ℓ (termLabels M) ≡ labelUses
 uses-counted ℓ (variable n) = refl
 uses-counted ℓ (label k) = omega arith
 uses-counted ℓ (gate n) = refl
+uses-counted ℓ unit-value = refl
 uses-counted ℓ (constant b) = refl
 uses-counted ℓ (abstraction A M) = uses-counted ℓ M
 uses-counted ℓ (application M N) = uses-of-two ℓ M N (uses-counted ℓ M) (uses-counted ℓ N)
@@ -168,6 +175,7 @@ labels-once {Q} {M} d ℓ = uses-counted ℓ M ∙ of (Q ℓ) refl
 -- The labels of a label tuple are those of the term that it is.
 pub labels-of-tuple : (r : Tuple) → termLabels (tuple r) ≡ labels r
 labels-of-tuple (single ℓ) = refl
+labels-of-tuple empty = refl
 labels-of-tuple (both t u) = ap₂ _++_ (labels-of-tuple t) (labels-of-tuple u)
 
 pub tuple-labels-once : (r : Tuple) {Q : LabelContext} {U : Ty}
@@ -227,6 +235,7 @@ labels-of-types : (k : Tuple) {Q : LabelContext} {T : Ty} (types : List Wire)
     → [] ∣ Q ⊢ tuple k ∶ T
     → OfTypes types (labels k) (wires T)
 labels-of-types (single ℓ) types known (by-label {α = α} p o) = next-wire (known ℓ α (o .0)) wires-end
+labels-of-types empty types known (by-unit p n) = wires-end
 labels-of-types (both t u) types known (by-tuple b split-end s d e) =
     of-types-append
     (labels-of-types t types (λ ℓ α p. known ℓ α (shares-some-left (s ℓ) p)) d)
@@ -392,6 +401,11 @@ rename-has ℓs b d (single w) {Q = Q} (by-label p o) =
     others : (v : ℕ) → v ≢ rename ℓs b w → (x : Option ℕ) → Renamed ℓs b v x → atSome Q x ≡ none
     others v f _ (from-wire {u = u} q) = o .1 u (λ e. f (sym q ∙ ap (rename ℓs b) e))
     others v f _ (from-none c h) = refl
+rename-has ℓs b d empty {Q = Q} (by-unit p n) = by-unit p (λ v. at (origin ℓs b v))
+  where
+    at : (x : Option ℕ) → atSome Q x ≡ none
+    at none = refl
+    at (some v) = n v
 rename-has ℓs b d (both t u) {Q = Q} (by-tuple {Q₁ = Q₁} {Q₂ = Q₂} n split-end s e f) =
     by-tuple n split-end (λ v. splits-at (origin ℓs b v)) (rename-has ℓs b d t e) (rename-has ℓs b d u f)
   where

@@ -4,10 +4,10 @@ use mathlib.Core.Path.{_≡_}
 use mathlib.Core.List.{List, [], _∷_}
 use mathlib.Core.Option.{some}
 use lib.Dec.{T as IsTrue}
-use Rattle.rules.specs.Types.{Wire, Ty, wire, _⊗_, _⊸_, !_, Circ, isWireType, wires}
+use Rattle.rules.specs.Types.{Wire, Ty, wire, _⊗_, _⊸_, !_, Circ, isWireType, wires, unit}
 use Rattle.rules.specs.Gates.{_to_, nth, gateType}
 use Rattle.rules.specs.Terms.{Tuple, Gate, boxed, Term, variable, label, gate, constant, abstraction, application}
-use Rattle.rules.specs.Terms.{pair, let-in, lift, force, box, apply, tuple}
+use Rattle.rules.specs.Terms.{pair, let-in, lift, force, box, apply, tuple, unit-value}
 use Rattle.rules.specs.Circuits.{Sound, loose}
 use Rattle.rules.specs.Typing.{LabelContext, Bounded, _∣_⊢_∶_}
 use Rattle.rules.specs.Inference.{uses, labelUses, Linear}
@@ -19,6 +19,7 @@ pub data Plain : List Ty → LabelContext → Term → Ty → Type 0 where
   plain-gate : {Γ : List Ty} {Q : LabelContext} {n : ℕ} {T U : Ty}
       → gateType n ≡ some (T to U)
       → Plain Γ Q (gate n) (Circ T U)
+  plain-unit : {Γ : List Ty} {Q : LabelContext} → Plain Γ Q unit-value unit
   plain-circ : {Γ : List Ty} {Q : LabelContext} {T U : Ty} {gs : List Gate} {r : Tuple}
       → IsTrue (isWireType T) → Bounded (Circ T U) → Sound (wires T) gs
       → [] ∣ loose (wires T) gs ⊢ tuple r ∶ U
@@ -51,6 +52,7 @@ abbrev pub BoundOnce : {Γ : List Ty} {Q : LabelContext} {M : Term} {A : Ty} →
 BoundOnce (plain-var h) = Unit
 BoundOnce (plain-label h) = Unit
 BoundOnce (plain-gate h) = Unit
+BoundOnce plain-unit = Unit
 BoundOnce (plain-circ t b s d) = Unit
 BoundOnce (plain-abs {A = A} {M = M} b d) = (Linear A → uses 0 M ≡ 1) × BoundOnce d
 BoundOnce (plain-app d e) = BoundOnce d × BoundOnce e
@@ -67,6 +69,7 @@ abbrev pub NoneCrosses : {Γ : List Ty} {Q : LabelContext} {M : Term} {A : Ty} �
 NoneCrosses (plain-var h) = Unit
 NoneCrosses (plain-label h) = Unit
 NoneCrosses (plain-gate h) = Unit
+NoneCrosses plain-unit = Unit
 NoneCrosses (plain-circ t b s d) = Unit
 NoneCrosses (plain-abs b d) = NoneCrosses d
 NoneCrosses (plain-app d e) = NoneCrosses d × NoneCrosses e

@@ -9,11 +9,11 @@ use lib.Dec.{T as IsTrue}
 use Rattle.rules.specs.Types.{Ty, wire, _⊗_, _⊸_, !_, Circ, isWireType, copyable}
 use Rattle.rules.specs.Gates.{GateType, _to_, nth, gateTable, gateType}
 use Rattle.rules.specs.Terms.{Tuple, single, both, Boxed, boxed, Term, variable, label, gate, constant, abstraction}
-use Rattle.rules.specs.Terms.{pair, lift, value, tuple, termAt, variableAt, under, substitute}
+use Rattle.rules.specs.Terms.{pair, lift, value, tuple, termAt, variableAt, under, substitute, empty}
 use Rattle.rules.specs.Typing.{Context, LabelContext, Copyable, nowhere, left, right, copied, Splits, split-end}
 use Rattle.rules.specs.Typing.{_then_, SplitsLabels, Parameter, parameters-end, absent, parameter, Variable, here}
 use Rattle.rules.specs.Typing.{past-absent, past-parameter, NoLabel, _∣_⊢_∶_, by-var, by-label, by-gate, by-circ}
-use Rattle.rules.specs.Typing.{by-abs, by-app, by-tuple, by-let, by-lift, by-force, by-box, by-apply}
+use Rattle.rules.specs.Typing.{by-abs, by-app, by-tuple, by-let, by-lift, by-force, by-box, by-apply, by-unit}
 use Rattle.rules.specs.Contexts.{EvaluationContext, hole, application-left, application-right, pair-left, pair-right}
 use Rattle.rules.specs.Contexts.{let-first, force-of, box-of, apply-left, apply-right, plug}
 use Rattle.rules.specs.Laws.Labels.{splits-swap, join, splits-regroup, splits-regroup-right, splits-none-right}
@@ -27,6 +27,7 @@ pub copyable-no-label : {Q : LabelContext} {W : Term} {A : Ty}
 copyable-no-label v c (by-var x n) = n
 copyable-no-label v c (by-label p o) = absurd c
 copyable-no-label v c (by-gate p n e) = n
+copyable-no-label v c (by-unit p n) = n
 copyable-no-label v c (by-circ p n w b h t) = n
 copyable-no-label v c (by-abs b t) = absurd c
 copyable-no-label v c (by-app g s t u) = absurd v
@@ -165,6 +166,7 @@ pub canonical-wires : {Q : LabelContext} {W : Term} {T : Ty}
 canonical-wires w v (by-var x n) = absurd v
 canonical-wires w v (by-label {ℓ = ℓ} p o) = (single ℓ, refl)
 canonical-wires w v (by-gate p n e) = absurd w
+canonical-wires w v (by-unit p n) = (empty, refl)
 canonical-wires w v (by-circ p n w′ b h t) = absurd w
 canonical-wires w v (by-abs b t) = absurd w
 canonical-wires w v (by-app g s t u) = absurd v
@@ -293,6 +295,7 @@ weaken : {k : ℕ} {Γ Δ G : Context} {Q : LabelContext} {M : Term} {A : Ty}
 weaken p e (by-var x n) = by-var (variable-parameter-end p e x) n
 weaken p e (by-label q o) = by-label (parameter-appends e q p) o
 weaken p e (by-gate q n d) = by-gate (parameter-appends e q p) n d
+weaken p e (by-unit q n) = by-unit (parameter-appends e q p) n
 weaken p e (by-circ q n w b h t) = by-circ (parameter-appends e q p) n w b h t
 weaken p e (by-abs b t) = by-abs b (weaken p (appends-next e) t)
 weaken p e (by-app g s t u) =
@@ -402,6 +405,8 @@ substitution {Γ = Γ} e vs s (by-label {ℓ = ℓ} {α = α} p o) =
     subst (λ S. Γ ∣ S ⊢ label ℓ ∶ wire α) (sym (splits-right-none (values-parameter (q .1) vs) s)) (by-label (q .0) o)
 substitution e vs s (by-gate p n d) =
     let q = appends-parameter e p in by-gate (q .0) (no-label-whole n (values-parameter (q .1) vs) s) d
+substitution e vs s (by-unit p n) =
+    let q = appends-parameter e p in by-unit (q .0) (no-label-whole n (values-parameter (q .1) vs) s)
 substitution e vs s (by-circ p n w b h t) =
     let q = appends-parameter e p in by-circ (q .0) (no-label-whole n (values-parameter (q .1) vs) s) w b h t
 substitution e vs s (by-abs b t) = by-abs b (substitution (appends-next e) vs s t)

@@ -3,11 +3,12 @@ use Prim.Native.Nat.{_<_}
 use native.Mathlib.Omega.{arith}
 use mathlib.Core.Path.{_≡_, refl}
 use lib.ListN.{length, length-append}
-use Rattle.rules.specs.Types.{Wire, Bit, Qubit, Ty, wire, _⊗_, _⊸_, !_, Circ, entries, wireCode, typeCodes}
+use Rattle.rules.specs.Types.{Wire, Bit, Qubit, Ty, wire, _⊗_, _⊸_, !_, Circ, entries, wireCode, typeCodes, unit}
 
 -- The codes of a type are as many as its entries.
 pub typeCodes-entries : (A : Ty) → length (typeCodes A) ≡ entries A
 typeCodes-entries (wire α) = refl
+typeCodes-entries unit = refl
 typeCodes-entries (A ⊗ B) = rw (length-append, typeCodes-entries A, typeCodes-entries B) (omega arith)
 typeCodes-entries (A ⊸ B) = rw (length-append, typeCodes-entries A, typeCodes-entries B) (omega arith)
 typeCodes-entries (! A) = rw (typeCodes-entries A) (omega arith)
@@ -16,6 +17,7 @@ typeCodes-entries (Circ T U) = rw (length-append, typeCodes-entries T, typeCodes
 -- A type has at least one entry.
 pub entries-positive : (A : Ty) → 0 < entries A
 entries-positive (wire α) = omega arith
+entries-positive unit = omega arith
 entries-positive (A ⊗ B) = omega arith
 entries-positive (A ⊸ B) = omega arith
 entries-positive (! A) = omega arith

@@ -10,17 +10,17 @@ use native.Mathlib.Omega.{arith}
 use lib.Dec.{T as IsTrue, eqb, eqb→eq, eqb-refl, eqb·zero-suc, eqb·suc-zero, eqb·suc-suc, T-not}
 use Rattle.rules.specs.Types.{Wire, Ty, _⊗_, copyable}
 use Rattle.rules.specs.Gates.{nth}
-use Rattle.rules.specs.Terms.{Tuple, single, both, Term, tuple}
+use Rattle.rules.specs.Terms.{Tuple, single, both, Term, tuple, empty}
 use Rattle.rules.specs.Circuits.{one-if}
 use Rattle.rules.specs.Typing.{Context, LabelContext, Copyable, Shares, nowhere, left, right, copied, Splits}
 use Rattle.rules.specs.Typing.{split-end, _then_, Never, SplitsLabels, Parameter, parameters-end, absent, parameter}
 use Rattle.rules.specs.Typing.{Variable, here, past-absent, past-parameter, NoLabel, OnlyLabel, _∣_⊢_∶_, by-var}
 use Rattle.rules.specs.Typing.{by-label, by-gate, by-circ, by-abs, by-app, by-tuple, by-let, by-lift, by-force, by-box}
-use Rattle.rules.specs.Typing.{by-apply}
+use Rattle.rules.specs.Typing.{by-apply, by-unit}
 use Rattle.rules.specs.Inference.{uses, labelUses, Linear}
 use Rattle.rules.specs.Laws.Counting.{Plain, plain-var, plain-label, plain-gate, plain-circ, plain-abs, plain-app}
 use Rattle.rules.specs.Laws.Counting.{plain-tuple, plain-let, plain-lift, plain-force, plain-box, plain-apply}
-use Rattle.rules.specs.Laws.Counting.{BoundOnce, NoneCrosses, Counted}
+use Rattle.rules.specs.Laws.Counting.{BoundOnce, NoneCrosses, Counted, plain-unit}
 use Rattle.rules.specs.Laws.Booleans.{is-true, is-false}
 
 -- The context of a part of a term against the types of all variables in scope: a variable that is the part's own has
@@ -77,6 +77,7 @@ has→plain : {Γ : Context} {Δ : List Ty} {Q : LabelContext} (P : LabelContext
 has→plain P p q (by-var v n) = plain-var (variable-type v p)
 has→plain P p q (by-label {ℓ = ℓ} {α = α} h o) = plain-label (q ℓ α (o .0))
 has→plain P p q (by-gate h n e) = plain-gate e
+has→plain P p q (by-unit h n) = plain-unit
 has→plain P p q (by-circ h n t b s d) = plain-circ t b s d
 has→plain P p q (by-abs b d) = plain-abs b (has→plain P (present p) q d)
 has→plain P p q (by-app {Q = Q} {Q₁ = Q₁} {Q₂ = Q₂} s l d e) =
@@ -107,6 +108,7 @@ closed→plain {Q} d = has→plain Q part-end (λ ℓ α e. e) d
 tuple-unique : (r : Tuple) {Γ : List Ty} {Q : LabelContext} {A B : Ty}
     → Plain Γ Q (tuple r) A → Plain Γ Q (tuple r) B → A ≡ B
 tuple-unique (single ℓ) (plain-label h) (plain-label k) = cc
+tuple-unique empty plain-unit plain-unit = refl
 tuple-unique (both t u) (plain-tuple b d e) (plain-tuple c f g) =
     let x = tuple-unique t d f in
     let y = tuple-unique u e g in
@@ -117,6 +119,7 @@ pub plain-unique : {Γ : List Ty} {Q : LabelContext} {M : Term} {A B : Ty} → P
 plain-unique (plain-var h) (plain-var k) = cc
 plain-unique (plain-label h) (plain-label k) = cc
 plain-unique (plain-gate h) (plain-gate k) = cc
+plain-unique plain-unit plain-unit = refl
 plain-unique (plain-circ {r = r} t b s d) (plain-circ t′ b′ s′ d′) =
     let x = tuple-unique r (closed→plain d) (closed→plain d′) in
     cc
@@ -255,6 +258,7 @@ has→variables : {Γ : Context} {Q : LabelContext} {M : Term} {A : Ty} → Γ �
 has→variables (by-var v n) = variable-right v
 has→variables (by-label h o) = unused-right h
 has→variables (by-gate h n e) = unused-right h
+has→variables (by-unit h n) = unused-right h
 has→variables (by-circ h n t b s d) = unused-right h
 has→variables (by-abs b d) = has→variables d .1
 has→variables (by-app {M = M} {N = N} s l d e) =
@@ -294,6 +298,7 @@ has→labels : {Γ : Context} {Q : LabelContext} {M : Term} {A : Ty} → Γ ∣ 
 has→labels (by-var {Q = Q} v n) = no-label-right Q n
 has→labels (by-label {Q = Q} {ℓ = ℓ} {α = α} h o) = only-label-right Q ℓ α o
 has→labels (by-gate {Q = Q} h n e) = no-label-right Q n
+has→labels (by-unit {Q = Q} h n) = no-label-right Q n
 has→labels (by-circ {Q = Q} h n t b s d) = no-label-right Q n
 has→labels (by-abs b d) = has→labels d
 has→labels (by-app {Q = Q} {Q₁ = Q₁} {Q₂ = Q₂} {M = M} {N = N} s l d e) =
@@ -315,6 +320,7 @@ unfolding has→plain
 has→bound-once P p q (by-var v n) = tt
 has→bound-once P p q (by-label h o) = tt
 has→bound-once P p q (by-gate h n e) = tt
+has→bound-once P p q (by-unit h n) = tt
 has→bound-once P p q (by-circ h n t b s d) = tt
 has→bound-once P p q (by-abs b d) = (has→variables d .0, has→bound-once P (present p) q d)
 has→bound-once P p q (by-app {Q = Q} {Q₁ = Q₁} {Q₂ = Q₂} s l d e) = (
@@ -362,6 +368,7 @@ unfolding has→plain
 has→none-crosses P p q (by-var v n) = tt
 has→none-crosses P p q (by-label h o) = tt
 has→none-crosses P p q (by-gate h n e) = tt
+has→none-crosses P p q (by-unit h n) = tt
 has→none-crosses P p q (by-circ h n t b s d) = tt
 has→none-crosses P p q (by-abs b d) = has→none-crosses P (present p) q d
 has→none-crosses P p q (by-app {Q = Q} {Q₁ = Q₁} {Q₂ = Q₂} s l d e) = (
@@ -491,6 +498,8 @@ plain→has {Γ} {Δ} {Q} P p q (plain-label {ℓ = ℓ} {α = α} e) v l b c =
     by-label (zero→parameter p v) (right→only-label Q P ℓ α q e l)
 plain→has {Γ} {Δ} {Q} P p q (plain-gate e) v l b c =
     by-gate (zero→parameter p v) (λ ℓ. unused-label (Q ℓ) 0 (l ℓ) refl) e
+plain→has {Γ} {Δ} {Q} P p q plain-unit v l b c =
+    by-unit (zero→parameter p v) (λ ℓ. unused-label (Q ℓ) 0 (l ℓ) refl)
 plain→has {Γ} {Δ} {Q} P p q (plain-circ t m s d) v l b c =
     by-circ (zero→parameter p v) (λ ℓ. unused-label (Q ℓ) 0 (l ℓ) refl) t m s d
 plain→has {Γ} {Δ} {Q} P p q (plain-abs m d) v l b c = by-abs m (plain→has P (present p) q d (b .0, v) l (b .1) c)
@@ -539,6 +548,7 @@ plain-unused {Q = Q} (plain-label {ℓ = k} {α = α} e) ℓ n = go (eqb ℓ k) 
         absurd (Option·some-ne-none α (sym e ∙ ap Q (sym x) ∙ n))
     go false h = refl
 plain-unused (plain-gate e) ℓ n = refl
+plain-unused plain-unit ℓ n = refl
 plain-unused (plain-circ t b s d) ℓ n = refl
 plain-unused (plain-abs b d) ℓ n = plain-unused d ℓ n
 plain-unused (plain-app d e) ℓ n =

@@ -8,7 +8,7 @@ use lib.Dec.{T as IsTrue, T-prop}
 use Rattle.rules.specs.Types.{Wire, Ty}
 use Rattle.rules.specs.Gates.{GateType, _to_, gateType}
 use Rattle.rules.specs.Terms.{Tuple, single, both, Gate, Boxed, Term, variable, label, gate, constant, abstraction}
-use Rattle.rules.specs.Terms.{application, pair, let-in, lift, force, box, apply, value, tuple}
+use Rattle.rules.specs.Terms.{application, pair, let-in, lift, force, box, apply, value, tuple, unit-value, empty}
 use Rattle.rules.specs.Circuits.{Circuit, circuit}
 use Rattle.rules.specs.Contexts.{EvaluationContext, hole, application-left, application-right, pair-left, pair-right}
 use Rattle.rules.specs.Contexts.{let-first, force-of, box-of, apply-left, apply-right, plug}
@@ -41,6 +41,7 @@ pub find-value : (W : Term) (v : IsTrue (value W)) → find W ≡ is-value v
 find-value (variable n) v = absurd v
 find-value (label ℓ) v = refl
 find-value (gate n) v = refl
+find-value unit-value v = refl
 find-value (constant b) v = refl
 find-value (abstraction A M) v = refl
 find-value (application M N) v = absurd v
@@ -93,6 +94,7 @@ find-finds : (M : Term) → Finds M (find M)
 find-finds (variable n) = tt
 find-finds (label ℓ) = tt
 find-finds (gate n) = tt
+find-finds unit-value = tt
 find-finds (constant b) = tt
 find-finds (abstraction A M) = tt
 find-finds (application M N) =
@@ -121,11 +123,13 @@ find-is-proto M E R e = subst (Finds M) e (find-finds M) .0
 -- A label tuple is a value.
 pub tuple-value : (k : Tuple) → IsTrue (value (tuple k))
 tuple-value (single ℓ) = tt
+tuple-value empty = tt
 tuple-value (both t u) = both-values (tuple t) (tuple u) (tuple-value t) (tuple-value u)
 
 -- The step function reads a label tuple as itself.
 pub tupleOf-tuple : (k : Tuple) → tupleOf (tuple k) ≡ some k
 tupleOf-tuple (single ℓ) = refl
+tupleOf-tuple empty = refl
 tupleOf-tuple (both t u) = rw (tupleOf-tuple t, tupleOf-tuple u)
 
 abbrev Reads : Term → Option Tuple → Type 0
@@ -141,6 +145,7 @@ tupleOf-reads : (M : Term) → Reads M (tupleOf M)
 tupleOf-reads (variable n) = tt
 tupleOf-reads (label ℓ) = refl
 tupleOf-reads (gate n) = tt
+tupleOf-reads unit-value = refl
 tupleOf-reads (constant b) = tt
 tupleOf-reads (abstraction A M) = tt
 tupleOf-reads (application M N) = tt

@@ -6,13 +6,14 @@ use mathlib.Core.List.{List, [], _∷_}
 use mathlib.Core.Option.{Option, none, some, Option·map, Option·some-ne-none}
 use lib.Dec.{T as IsTrue, leb, leb→le, le→leb}
 use Rattle.rules.specs.Types.{Wire, Ty, wire, _⊗_, _⊸_, !_, Circ, isWireType, entries, most-entries, Wire-discrete}
-use Rattle.rules.specs.Types.{Ty-discrete}
+use Rattle.rules.specs.Types.{Ty-discrete, unit}
 use Rattle.rules.specs.Gates.{GateType, _to_, gateType}
 use Rattle.rules.specs.Terms.{Term, variable, label, gate, constant, abstraction, application, pair, let-in, lift}
-use Rattle.rules.specs.Terms.{force, box, apply}
+use Rattle.rules.specs.Terms.{force, box, apply, unit-value}
 use Rattle.rules.specs.Typing.{LabelContext, Bounded, _∣_⊢_∶_}
 use Rattle.rules.specs.Laws.Counting.{Plain, plain-var, plain-label, plain-gate, plain-circ, plain-abs, plain-app}
 use Rattle.rules.specs.Laws.Counting.{plain-tuple, plain-let, plain-lift, plain-force, plain-box, plain-apply, Counted}
+use Rattle.rules.specs.Laws.Counting.{plain-unit}
 use Rattle.rules.specs.Inference.{asPair, asFunction, asReusable, asCirc, given, if-true, isYes, same, if-bounded}
 use Rattle.rules.specs.Inference.{gateNodeType, infer}
 use Rattle.rules.specs.Counting.{source}
@@ -57,6 +58,7 @@ some-bounded A b = true-some (leb (entries A) most-entries) A (le→leb (entries
 
 as-pair : (A : Ty) (p : Ty × Ty) → asPair A ≡ some p → A ≡ p .0 ⊗ p .1
 as-pair (wire α) p e = absurd (Option·some-ne-none p (sym e))
+as-pair unit p e = absurd (Option·some-ne-none p (sym e))
 as-pair (A ⊗ B) p e = cc
 as-pair (A ⊸ B) p e = absurd (Option·some-ne-none p (sym e))
 as-pair (! A) p e = absurd (Option·some-ne-none p (sym e))
@@ -64,6 +66,7 @@ as-pair (Circ T U) p e = absurd (Option·some-ne-none p (sym e))
 
 as-function : (A : Ty) (p : Ty × Ty) → asFunction A ≡ some p → A ≡ p .0 ⊸ p .1
 as-function (wire α) p e = absurd (Option·some-ne-none p (sym e))
+as-function unit p e = absurd (Option·some-ne-none p (sym e))
 as-function (A ⊗ B) p e = absurd (Option·some-ne-none p (sym e))
 as-function (A ⊸ B) p e = cc
 as-function (! A) p e = absurd (Option·some-ne-none p (sym e))
@@ -71,6 +74,7 @@ as-function (Circ T U) p e = absurd (Option·some-ne-none p (sym e))
 
 as-reusable : (A B : Ty) → asReusable A ≡ some B → A ≡ ! B
 as-reusable (wire α) X e = absurd (Option·some-ne-none X (sym e))
+as-reusable unit X e = absurd (Option·some-ne-none X (sym e))
 as-reusable (A ⊗ B) X e = absurd (Option·some-ne-none X (sym e))
 as-reusable (A ⊸ B) X e = absurd (Option·some-ne-none X (sym e))
 as-reusable (! A) X e = cc
@@ -78,6 +82,7 @@ as-reusable (Circ T U) X e = absurd (Option·some-ne-none X (sym e))
 
 as-circ : (A : Ty) (p : Ty × Ty) → asCirc A ≡ some p → A ≡ Circ (p .0) (p .1)
 as-circ (wire α) p e = absurd (Option·some-ne-none p (sym e))
+as-circ unit p e = absurd (Option·some-ne-none p (sym e))
 as-circ (A ⊗ B) p e = absurd (Option·some-ne-none p (sym e))
 as-circ (A ⊸ B) p e = absurd (Option·some-ne-none p (sym e))
 as-circ (! A) p e = absurd (Option·some-ne-none p (sym e))
@@ -138,6 +143,9 @@ infer→plain Γ Q (gate n) A e = go (gateType n) refl e
     go (some (T to U)) h k =
         let x : Circ T U ≡ A = cc in
         subst (Plain Γ Q (gate n)) x (plain-gate h)
+infer→plain Γ Q unit-value A e =
+    let x : unit ≡ A = cc in
+    subst (Plain Γ Q unit-value) x plain-unit
 infer→plain Γ Q (constant b) A e = absurd (Option·some-ne-none A (sym e))
 infer→plain Γ Q (abstraction B M) A e =
     let g = given-some (infer (B ∷ Γ) Q M) (λ C. if-bounded (B ⊸ C)) A e in
@@ -188,6 +196,7 @@ pub plain→infer : {Γ : List Ty} {Q : LabelContext} {M : Term} {A : Ty}
 plain→infer s (plain-var e) = e
 plain→infer s (plain-label e) = ap (Option·map wire) e
 plain→infer s (plain-gate e) = ap (Option·map gateNodeType) e
+plain→infer s plain-unit = refl
 plain→infer s (plain-circ t b c d) = absurd s
 plain→infer s (plain-abs {A = A} {B = B} b d) =
     ap (λ o. given o λ C. if-bounded (A ⊸ C)) (plain→infer s d) ∙ some-bounded (A ⊸ B) b

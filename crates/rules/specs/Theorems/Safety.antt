@@ -13,6 +13,7 @@ use Rattle.rules.specs.Terms.{pair, let-in, lift, force, box, apply, val
 use Rattle.rules.specs.Circuits.{Circuit, circuit, Sound, loose, appended, returned, gateBoxed}
 use Rattle.rules.specs.Typing.{LabelContext, split-end, NoLabel, Bounded, _∣_⊢_∶_, by-var, by-label, by-gate, by-circ}
 use Rattle.rules.specs.Typing.{by-abs, by-app, by-tuple, by-let, by-lift, by-force, by-box, by-apply, parameters-end}
+use Rattle.rules.specs.Typing.{by-unit}
 use Rattle.rules.specs.Contexts.{EvaluationContext, hole, application-left, application-right, pair-left, pair-right}
 use Rattle.rules.specs.Contexts.{let-first, force-of, box-of, apply-left, apply-right, plug}
 use Rattle.rules.specs.Steps.{Frame, frame, Configuration, configuration, start, _⟶_, β-reduction, let-step}
@@ -112,6 +113,7 @@ pub term-progress : {Q : LabelContext} {M : Term} {A : Ty} → [] ∣ Q ⊢ M �
 term-progress (by-var h q) = elim h [ ]
 term-progress (by-label p o) = inl tt
 term-progress (by-gate p q g) = inl tt
+term-progress (by-unit p q) = inl tt
 term-progress (by-circ p q t b s d) = inl tt
 term-progress (by-abs b d) = inl tt
 term-progress (by-app {M = M} {N = N} split-end s d e) = two (term-progress d) (term-progress e)
