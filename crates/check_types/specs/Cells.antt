@@ -7,8 +7,8 @@ use mathlib.Core.List.{List, [], _∷_}
 use mathlib.Core.Option.{Option, none, some}
 use lib.ListN.{length, getD}
 use lib.Dec.{eqb, leb}
-use Rattle.rules.specs.Kinds.{pair-type-kind, function-kind, reusable-kind, circuit-kind}
-use Rattle.rules.specs.Types.{Wire, Ty, wire, _⊗_, _⊸_, !_, Circ, copyable, entries, most-entries, wireCode}
+use Rattle.rules.specs.Kinds.{pair-type-kind, function-kind, reusable-kind, circuit-kind, unit-kind}
+use Rattle.rules.specs.Types.{Wire, Ty, wire, unit, _⊗_, _⊸_, !_, Circ, copyable, entries, most-entries, wireCode}
 use Rattle.words.specs.Words.{putWords}
 use Rattle.check_types.specs.declared.Ruled.{Ruled}
 use Rattle.check_types.specs.declared.Ruled.the-variants.{Gives, Fails}
@@ -40,14 +40,20 @@ cellSize w i = getD w (4 * i + 3) 0 % copyable-mark
 abbrev pub cellCopyable : List ℕ → ℕ → Bool
 cellCopyable w i = leb copyable-mark (getD w (4 * i + 3) 0)
 
+-- Has the type of this kind parts? Pair, function, reusable and circuit, whose kinds stand in a row; Bit, Qubit and unit have none.
+abbrev pub hasParts : ℕ → Bool
+hasParts kind = leb pair-type-kind kind && leb kind circuit-kind
+
 -- May the type of this kind, whose parts are the types of cells a and b, be copied and dropped? By its kind (01: "the reusable
--- kind and Circ"); a pair by both halves (02, ticket 2).
+-- kind and Circ"; 02, ticket 5, unit), these being the last kinds; a pair by both halves (02, ticket 2).
 abbrev pub copyableFrom : List ℕ → ℕ → ℕ → ℕ → Bool
 copyableFrom w kind a b = cond (eqb kind pair-type-kind) (cellCopyable w a && cellCopyable w b) (leb reusable-kind kind)
 
--- 01, type section: "0 Bit, 1 Qubit (no parts); 2 pair, 3 function, 5 circuit (two parts); 4 reusable (one)".
+-- 01, type section: "0 Bit, 1 Qubit (no parts); 2 pair, 3 function, 5 circuit (two parts); 4 reusable (one)". 02, ticket 5:
+-- "type kind 6".
 abbrev pub kindOf : Ty → ℕ
 kindOf (wire α) = wireCode α
+kindOf unit = unit-kind
 kindOf (A ⊗ B) = pair-type-kind
 kindOf (A ⊸ B) = function-kind
 kindOf (! A) = reusable-kind
@@ -64,6 +70,7 @@ pub record Cell (w : List ℕ) (n i : ℕ) (A : Ty) : Type 0 where
 -- Cell i, among the first n cells, is the type A: its quadword is A's, and the cells of its parts are the parts of A.
 pub data Denotes (w : List ℕ) (n : ℕ) : ℕ → Ty → Type 0 where
   wire-cell : {i : ℕ} {α : Wire} → Cell w n i (wire α) → Denotes w n i (wire α)
+  unit-cell : {i : ℕ} → Cell w n i unit → Denotes w n i unit
   pair-cell : {i : ℕ} {A B : Ty}
       → Cell w n i (A ⊗ B) → Denotes w n (cellFirst w i) A → Denotes w n (cellSecond w i) B
       → Denotes w n i (A ⊗ B)

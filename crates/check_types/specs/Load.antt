@@ -4,9 +4,9 @@ use mathlib.Core.Path.{_≡_}
 use mathlib.Core.Bool.{Bool, true, false}
 use mathlib.Core.List.{List}
 use lib.ListN.{length, getD}
-use lib.Dec.{ltb, eqb}
+use lib.Dec.{eqb}
 use Rattle.rules.specs.Kinds.{reusable-kind}
-use Rattle.check_types.specs.Cells.{marked, cellSize, copyableFrom}
+use Rattle.check_types.specs.Cells.{marked, cellSize, hasParts, copyableFrom}
 use Rattle.check_types.specs.NewCell.{withCell}
 
 abbrev pub pick : Bool → ℕ → ℕ → ℕ
@@ -23,8 +23,9 @@ secondBehind w n = firstBehind n - cellSize w (firstBehind n)
 -- The entries of the type of this kind whose parts are the cells behind.
 unfoldable pub entrySize : List ℕ → ℕ → ℕ → ℕ
 entrySize w n kind =
-    pick (ltb kind 2) 1
+    pick (hasParts kind)
     (pick (eqb kind reusable-kind) (1 + cellSize w (firstBehind n)) (1 + cellSize w (firstBehind n) + cellSize w (secondBehind w n)))
+    1
 
 -- The fourth word of its cell.
 abbrev pub entryWord : List ℕ → ℕ → ℕ → ℕ

@@ -9,6 +9,7 @@ use rules::kinds::FUNCTION;
 use rules::kinds::PAIR_TYPE;
 use rules::kinds::QUBIT;
 use rules::kinds::REUSABLE;
+use rules::kinds::UNIT;
 use rules::sizes::MOST_ENTRIES;
 use rules::wide;
 use words::quadwords::put_quadword;
@@ -22,7 +23,7 @@ ghost use Rattle.rules.specs.Types.{Ty, copyable};
 ghost use Rattle.rules.specs.Inference.{asPair, asReusable, abstractionType, applicationType, pairType, liftType, boxType};
 ghost use Rattle.rules.specs.Inference.{applyType};
 ghost use Rattle.check_types.specs.Cells.{copyable-mark, marked, cellKind, cellFirst, cellSecond, cellSize, cellCopyable};
-ghost use Rattle.check_types.specs.Cells.{copyableFrom, Denotes, MeetsOne, MeetsTwo};
+ghost use Rattle.check_types.specs.Cells.{hasParts, copyableFrom, Denotes, MeetsOne, MeetsTwo};
 ghost use Rattle.check_types.specs.Cells.{PartsGiven, PartsAre, cellOfTwo, cellOfReusable, afterRule};
 ghost use Rattle.check_types.specs.Compare.{shareOf, SaysSame, SaysWireType};
 ghost use Rattle.check_types.specs.Rules.{SaysSameType, SaysIsWireType, MakesTwo, GivesResult, SaysBox};
@@ -97,11 +98,21 @@ fn cell_copyable(work: &[u8], i: usize) -> bool
 }
 
 // Quadword n becomes this cell; where the buffer has no such quadword, nothing changes. The words then: cell-put of
-// specs/Laws/NewCell.antt. What the cell then denotes: wire-written, one-part-written and two-parts-written there.
+// specs/Laws/NewCell.antt. What the cell then denotes: wire-written, unit-written, one-part-written and two-parts-written there.
 pub fn new_cell(work: &mut [u8], n: usize, kind: usize, first: usize, second: usize, word: usize)
     ensures { λ r. ⌜ now (work .exit) ≡ putWords 4 (now (work .entry)) n (kind ∷ first ∷ second ∷ word ∷ []) ⌝ }
 {
     put_quadword(work, n, kind, first, second, word);
+}
+
+// Has the type of this kind parts?
+fn has_parts(kind: usize) -> bool
+    ensures { λ r. ⌜ r ≡ hasParts kind ⌝ }
+{
+    if kind < PAIR_TYPE {
+        return false;
+    }
+    kind <= CIRCUIT
 }
 
 // How many of the entries that are left a cell may have: as many as its quadword says, at most all.
@@ -127,7 +138,7 @@ fn same_within(work: &[u8], i: usize, j: usize, most: usize) -> bool
     if kind != cell_kind(work, j) {
         return false;
     }
-    if kind < PAIR_TYPE {
+    if !has_parts(kind) {
         return true;
     }
     if most == 0 {
@@ -161,7 +172,7 @@ fn wire_type_within(work: &[u8], i: usize, most: usize) -> bool
     ensures { λ r. ⌜ SaysWireType (words (now (work .entry))) most i r ⌝ }
 {
     let kind = cell_kind(work, i);
-    if kind < PAIR_TYPE {
+    if !has_parts(kind) {
         return true;
     }
     if kind != PAIR_TYPE {
@@ -178,7 +189,7 @@ fn wire_type_within(work: &[u8], i: usize, most: usize) -> bool
     wire_type_within(work, cell_second(work, i), most - 1 - size)
 }
 
-// 01: "Wire types are Bit, Qubit and pairs of wire types".
+// 01: "Wire types are Bit, Qubit and pairs of wire types". 02, ticket 5: "Unit is a wire type".
 pub fn is_wire_type(work: &[u8], i: usize) -> bool
     ensures { λ r. ⌜ SaysIsWireType (words (now (work .entry))) i r ⌝ }
 {
@@ -193,7 +204,7 @@ pub fn is_copyable(work: &[u8], i: usize) -> bool
 }
 
 // May the type of this kind, whose parts are the types of two cells, be copied and dropped? 01: "The types that may be copied and
-// dropped are the reusable kind and Circ"; 02, ticket 2: a pair "when both halves may".
+// dropped are the reusable kind and Circ"; 02, ticket 2: a pair "when both halves may"; ticket 5: unit, whose kind is above both.
 fn copyable_from(work: &[u8], kind: usize, a: usize, b: usize) -> bool
     ensures { λ r. ⌜ r ≡ copyableFrom (words (now (work .entry))) kind a b ⌝ }
 {
@@ -369,7 +380,7 @@ fn entry_size(work: &[u8], n: usize, kind: usize) -> usize
     ensures { λ r. ⌜ r ≡ entrySize (words (now (work .entry))) n kind ⌝ }
     ensures { λ r. ⌜ r < 65536 ⌝ }
 {
-    if kind < PAIR_TYPE {
+    if !has_parts(kind) {
         return 1;
     }
     let first = saturating_sub(n, 1);
@@ -429,7 +440,13 @@ fn load_gate(work: &mut [u8], n: usize, g: usize) -> usize
     n + count
 }
 
-// Loads Bit as cell 0, Qubit as cell 1, and behind them the types of all gates. The answer is how many cells there are then
+// The cell of the unit type.
+pub const CELL_OF_UNIT: usize = 2;
+
+// The first cell of the gates' types.
+const GATES_FROM: usize = 3;
+
+// Loads Bit as cell 0, Qubit as cell 1, unit, and behind them the types of all gates. The answer is how many cells there are then
 // (gates-loaded in specs/Laws/GateCells.antt).
 pub fn load_gates(work: &mut [u8]) -> usize
     ensures { λ r. ⌜ r ≡ gateCells ⌝ }
@@ -438,7 +455,8 @@ pub fn load_gates(work: &mut [u8]) -> usize
 {
     load_entry(work, 0, BIT);
     load_entry(work, 1, QUBIT);
-    let mut n: usize = 2;
+    load_entry(work, CELL_OF_UNIT, UNIT);
+    let mut n: usize = GATES_FROM;
     let mut g: usize = 0;
     while g < rules::GATES {
         n = load_gate(work, n, g);
@@ -454,7 +472,7 @@ pub fn gate_cell(g: usize) -> usize
     if !rules::is_gate(g) {
         return 0;
     }
-    let mut n: usize = 2;
+    let mut n: usize = GATES_FROM;
     let mut k: usize = 0;
     while k < g {
         n += rules::type_entries(k);
@@ -474,7 +492,7 @@ fn write_at(work: &[u8], i: usize, out: &mut [u8], at: usize, most: usize) -> us
     }
     let kind = cell_kind(work, i);
     out[at] = (kind % 256) as u8;
-    if kind < PAIR_TYPE {
+    if !has_parts(kind) {
         return at + 1;
     }
     if most == 0 {

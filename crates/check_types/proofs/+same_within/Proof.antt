@@ -6,9 +6,9 @@ use mathlib.Core.Path.{_≡_, sym, _∙_, ap, subst, subst₂}
 use mathlib.Core.Bool.{true}
 use borrow.Author.Tests.{not-true, not-false}
 use Rattle.words.specs.Words.{words}
-use Rattle.check_types.specs.Cells.{cellKind, cellFirst, cellSecond}
+use Rattle.check_types.specs.Cells.{cellKind, cellFirst, cellSecond, hasParts}
 use Rattle.check_types.specs.Compare.{shareOf, SaysSame}
-use Rattle.check_types.specs.Laws.Compare.{same-cell, other-kind, both-wires, none-left, first-differs, first-alone}
+use Rattle.check_types.specs.Laws.Compare.{same-cell, other-kind, both-leaves, none-left, first-differs, first-alone}
 use Rattle.check_types.specs.Laws.Compare.{then-second}
 use borrow.Fn.Kinds.{In}
 use borrow.Fn.PlainCycle.{Measures, is, falls, and}
@@ -18,6 +18,7 @@ use Rattle.check_types.proofs.+same_within.Lts-same_within as same-with
 use Rattle.check_types.proofs.cell_first.Reads as cell-first-reads
 use Rattle.check_types.proofs.cell_kind.Reads as cell-kind-reads
 use Rattle.check_types.proofs.cell_second.Reads as cell-second-reads
+use Rattle.check_types.proofs.has_parts.Reads as has-parts-reads
 use Rattle.check_types.proofs.share.Reads as share-reads
 use Rattle.check_types.proofs.+same_within.{statement}
 use Rattle.check_types.proofs.+same_within.Tie.{close}
@@ -34,6 +35,8 @@ same-within-below t = and 1 same-within-kinds.ps (falls 1 same-within-kinds.ps _
 same-within-returns : (t : ℕ) → same-within-lts.Need-returns (
   cell-kind-reads.Asked,
   cell-kind-reads.Learnt,
+  has-parts-reads.Asked,
+  has-parts-reads.Learnt,
   cell-first-reads.Asked,
   cell-first-reads.Learnt,
   share-reads.Asked,
@@ -51,6 +54,8 @@ same-within-returns t c =
 same-within-cell-kind-requires : (t : ℕ) → same-within-lts.Need-cell-kind-requires (
   cell-kind-reads.Asked,
   cell-kind-reads.Learnt,
+  has-parts-reads.Asked,
+  has-parts-reads.Learnt,
   cell-first-reads.Asked,
   cell-first-reads.Learnt,
   share-reads.Asked,
@@ -65,6 +70,8 @@ same-within-cell-kind-requires t c κs = tt
 same-within-cell-kind-requires-2 : (t : ℕ) → same-within-lts.Need-cell-kind-requires-2 (
   cell-kind-reads.Asked,
   cell-kind-reads.Learnt,
+  has-parts-reads.Asked,
+  has-parts-reads.Learnt,
   cell-first-reads.Asked,
   cell-first-reads.Learnt,
   share-reads.Asked,
@@ -79,6 +86,8 @@ same-within-cell-kind-requires-2 t c κs = tt
 same-within-returns-2 : (t : ℕ) → same-within-lts.Need-returns-2 (
   cell-kind-reads.Asked,
   cell-kind-reads.Learnt,
+  has-parts-reads.Asked,
+  has-parts-reads.Learnt,
   cell-first-reads.Asked,
   cell-first-reads.Learnt,
   share-reads.Asked,
@@ -93,9 +102,27 @@ same-within-returns-2 t c =
     let w = words (s .work .now) in
     other-kind w (s .most) (s .i) (s .j) λ e. c .if2 .taken (c .before .before .cell-kind .ensures ∙ e ∙ sym (c .before .cell-kind2 .ensures))
 
+same-within-has-parts-requires : (t : ℕ) → same-within-lts.Need-has-parts-requires (
+  cell-kind-reads.Asked,
+  cell-kind-reads.Learnt,
+  has-parts-reads.Asked,
+  has-parts-reads.Learnt,
+  cell-first-reads.Asked,
+  cell-first-reads.Learnt,
+  share-reads.Asked,
+  share-reads.Learnt,
+  same-within-below t,
+  same-within.Post,
+  cell-second-reads.Asked,
+  cell-second-reads.Learnt,
+) (same-within-at t) same-within.Post
+same-within-has-parts-requires t c κs = tt
+
 same-within-returns-3 : (t : ℕ) → same-within-lts.Need-returns-3 (
   cell-kind-reads.Asked,
   cell-kind-reads.Learnt,
+  has-parts-reads.Asked,
+  has-parts-reads.Learnt,
   cell-first-reads.Asked,
   cell-first-reads.Learnt,
   share-reads.Asked,
@@ -106,15 +133,17 @@ same-within-returns-3 : (t : ℕ) → same-within-lts.Need-returns-3 (
   cell-second-reads.Learnt,
 ) (same-within-at t) same-within.Post
 same-within-returns-3 t c =
-    let s = c .before .before .before .before .before .before .args in
+    let s = c .before .before .before .before .before .before .before .args in
     let w = words (s .work .now) in
-    let k = c .before .before .before .cell-kind .ensures in
-    let kinds : cellKind w (s .i) ≡ cellKind w (s .j) = sym k ∙ c .before .if2 .left ∙ c .before .before .cell-kind2 .ensures in
-    both-wires w (s .most) (s .i) (s .j) kinds (omega (arith, k, c .if3 .taken))
+    let k = c .before .before .before .before .cell-kind .ensures in
+    let kinds : cellKind w (s .i) ≡ cellKind w (s .j) = sym k ∙ c .before .before .if2 .left ∙ c .before .before .before .cell-kind2 .ensures in
+    both-leaves w (s .most) (s .i) (s .j) kinds (sym (ap hasParts k) ∙ sym (c .before .has-parts .ensures) ∙ not-true _ (c .if3 .taken))
 
 same-within-returns-4 : (t : ℕ) → same-within-lts.Need-returns-4 (
   cell-kind-reads.Asked,
   cell-kind-reads.Learnt,
+  has-parts-reads.Asked,
+  has-parts-reads.Learnt,
   cell-first-reads.Asked,
   cell-first-reads.Learnt,
   share-reads.Asked,
@@ -125,13 +154,15 @@ same-within-returns-4 : (t : ℕ) → same-within-lts.Need-returns-4 (
   cell-second-reads.Learnt,
 ) (same-within-at t) same-within.Post
 same-within-returns-4 t c =
-    let s = c .before .before .before .before .before .before .before .args in
+    let s = c .before .before .before .before .before .before .before .before .args in
     let w = words (s .work .now) in
     none-left w (s .most) (s .i) (s .j) true (c .if4 .taken)
 
 same-within-cell-first-requires : (t : ℕ) → same-within-lts.Need-cell-first-requires (
   cell-kind-reads.Asked,
   cell-kind-reads.Learnt,
+  has-parts-reads.Asked,
+  has-parts-reads.Learnt,
   cell-first-reads.Asked,
   cell-first-reads.Learnt,
   share-reads.Asked,
@@ -146,6 +177,8 @@ same-within-cell-first-requires t c κs = tt
 same-within-sub-share : (t : ℕ) → same-within-lts.Need-sub-share (
   cell-kind-reads.Asked,
   cell-kind-reads.Learnt,
+  has-parts-reads.Asked,
+  has-parts-reads.Learnt,
   cell-first-reads.Asked,
   cell-first-reads.Learnt,
   share-reads.Asked,
@@ -160,6 +193,8 @@ same-within-sub-share t c = omega (arith, c .before .if4 .left)
 same-within-share-requires : (t : ℕ) → same-within-lts.Need-share-requires (
   cell-kind-reads.Asked,
   cell-kind-reads.Learnt,
+  has-parts-reads.Asked,
+  has-parts-reads.Learnt,
   cell-first-reads.Asked,
   cell-first-reads.Learnt,
   share-reads.Asked,
@@ -174,6 +209,8 @@ same-within-share-requires t c κs = tt
 same-within-cell-first-requires-2 : (t : ℕ) → same-within-lts.Need-cell-first-requires-2 (
   cell-kind-reads.Asked,
   cell-kind-reads.Learnt,
+  has-parts-reads.Asked,
+  has-parts-reads.Learnt,
   cell-first-reads.Asked,
   cell-first-reads.Learnt,
   share-reads.Asked,
@@ -188,6 +225,8 @@ same-within-cell-first-requires-2 t c κs = tt
 same-within-same-within-requires : (t : ℕ) → same-within-lts.Need-same-within-requires (
   cell-kind-reads.Asked,
   cell-kind-reads.Learnt,
+  has-parts-reads.Asked,
+  has-parts-reads.Learnt,
   cell-first-reads.Asked,
   cell-first-reads.Learnt,
   share-reads.Asked,
@@ -197,11 +236,13 @@ same-within-same-within-requires : (t : ℕ) → same-within-lts.Need-same-withi
   cell-second-reads.Asked,
   cell-second-reads.Learnt,
 ) (same-within-at t) same-within.Post
-same-within-same-within-requires t c κs = (omega (arith, c .before .before .before .if4 .left, c .before .share .ensures, c .before .before .before .before .before .before .before .before .before .before .pre .0), tt)
+same-within-same-within-requires t c κs = (omega (arith, c .before .before .before .if4 .left, c .before .share .ensures, c .before .before .before .before .before .before .before .before .before .before .before .pre .0), tt)
 
 same-within-returns-5 : (t : ℕ) → same-within-lts.Need-returns-5 (
   cell-kind-reads.Asked,
   cell-kind-reads.Learnt,
+  has-parts-reads.Asked,
+  has-parts-reads.Learnt,
   cell-first-reads.Asked,
   cell-first-reads.Learnt,
   share-reads.Asked,
@@ -212,19 +253,21 @@ same-within-returns-5 : (t : ℕ) → same-within-lts.Need-returns-5 (
   cell-second-reads.Learnt,
 ) (same-within-at t) same-within.Post
 same-within-returns-5 t c =
-    let s = c .before .before .before .before .before .before .before .before .before .before .before .before .args in
+    let s = c .before .before .before .before .before .before .before .before .before .before .before .before .before .args in
     let w = words (s .work .now) in
-    let k = c .before .before .before .before .before .before .before .before .before .cell-kind .ensures in
-    let kinds : cellKind w (s .i) ≡ cellKind w (s .j) = sym k ∙ c .before .before .before .before .before .before .before .if2 .left ∙ c .before .before .before .before .before .before .before .before .cell-kind2 .ensures in
+    let k = c .before .before .before .before .before .before .before .before .before .before .cell-kind .ensures in
+    let kinds : cellKind w (s .i) ≡ cellKind w (s .j) = sym k ∙ c .before .before .before .before .before .before .before .before .if2 .left ∙ c .before .before .before .before .before .before .before .before .before .cell-kind2 .ensures in
     let size = c .before .before .before .share .ensures ∙ ap (λ x. shareOf w x (s .most - 1)) (c .before .before .before .before .cell-first .ensures) in
     let half = subst₂ (λ x y. SaysSame w (c .before .before .before .share .result) x y (c .before .same-within .result))
     (c .before .before .before .before .cell-first .ensures) (c .before .before .cell-first2 .ensures) (c .before .same-within .ensures) in
     let first = subst₂ (λ x r. SaysSame w x (cellFirst w (s .i)) (cellFirst w (s .j)) r) size (not-true _ (c .if5 .taken)) half in
-    first-differs w (s .most) (s .i) (s .j) kinds (omega (arith, k, c .before .before .before .before .before .before .if3 .left)) first
+    first-differs w (s .most) (s .i) (s .j) kinds (sym (ap hasParts k) ∙ sym (c .before .before .before .before .before .before .before .has-parts .ensures) ∙ not-false _ (c .before .before .before .before .before .before .if3 .left)) first
 
 same-within-returns-6 : (t : ℕ) → same-within-lts.Need-returns-6 (
   cell-kind-reads.Asked,
   cell-kind-reads.Learnt,
+  has-parts-reads.Asked,
+  has-parts-reads.Learnt,
   cell-first-reads.Asked,
   cell-first-reads.Learnt,
   share-reads.Asked,
@@ -235,10 +278,10 @@ same-within-returns-6 : (t : ℕ) → same-within-lts.Need-returns-6 (
   cell-second-reads.Learnt,
 ) (same-within-at t) same-within.Post
 same-within-returns-6 t c =
-    let s = c .before .before .before .before .before .before .before .before .before .before .before .before .before .args in
+    let s = c .before .before .before .before .before .before .before .before .before .before .before .before .before .before .args in
     let w = words (s .work .now) in
-    let k = c .before .before .before .before .before .before .before .before .before .before .cell-kind .ensures in
-    let kinds : cellKind w (s .i) ≡ cellKind w (s .j) = sym k ∙ c .before .before .before .before .before .before .before .before .if2 .left ∙ c .before .before .before .before .before .before .before .before .before .cell-kind2 .ensures in
+    let k = c .before .before .before .before .before .before .before .before .before .before .before .cell-kind .ensures in
+    let kinds : cellKind w (s .i) ≡ cellKind w (s .j) = sym k ∙ c .before .before .before .before .before .before .before .before .before .if2 .left ∙ c .before .before .before .before .before .before .before .before .before .before .cell-kind2 .ensures in
     let size = c .before .before .before .before .share .ensures ∙ ap (λ x. shareOf w x (s .most - 1)) (c .before .before .before .before .before .cell-first .ensures) in
     let half = subst₂ (λ x y. SaysSame w (c .before .before .before .before .share .result) x y (c .before .before .same-within .result))
     (c .before .before .before .before .before .cell-first .ensures) (c .before .before .before .cell-first2 .ensures) (c .before .before .same-within .ensures) in
@@ -248,6 +291,8 @@ same-within-returns-6 t c =
 same-within-cell-second-requires : (t : ℕ) → same-within-lts.Need-cell-second-requires (
   cell-kind-reads.Asked,
   cell-kind-reads.Learnt,
+  has-parts-reads.Asked,
+  has-parts-reads.Learnt,
   cell-first-reads.Asked,
   cell-first-reads.Learnt,
   share-reads.Asked,
@@ -262,6 +307,8 @@ same-within-cell-second-requires t c κs = tt
 same-within-cell-second-requires-2 : (t : ℕ) → same-within-lts.Need-cell-second-requires-2 (
   cell-kind-reads.Asked,
   cell-kind-reads.Learnt,
+  has-parts-reads.Asked,
+  has-parts-reads.Learnt,
   cell-first-reads.Asked,
   cell-first-reads.Learnt,
   share-reads.Asked,
@@ -276,6 +323,8 @@ same-within-cell-second-requires-2 t c κs = tt
 same-within-sub-same-within : (t : ℕ) → same-within-lts.Need-sub-same-within (
   cell-kind-reads.Asked,
   cell-kind-reads.Learnt,
+  has-parts-reads.Asked,
+  has-parts-reads.Learnt,
   cell-first-reads.Asked,
   cell-first-reads.Learnt,
   share-reads.Asked,
@@ -290,6 +339,8 @@ same-within-sub-same-within t c = omega (arith, c .before .before .before .befor
 same-within-sub-same-within-2 : (t : ℕ) → same-within-lts.Need-sub-same-within-2 (
   cell-kind-reads.Asked,
   cell-kind-reads.Learnt,
+  has-parts-reads.Asked,
+  has-parts-reads.Learnt,
   cell-first-reads.Asked,
   cell-first-reads.Learnt,
   share-reads.Asked,
@@ -304,6 +355,8 @@ same-within-sub-same-within-2 t c = omega (arith, c .before .before .before .bef
 same-within-same-within-requires-2 : (t : ℕ) → same-within-lts.Need-same-within-requires-2 (
   cell-kind-reads.Asked,
   cell-kind-reads.Learnt,
+  has-parts-reads.Asked,
+  has-parts-reads.Learnt,
   cell-first-reads.Asked,
   cell-first-reads.Learnt,
   share-reads.Asked,
@@ -313,11 +366,13 @@ same-within-same-within-requires-2 : (t : ℕ) → same-within-lts.Need-same-wit
   cell-second-reads.Asked,
   cell-second-reads.Learnt,
 ) (same-within-at t) same-within.Post
-same-within-same-within-requires-2 t c κs = (omega (arith, c .before .before .before .before .before .before .before .before .if4 .left, c .before .before .before .before .before .before .share .ensures, c .before .before .before .before .before .before .before .before .before .before .before .before .before .before .before .pre .0), tt)
+same-within-same-within-requires-2 t c κs = (omega (arith, c .before .before .before .before .before .before .before .before .if4 .left, c .before .before .before .before .before .before .share .ensures, c .before .before .before .before .before .before .before .before .before .before .before .before .before .before .before .before .pre .0), tt)
 
 same-within-returns-7 : (t : ℕ) → same-within-lts.Need-returns-7 (
   cell-kind-reads.Asked,
   cell-kind-reads.Learnt,
+  has-parts-reads.Asked,
+  has-parts-reads.Learnt,
   cell-first-reads.Asked,
   cell-first-reads.Learnt,
   share-reads.Asked,
@@ -328,10 +383,10 @@ same-within-returns-7 : (t : ℕ) → same-within-lts.Need-returns-7 (
   cell-second-reads.Learnt,
 ) (same-within-at t) same-within.Post
 same-within-returns-7 t c =
-    let s = c .before .before .before .before .before .before .before .before .before .before .before .before .before .before .before .before .args in
+    let s = c .before .before .before .before .before .before .before .before .before .before .before .before .before .before .before .before .before .args in
     let w = words (s .work .now) in
-    let k = c .before .before .before .before .before .before .before .before .before .before .before .before .before .cell-kind .ensures in
-    let kinds : cellKind w (s .i) ≡ cellKind w (s .j) = sym k ∙ c .before .before .before .before .before .before .before .before .before .before .before .if2 .left ∙ c .before .before .before .before .before .before .before .before .before .before .before .before .cell-kind2 .ensures in
+    let k = c .before .before .before .before .before .before .before .before .before .before .before .before .before .before .cell-kind .ensures in
+    let kinds : cellKind w (s .i) ≡ cellKind w (s .j) = sym k ∙ c .before .before .before .before .before .before .before .before .before .before .before .before .if2 .left ∙ c .before .before .before .before .before .before .before .before .before .before .before .before .before .cell-kind2 .ensures in
     let size = c .before .before .before .before .before .before .before .share .ensures ∙ ap (λ x. shareOf w x (s .most - 1)) (c .before .before .before .before .before .before .before .before .cell-first .ensures) in
     let half = subst₂ (λ x y. SaysSame w (c .before .before .before .before .before .before .before .share .result) x y (c .before .before .before .before .before .same-within .result))
     (c .before .before .before .before .before .before .before .before .cell-first .ensures) (c .before .before .before .before .before .before .cell-first2 .ensures) (c .before .before .before .before .before .same-within .ensures) in
@@ -339,7 +394,7 @@ same-within-returns-7 t c =
     let other = subst₂ (λ x y. SaysSame w (s .most - 1 - c .before .before .before .before .before .before .before .share .result) x y (c .same-within2 .result))
     (c .before .before .cell-second .ensures) (c .before .cell-second2 .ensures) (c .same-within2 .ensures) in
     let second = subst (λ x. SaysSame w (s .most - 1 - x) (cellSecond w (s .i)) (cellSecond w (s .j)) (c .same-within2 .result)) size other in
-    then-second w (s .most) (s .i) (s .j) (c .same-within2 .result) kinds (omega (arith, k, c .before .before .before .before .before .before .before .before .before .before .if3 .left))
+    then-second w (s .most) (s .i) (s .j) (c .same-within2 .result) kinds (sym (ap hasParts k) ∙ sym (c .before .before .before .before .before .before .before .before .before .before .before .has-parts .ensures) ∙ not-false _ (c .before .before .before .before .before .before .before .before .before .before .if3 .left))
     (λ e. c .before .before .before .if6 .left (k ∙ e))
     first second
 
@@ -347,6 +402,8 @@ pub +same-within-spec : {M : Type 1} → statement M
 +same-within-spec = close μ-same-within λ t. same-within-lts.spec (
   cell-kind-reads.Asked,
   cell-kind-reads.Learnt,
+  has-parts-reads.Asked,
+  has-parts-reads.Learnt,
   cell-first-reads.Asked,
   cell-first-reads.Learnt,
   share-reads.Asked,
@@ -362,6 +419,7 @@ pub +same-within-spec : {M : Type 1} → statement M
     (same-within-cell-kind-requires t)
     (same-within-cell-kind-requires-2 t)
     (same-within-returns-2 t)
+    (same-within-has-parts-requires t)
     (same-within-returns-3 t)
     (same-within-returns-4 t)
     (same-within-cell-first-requires t)

@@ -6,9 +6,9 @@ use mathlib.Core.Path.{sym, _∙_, ap, subst, subst₂}
 use mathlib.Core.Bool.{false}
 use borrow.Author.Tests.{not-true, not-false}
 use Rattle.words.specs.Words.{words}
-use Rattle.check_types.specs.Cells.{cellFirst, cellSecond}
+use Rattle.check_types.specs.Cells.{cellFirst, cellSecond, hasParts}
 use Rattle.check_types.specs.Compare.{shareOf, SaysWireType}
-use Rattle.check_types.specs.Laws.Compare.{is-wire, no-wire, no-wire-entries, first-no-wire, then-second-wire}
+use Rattle.check_types.specs.Laws.Compare.{is-leaf, no-wire, no-wire-entries, first-no-wire, then-second-wire}
 use borrow.Fn.Kinds.{In}
 use borrow.Fn.PlainCycle.{Measures, is, falls, and}
 use Rattle.check_types.proofs.wire_type_within.Reads as wire-type-within
@@ -17,6 +17,7 @@ use Rattle.check_types.proofs.+wire_type_within.Lts-wire_type_within as
 use Rattle.check_types.proofs.cell_first.Reads as cell-first-reads
 use Rattle.check_types.proofs.cell_kind.Reads as cell-kind-reads
 use Rattle.check_types.proofs.cell_second.Reads as cell-second-reads
+use Rattle.check_types.proofs.has_parts.Reads as has-parts-reads
 use Rattle.check_types.proofs.share.Reads as share-reads
 use Rattle.check_types.proofs.+wire_type_within.{statement}
 use Rattle.check_types.proofs.+wire_type_within.Tie.{close}
@@ -33,6 +34,8 @@ wire-type-within-below t = and 1 wire-type-within-kinds.ps (falls 1 wire-type-wi
 wire-type-within-cell-kind-requires : (t : ℕ) → wire-type-within-lts.Need-cell-kind-requires (
   cell-kind-reads.Asked,
   cell-kind-reads.Learnt,
+  has-parts-reads.Asked,
+  has-parts-reads.Learnt,
   cell-first-reads.Asked,
   cell-first-reads.Learnt,
   share-reads.Asked,
@@ -44,9 +47,27 @@ wire-type-within-cell-kind-requires : (t : ℕ) → wire-type-within-lts.Need-ce
 ) (wire-type-within-at t) wire-type-within.Post
 wire-type-within-cell-kind-requires t c κs = tt
 
+wire-type-within-has-parts-requires : (t : ℕ) → wire-type-within-lts.Need-has-parts-requires (
+  cell-kind-reads.Asked,
+  cell-kind-reads.Learnt,
+  has-parts-reads.Asked,
+  has-parts-reads.Learnt,
+  cell-first-reads.Asked,
+  cell-first-reads.Learnt,
+  share-reads.Asked,
+  share-reads.Learnt,
+  wire-type-within-below t,
+  wire-type-within.Post,
+  cell-second-reads.Asked,
+  cell-second-reads.Learnt,
+) (wire-type-within-at t) wire-type-within.Post
+wire-type-within-has-parts-requires t c κs = tt
+
 wire-type-within-returns : (t : ℕ) → wire-type-within-lts.Need-returns (
   cell-kind-reads.Asked,
   cell-kind-reads.Learnt,
+  has-parts-reads.Asked,
+  has-parts-reads.Learnt,
   cell-first-reads.Asked,
   cell-first-reads.Learnt,
   share-reads.Asked,
@@ -57,14 +78,16 @@ wire-type-within-returns : (t : ℕ) → wire-type-within-lts.Need-returns (
   cell-second-reads.Learnt,
 ) (wire-type-within-at t) wire-type-within.Post
 wire-type-within-returns t c =
-    let s = c .before .before .before .args in
+    let s = c .before .before .before .before .args in
     let w = words (s .work .now) in
-    let k = c .before .cell-kind .ensures in
-    is-wire w (s .most) (s .i) (omega (arith, k, c .if1 .taken))
+    let k = c .before .before .cell-kind .ensures in
+    is-leaf w (s .most) (s .i) (sym (ap hasParts k) ∙ sym (c .before .has-parts .ensures) ∙ not-true _ (c .if1 .taken))
 
 wire-type-within-returns-2 : (t : ℕ) → wire-type-within-lts.Need-returns-2 (
   cell-kind-reads.Asked,
   cell-kind-reads.Learnt,
+  has-parts-reads.Asked,
+  has-parts-reads.Learnt,
   cell-first-reads.Asked,
   cell-first-reads.Learnt,
   share-reads.Asked,
@@ -75,14 +98,16 @@ wire-type-within-returns-2 : (t : ℕ) → wire-type-within-lts.Need-returns-2 (
   cell-second-reads.Learnt,
 ) (wire-type-within-at t) wire-type-within.Post
 wire-type-within-returns-2 t c =
-    let s = c .before .before .before .before .args in
+    let s = c .before .before .before .before .before .args in
     let w = words (s .work .now) in
-    let k = c .before .before .cell-kind .ensures in
-    no-wire w (s .most) (s .i) (omega (arith, k, c .before .if1 .left)) λ e. c .if2 .taken (k ∙ e)
+    let k = c .before .before .before .cell-kind .ensures in
+    no-wire w (s .most) (s .i) (sym (ap hasParts k) ∙ sym (c .before .before .has-parts .ensures) ∙ not-false _ (c .before .if1 .left)) λ e. c .if2 .taken (k ∙ e)
 
 wire-type-within-returns-3 : (t : ℕ) → wire-type-within-lts.Need-returns-3 (
   cell-kind-reads.Asked,
   cell-kind-reads.Learnt,
+  has-parts-reads.Asked,
+  has-parts-reads.Learnt,
   cell-first-reads.Asked,
   cell-first-reads.Learnt,
   share-reads.Asked,
@@ -93,13 +118,15 @@ wire-type-within-returns-3 : (t : ℕ) → wire-type-within-lts.Need-returns-3 (
   cell-second-reads.Learnt,
 ) (wire-type-within-at t) wire-type-within.Post
 wire-type-within-returns-3 t c =
-    let s = c .before .before .before .before .before .args in
+    let s = c .before .before .before .before .before .before .args in
     let w = words (s .work .now) in
     no-wire-entries w (s .most) (s .i) false (c .if3 .taken)
 
 wire-type-within-cell-first-requires : (t : ℕ) → wire-type-within-lts.Need-cell-first-requires (
   cell-kind-reads.Asked,
   cell-kind-reads.Learnt,
+  has-parts-reads.Asked,
+  has-parts-reads.Learnt,
   cell-first-reads.Asked,
   cell-first-reads.Learnt,
   share-reads.Asked,
@@ -114,6 +141,8 @@ wire-type-within-cell-first-requires t c κs = tt
 wire-type-within-sub-share : (t : ℕ) → wire-type-within-lts.Need-sub-share (
   cell-kind-reads.Asked,
   cell-kind-reads.Learnt,
+  has-parts-reads.Asked,
+  has-parts-reads.Learnt,
   cell-first-reads.Asked,
   cell-first-reads.Learnt,
   share-reads.Asked,
@@ -128,6 +157,8 @@ wire-type-within-sub-share t c = omega (arith, c .before .if3 .left)
 wire-type-within-share-requires : (t : ℕ) → wire-type-within-lts.Need-share-requires (
   cell-kind-reads.Asked,
   cell-kind-reads.Learnt,
+  has-parts-reads.Asked,
+  has-parts-reads.Learnt,
   cell-first-reads.Asked,
   cell-first-reads.Learnt,
   share-reads.Asked,
@@ -142,6 +173,8 @@ wire-type-within-share-requires t c κs = tt
 wire-type-within-wire-type-within-requires : (t : ℕ) → wire-type-within-lts.Need-wire-type-within-requires (
   cell-kind-reads.Asked,
   cell-kind-reads.Learnt,
+  has-parts-reads.Asked,
+  has-parts-reads.Learnt,
   cell-first-reads.Asked,
   cell-first-reads.Learnt,
   share-reads.Asked,
@@ -151,11 +184,13 @@ wire-type-within-wire-type-within-requires : (t : ℕ) → wire-type-within-lts.
   cell-second-reads.Asked,
   cell-second-reads.Learnt,
 ) (wire-type-within-at t) wire-type-within.Post
-wire-type-within-wire-type-within-requires t c κs = (omega (arith, c .before .before .if3 .left, c .share .ensures, c .before .before .before .before .before .before .before .pre .0), tt)
+wire-type-within-wire-type-within-requires t c κs = (omega (arith, c .before .before .if3 .left, c .share .ensures, c .before .before .before .before .before .before .before .before .pre .0), tt)
 
 wire-type-within-returns-4 : (t : ℕ) → wire-type-within-lts.Need-returns-4 (
   cell-kind-reads.Asked,
   cell-kind-reads.Learnt,
+  has-parts-reads.Asked,
+  has-parts-reads.Learnt,
   cell-first-reads.Asked,
   cell-first-reads.Learnt,
   share-reads.Asked,
@@ -166,9 +201,9 @@ wire-type-within-returns-4 : (t : ℕ) → wire-type-within-lts.Need-returns-4 (
   cell-second-reads.Learnt,
 ) (wire-type-within-at t) wire-type-within.Post
 wire-type-within-returns-4 t c =
-    let s = c .before .before .before .before .before .before .before .before .before .args in
+    let s = c .before .before .before .before .before .before .before .before .before .before .args in
     let w = words (s .work .now) in
-    let k = c .before .before .before .before .before .before .before .cell-kind .ensures in
+    let k = c .before .before .before .before .before .before .before .before .cell-kind .ensures in
     let size = c .before .before .share .ensures ∙ ap (λ x. shareOf w x (s .most - 1)) (c .before .before .before .cell-first .ensures) in
     let half = subst (λ x. SaysWireType w (c .before .before .share .result) x (c .before .wire-type-within .result)) (c .before .before .before .cell-first .ensures) (c .before .wire-type-within .ensures) in
     let first = subst₂ (λ x r. SaysWireType w x (cellFirst w (s .i)) r) size (not-true _ (c .if4 .taken)) half in
@@ -177,6 +212,8 @@ wire-type-within-returns-4 t c =
 wire-type-within-cell-second-requires : (t : ℕ) → wire-type-within-lts.Need-cell-second-requires (
   cell-kind-reads.Asked,
   cell-kind-reads.Learnt,
+  has-parts-reads.Asked,
+  has-parts-reads.Learnt,
   cell-first-reads.Asked,
   cell-first-reads.Learnt,
   share-reads.Asked,
@@ -191,6 +228,8 @@ wire-type-within-cell-second-requires t c κs = tt
 wire-type-within-sub-wire-type-within : (t : ℕ) → wire-type-within-lts.Need-sub-wire-type-within (
   cell-kind-reads.Asked,
   cell-kind-reads.Learnt,
+  has-parts-reads.Asked,
+  has-parts-reads.Learnt,
   cell-first-reads.Asked,
   cell-first-reads.Learnt,
   share-reads.Asked,
@@ -205,6 +244,8 @@ wire-type-within-sub-wire-type-within t c = omega (arith, c .before .before .bef
 wire-type-within-sub-wire-type-within-2 : (t : ℕ) → wire-type-within-lts.Need-sub-wire-type-within-2 (
   cell-kind-reads.Asked,
   cell-kind-reads.Learnt,
+  has-parts-reads.Asked,
+  has-parts-reads.Learnt,
   cell-first-reads.Asked,
   cell-first-reads.Learnt,
   share-reads.Asked,
@@ -219,6 +260,8 @@ wire-type-within-sub-wire-type-within-2 t c = omega (arith, c .before .before .b
 wire-type-within-wire-type-within-requires-2 : (t : ℕ) → wire-type-within-lts.Need-wire-type-within-requires-2 (
   cell-kind-reads.Asked,
   cell-kind-reads.Learnt,
+  has-parts-reads.Asked,
+  has-parts-reads.Learnt,
   cell-first-reads.Asked,
   cell-first-reads.Learnt,
   share-reads.Asked,
@@ -228,11 +271,13 @@ wire-type-within-wire-type-within-requires-2 : (t : ℕ) → wire-type-within-lt
   cell-second-reads.Asked,
   cell-second-reads.Learnt,
 ) (wire-type-within-at t) wire-type-within.Post
-wire-type-within-wire-type-within-requires-2 t c κs = (omega (arith, c .before .before .before .before .before .if3 .left, c .before .before .before .share .ensures, c .before .before .before .before .before .before .before .before .before .before .pre .0), tt)
+wire-type-within-wire-type-within-requires-2 t c κs = (omega (arith, c .before .before .before .before .before .if3 .left, c .before .before .before .share .ensures, c .before .before .before .before .before .before .before .before .before .before .before .pre .0), tt)
 
 wire-type-within-returns-5 : (t : ℕ) → wire-type-within-lts.Need-returns-5 (
   cell-kind-reads.Asked,
   cell-kind-reads.Learnt,
+  has-parts-reads.Asked,
+  has-parts-reads.Learnt,
   cell-first-reads.Asked,
   cell-first-reads.Learnt,
   share-reads.Asked,
@@ -243,9 +288,9 @@ wire-type-within-returns-5 : (t : ℕ) → wire-type-within-lts.Need-returns-5 (
   cell-second-reads.Learnt,
 ) (wire-type-within-at t) wire-type-within.Post
 wire-type-within-returns-5 t c =
-    let s = c .before .before .before .before .before .before .before .before .before .before .before .args in
+    let s = c .before .before .before .before .before .before .before .before .before .before .before .before .args in
     let w = words (s .work .now) in
-    let k = c .before .before .before .before .before .before .before .before .before .cell-kind .ensures in
+    let k = c .before .before .before .before .before .before .before .before .before .before .cell-kind .ensures in
     let size = c .before .before .before .before .share .ensures ∙ ap (λ x. shareOf w x (s .most - 1)) (c .before .before .before .before .before .cell-first .ensures) in
     let half = subst (λ x. SaysWireType w (c .before .before .before .before .share .result) x (c .before .before .before .wire-type-within .result)) (c .before .before .before .before .before .cell-first .ensures) (c .before .before .before .wire-type-within .ensures) in
     let first = subst₂ (λ x r. SaysWireType w x (cellFirst w (s .i)) r) size (not-false _ (c .before .before .if4 .left)) half in
@@ -258,6 +303,8 @@ pub +wire-type-within-spec : {M : Type 1} → statement M
 +wire-type-within-spec = close μ-wire-type-within λ t. wire-type-within-lts.spec (
   cell-kind-reads.Asked,
   cell-kind-reads.Learnt,
+  has-parts-reads.Asked,
+  has-parts-reads.Learnt,
   cell-first-reads.Asked,
   cell-first-reads.Learnt,
   share-reads.Asked,
@@ -270,6 +317,7 @@ pub +wire-type-within-spec : {M : Type 1} → statement M
     (wire-type-within-at t)
     wire-type-within.Post
     (wire-type-within-cell-kind-requires t)
+    (wire-type-within-has-parts-requires t)
     (wire-type-within-returns t)
     (wire-type-within-returns-2 t)
     (wire-type-within-returns-3 t)

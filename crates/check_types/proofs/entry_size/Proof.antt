@@ -1,19 +1,23 @@
 -- `check_types::entry_size` meets its contract: by the number of parts. Assumes nothing.
 use Prim.Native.Nat.{_+_, _-_}
 use native.Mathlib.Omega.{arith}
-use mathlib.Core.Path.{_∙_, ap, ap₂}
+use mathlib.Core.Path.{sym, _∙_, ap, ap₂}
+use borrow.Author.Tests.{not-true, not-false}
 use Rattle.words.specs.Words.{words}
 use Rattle.check_types.specs.Cells.{cellSize}
-use Rattle.check_types.specs.Laws.Load.{size-of-wire, size-of-one, size-of-two}
+use Rattle.check_types.specs.Laws.Load.{size-of-leaf, size-of-one, size-of-two}
 use borrow.Author.Needs.{needs}
 use Rattle.check_types.proofs.entry_size.Statement.{statement}
 use Rattle.check_types.proofs.entry_size.Tie as tie
 
+has-parts-requires : tie.Need-has-parts-requires
+has-parts-requires c κs = search needs
+
 returns : tie.Need-returns
 returns c =
-    let s = c .before .before .args in
+    let s = c .before .before .before .args in
     let w = words (s .work .now) in
-    (size-of-wire w (s .n) (s .kind) (c .if1 .taken), omega arith)
+    (size-of-leaf w (s .n) (s .kind) (sym (c .before .has-parts .ensures) ∙ not-true _ (c .if1 .taken)), omega arith)
 
 saturating-sub-requires : tie.Need-saturating-sub-requires
 saturating-sub-requires c κs = search needs
@@ -26,7 +30,7 @@ add-result c = search needs
 
 returns-2 : tie.Need-returns-2
 returns-2 c =
-    let s = c .before .before .before .before .before .args in
+    let s = c .before .before .before .before .before .before .args in
     let w = words (s .work .now) in
     let e = c .before .cell-size .ensures .0 ∙ ap (cellSize w) (c .before .before .saturating-sub .ensures) in
     (ap (λ x. 1 + x) e ∙ size-of-one w (s .n) (s .kind) (c .if2 .taken), omega (arith, c .before .cell-size .ensures .1))
@@ -45,13 +49,13 @@ add-result-3 c = search needs
 
 returns-3 : tie.Need-returns-3
 returns-3 c =
-    let s = c .before .before .before .before .before .before .before .args in
+    let s = c .before .before .before .before .before .before .before .before .args in
     let w = words (s .work .now) in
     let e = c .before .before .before .cell-size .ensures .0 ∙ ap (cellSize w) (c .before .before .before .before .saturating-sub .ensures) in
     let behind = c .before .saturating-sub2 .ensures ∙ ap₂ (λ x y. x - y) (c .before .before .before .before .saturating-sub .ensures) e in
     let e2 = c .cell-size2 .ensures .0 ∙ ap (cellSize w) behind in (
       ap₂ (λ x y. 1 + x + y) e e2
-          ∙ size-of-two w (s .n) (s .kind) (c .before .before .before .before .before .if1 .left) (c .before .before .if2 .left),
+          ∙ size-of-two w (s .n) (s .kind) (sym (c .before .before .before .before .before .before .has-parts .ensures) ∙ not-false _ (c .before .before .before .before .before .if1 .left)) (c .before .before .if2 .left),
       omega (arith, c .before .before .before .cell-size .ensures .1, c .cell-size2 .ensures .1),
     )
 
@@ -59,6 +63,7 @@ pub entry-size-spec : {M : Type 1} → statement M
 entry-size-spec =
     tie.close
     (tie.spec
+    has-parts-requires
     returns
     saturating-sub-requires
     cell-size-requires

@@ -3,20 +3,22 @@ use Prim.Native.Nat.{ℕ, _+_, _*_, _%_, _≤_}
 use native.Mathlib.Omega.{arith}
 use mathlib.Core.Path.{_≡_, refl, sym, _∙_, ap, ap₂, subst}
 use mathlib.Core.Logic.{_≢_}
-use mathlib.Core.Bool.{_&&_, cond}
+use mathlib.Core.Bool.{true, false, _&&_, cond}
 use mathlib.Core.List.{List}
 use lib.Dec.{leb}
 use borrow.Author.Tests.{ne-eqb}
 use Rattle.rules.specs.Kinds.{pair-type-kind, reusable-kind}
-use Rattle.rules.specs.Types.{Wire, Ty, wire, !_, copyable, entries, wireCode}
+use Rattle.rules.specs.Types.{Wire, Bit, Qubit, Ty, wire, unit, !_, copyable, entries}
+use Rattle.rules.specs.Laws.TypeCodes.{wire-kind, same-wire}
 use Rattle.check_types.specs.Cells.{copyable-mark, cellKind, cellFirst, cellSecond, cellCopyable, copyableFrom, Cell}
-use Rattle.check_types.specs.Cells.{Agree, Denotes, wire-cell, pair-cell}
+use Rattle.check_types.specs.Cells.{hasParts, kindOf, Agree, Denotes, wire-cell, unit-cell, pair-cell}
 use Rattle.check_types.specs.Cells.{function-cell, reusable-cell, circuit-cell, Made, made-pair, made-function}
 use Rattle.check_types.specs.Cells.{made-circuit}
 
 -- The quadword of a cell.
 pub cell-of : {w : List ℕ} {n i : ℕ} {A : Ty} → Denotes w n i A → Cell w n i A
 cell-of (wire-cell r) = r
+cell-of (unit-cell r) = r
 cell-of (pair-cell r d e) = r
 cell-of (function-cell r d e) = r
 cell-of (reusable-cell r d) = r
@@ -52,6 +54,7 @@ second-kept {i = i} a r = let b = r .below in sym (a .words-same (4 * i + 2) (om
 
 pub denotes-kept : {w w′ : List ℕ} {n n′ i : ℕ} {A : Ty} → Agree w w′ n → n ≤ n′ → Denotes w n i A → Denotes w′ n′ i A
 denotes-kept a h (wire-cell r) = wire-cell (cell-kept a h r)
+denotes-kept a h (unit-cell r) = unit-cell (cell-kept a h r)
 denotes-kept {w′ = w′} {n′ = n′} a h (pair-cell {A = A} {B = B} r d e) =
     pair-cell
     (cell-kept a h r)
@@ -90,26 +93,51 @@ made-copyable made-pair d e = ap₂ _&&_ (cell-of d .may-be-copied) (cell-of e .
 made-copyable made-function d e = refl
 made-copyable made-circuit d e = refl
 
-pub made-kind : {k : ℕ} {A B C : Ty} → Made k A B C → 2 ≤ k
-made-kind made-pair = omega arith
-made-kind made-function = omega arith
-made-kind made-circuit = omega arith
+pub made-parts : {k : ℕ} {A B C : Ty} → Made k A B C → hasParts k ≡ true
+made-parts made-pair = refl
+made-parts made-function = refl
+made-parts made-circuit = refl
 
 pub made-not-reusable : {k : ℕ} {A B C : Ty} → Made k A B C → k ≡ reusable-kind → ⊥
 made-not-reusable made-pair e = omega arith
 made-not-reusable made-function e = omega arith
 made-not-reusable made-circuit e = omega arith
 
+-- The types without parts, each of its own kind.
+pub data Leaf : Ty → Type 0 where
+  leaf-wire : (α : Wire) → Leaf (wire α)
+  leaf-unit : Leaf unit
+
+pub leaf-parts : {A : Ty} → Leaf A → hasParts (kindOf A) ≡ false
+leaf-parts (leaf-wire Bit) = refl
+leaf-parts (leaf-wire Qubit) = refl
+leaf-parts leaf-unit = refl
+
+pub same-leaf : {A B : Ty} → Leaf A → Leaf B → kindOf A ≡ kindOf B → A ≡ B
+same-leaf (leaf-wire α) (leaf-wire β) e = ap wire (same-wire α β e)
+same-leaf (leaf-wire α) leaf-unit e = absurd (omega (arith, wire-kind α))
+same-leaf leaf-unit (leaf-wire β) e = absurd (omega (arith, wire-kind β))
+same-leaf leaf-unit leaf-unit e = refl
+
+-- A kind has parts or it has none.
+pub parts-clash : (kind : ℕ) → hasParts kind ≡ true → hasParts kind ≡ false → ⊥
+parts-clash kind p q = let z : _≡_ {A = ℕ} 0 1 = cc in omega arith
+
+-- So a leaf is of no kind that has parts.
+pub leaf-clash : {A : Ty} {kind : ℕ} → Leaf A → hasParts kind ≡ true → kind ≡ kindOf A → ⊥
+leaf-clash {kind = kind} l p e = parts-clash kind p (ap hasParts e ∙ leaf-parts l)
+
 -- A cell by the number of its parts.
 pub data View (w : List ℕ) (n i : ℕ) : Ty → Type 0 where
-  no-part : (α : Wire) → cellKind w i ≡ wireCode α → View w n i (wire α)
+  no-part : {A : Ty} → Leaf A → cellKind w i ≡ kindOf A → View w n i A
   two-parts : {k : ℕ} {A B C : Ty}
       → Made k A B C → cellKind w i ≡ k → Denotes w n (cellFirst w i) A → Denotes w n (cellSecond w i) B
       → View w n i C
   one-part : {A : Ty} → cellKind w i ≡ reusable-kind → Denotes w n (cellFirst w i) A → View w n i (! A)
 
 pub view : {w : List ℕ} {n i : ℕ} {A : Ty} → Denotes w n i A → View w n i A
-view (wire-cell {α = α} r) = no-part α (r .kind)
+view (wire-cell {α = α} r) = no-part (leaf-wire α) (r .kind)
+view (unit-cell r) = no-part leaf-unit (r .kind)
 view (pair-cell r d e) = two-parts made-pair (r .kind) d e
 view (function-cell r d e) = two-parts made-function (r .kind) d e
 view (reusable-cell r d) = one-part (r .kind) d

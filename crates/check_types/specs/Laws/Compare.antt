@@ -5,13 +5,15 @@ use mathlib.Core.Path.{_≡_, refl, sym, _∙_, ap, subst}
 use mathlib.Core.Bool.{Bool, true, false, _&&_}
 use mathlib.Core.List.{List}
 use Rattle.rules.specs.Kinds.{pair-type-kind, reusable-kind}
-use Rattle.rules.specs.Types.{Wire, Ty, wire, !_, entries, isWireType, Wire-discrete, Ty-discrete, wireCode}
+use Rattle.rules.specs.Types.{Ty, !_, entries, isWireType, Wire-discrete, Ty-discrete}
 use Rattle.rules.specs.Inference.{same, isYes}
-use Rattle.rules.specs.Laws.TypeCodes.{entries-positive, wire-kind, same-wire}
-use Rattle.check_types.specs.Cells.{cellKind, cellFirst, cellSecond, kindOf, Denotes, wire-cell, pair-cell}
+use Rattle.rules.specs.Laws.TypeCodes.{entries-positive}
+use Rattle.check_types.specs.Cells.{cellKind, cellFirst, cellSecond, hasParts, kindOf, Denotes, wire-cell, unit-cell}
+use Rattle.check_types.specs.Cells.{pair-cell}
 use Rattle.check_types.specs.Cells.{function-cell, reusable-cell, circuit-cell, Made, made-pair, made-function}
 use Rattle.check_types.specs.Cells.{made-circuit}
-use Rattle.check_types.specs.Laws.Cells.{cell-of, made-entries, made-kind, made-not-reusable, made-whole, made-first}
+use Rattle.check_types.specs.Laws.Cells.{cell-of, made-entries, made-parts, made-not-reusable, made-whole, made-first}
+use Rattle.check_types.specs.Laws.Cells.{Leaf, leaf-wire, leaf-unit, same-leaf, parts-clash, leaf-clash}
 use Rattle.check_types.specs.Laws.Cells.{made-second, View, no-part, two-parts, one-part, view}
 use Rattle.check_types.specs.Compare.{shareOf, SaysSame, SaysWireType}
 
@@ -46,7 +48,7 @@ same-different A B e = false-no (Ty-discrete Wire-discrete A B) e
 
 -- Two cells of one kind.
 data Alike (w : List ℕ) (n i j : ℕ) : Ty → Ty → Type 0 where
-  alike-wires : (α : Wire) → cellKind w i ≡ wireCode α → Alike w n i j (wire α) (wire α)
+  alike-leaves : {A : Ty} → Leaf A → cellKind w i ≡ kindOf A → Alike w n i j A A
   alike-two : {k : ℕ} {A B C A′ B′ C′ : Ty}
       → Made k A B C → Made k A′ B′ C′ → cellKind w i ≡ k
       → Denotes w n (cellFirst w i) A → Denotes w n (cellSecond w i) B
@@ -59,30 +61,30 @@ data Alike (w : List ℕ) (n i j : ℕ) : Ty → Ty → Type 0 where
 alike : {w : List ℕ} {n i j : ℕ} {A B : Ty}
     → cellKind w i ≡ cellKind w j → View w n i A → View w n j B
     → Alike w n i j A B
-alike {w} {n} {i} {j} e (no-part α k) (no-part β k′) =
-    subst (λ γ. Alike w n i j (wire α) (wire γ)) (same-wire α β (sym k ∙ e ∙ k′)) (alike-wires α k)
-alike e (no-part α k) (two-parts m k′ x y) = absurd (omega (arith, made-kind m, wire-kind α))
-alike e (no-part α k) (one-part k′ x) = absurd (omega (arith, wire-kind α))
-alike e (two-parts m k x y) (no-part β k′) = absurd (omega (arith, made-kind m, wire-kind β))
+alike {w} {n} {i} {j} {A} e (no-part l k) (no-part l′ k′) =
+    subst (λ B. Alike w n i j A B) (same-leaf l l′ (sym k ∙ e ∙ k′)) (alike-leaves l k)
+alike e (no-part l k) (two-parts m k′ x y) = absurd (leaf-clash l (made-parts m) (sym k′ ∙ sym e ∙ k))
+alike e (no-part l k) (one-part k′ x) = absurd (leaf-clash l refl (sym k′ ∙ sym e ∙ k))
+alike e (two-parts m k x y) (no-part l k′) = absurd (leaf-clash l (made-parts m) (sym k ∙ e ∙ k′))
 alike e (two-parts {A = A} {B = B} {C = C} m k x y) (two-parts {A = A′} {B = B′} {C = C′} m′ k′ x′ y′) =
     alike-two m (subst (λ q. Made q A′ B′ C′) (sym k′ ∙ sym e ∙ k) m′) k x y x′ y′
 alike e (two-parts m k x y) (one-part k′ x′) = absurd (made-not-reusable m (sym k ∙ e ∙ k′))
-alike e (one-part k x) (no-part β k′) = absurd (omega (arith, wire-kind β))
+alike e (one-part k x) (no-part l k′) = absurd (leaf-clash l refl (sym k ∙ e ∙ k′))
 alike e (one-part k x) (two-parts m k′ x′ y′) = absurd (made-not-reusable m (sym k′ ∙ sym e ∙ k))
 alike e (one-part k x) (one-part k′ x′) = alike-one k x x′
 
 -- A cell denotes one type.
-wire-one : {w : List ℕ} {n i : ℕ} {α : Wire} {B : Ty} → cellKind w i ≡ wireCode α → View w n i B → wire α ≡ B
-wire-one {α = α} k (no-part β k′) = ap wire (same-wire α β (sym k ∙ k′))
-wire-one {α = α} k (two-parts m k′ x y) = absurd (omega (arith, made-kind m, wire-kind α))
-wire-one {α = α} k (one-part k′ x) = absurd (omega (arith, wire-kind α))
+leaf-one : {w : List ℕ} {n i : ℕ} {A B : Ty} → Leaf A → cellKind w i ≡ kindOf A → View w n i B → A ≡ B
+leaf-one l k (no-part l′ k′) = same-leaf l l′ (sym k ∙ k′)
+leaf-one l k (two-parts m k′ x y) = absurd (leaf-clash l (made-parts m) (sym k′ ∙ k))
+leaf-one l k (one-part k′ x) = absurd (leaf-clash l refl (sym k′ ∙ k))
 
 two-one : {w : List ℕ} {n i k : ℕ} {A B C D : Ty}
     → Made k A B C → cellKind w i ≡ k → View w n i D
     → ((A′ : Ty) → Denotes w n (cellFirst w i) A′ → A ≡ A′)
     → ((B′ : Ty) → Denotes w n (cellSecond w i) B′ → B ≡ B′)
     → C ≡ D
-two-one m k (no-part β k′) f g = absurd (omega (arith, made-kind m, wire-kind β))
+two-one m k (no-part l k′) f g = absurd (leaf-clash l (made-parts m) (sym k ∙ k′))
 two-one m k (two-parts {A = A′} {B = B′} {C = C′} m′ k′ x y) f g =
     made-whole m (subst (λ q. Made q A′ B′ C′) (sym k′ ∙ k) m′) (f A′ x) (g B′ y)
 two-one m k (one-part k′ x) f g = absurd (made-not-reusable m (sym k ∙ k′))
@@ -91,12 +93,13 @@ one-one : {w : List ℕ} {n i : ℕ} {A D : Ty}
     → cellKind w i ≡ reusable-kind → View w n i D
     → ((A′ : Ty) → Denotes w n (cellFirst w i) A′ → A ≡ A′)
     → ! A ≡ D
-one-one k (no-part β k′) f = absurd (omega (arith, wire-kind β))
+one-one k (no-part l k′) f = absurd (leaf-clash l refl (sym k ∙ k′))
 one-one k (two-parts m k′ x y) f = absurd (made-not-reusable m (sym k′ ∙ k))
 one-one k (one-part {A = A′} k′ x) f = ap !_ (f A′ x)
 
 pub denotes-one : {w : List ℕ} {n i : ℕ} {A B : Ty} → Denotes w n i A → Denotes w n i B → A ≡ B
-denotes-one (wire-cell r) e = wire-one (r .kind) (view e)
+denotes-one (wire-cell {α = α} r) e = leaf-one (leaf-wire α) (r .kind) (view e)
+denotes-one (unit-cell r) e = leaf-one leaf-unit (r .kind) (view e)
 denotes-one (pair-cell r x y) e =
     two-one made-pair (r .kind) (view e) (λ A′ x′. denotes-one x x′) (λ B′ y′. denotes-one y y′)
 denotes-one (function-cell r x y) e =
@@ -121,24 +124,24 @@ module _ (w : List ℕ) (most i j : ℕ) where
   other-kind f n A B d d′ h =
       different-same A B (λ e. f (cell-of d .kind ∙ ap kindOf e ∙ sym (cell-of d′ .kind)))
 
-  pub both-wires : cellKind w i ≡ cellKind w j → cellKind w i < 2 → SaysSame w most i j true
-  both-wires e h n A B d d′ b = go (alike e (view d) (view d′))
+  pub both-leaves : cellKind w i ≡ cellKind w j → hasParts (cellKind w i) ≡ false → SaysSame w most i j true
+  both-leaves e h n A B d d′ b = go (alike e (view d) (view d′))
     where
       go : {A B : Ty} → Alike w n i j A B → true ≡ same A B
-      go (alike-wires α k) = equal-same (wire α) (wire α) refl
-      go (alike-two m m′ k x y x′ y′) = absurd (omega (arith, made-kind m))
-      go (alike-one k x x′) = absurd (omega arith)
+      go (alike-leaves {A = A} l k) = equal-same A A refl
+      go (alike-two {k = kind} m m′ k x y x′ y′) = absurd (parts-clash kind (made-parts m) (ap hasParts (sym k) ∙ h))
+      go (alike-one k x x′) = absurd (parts-clash reusable-kind refl (ap hasParts (sym k) ∙ h))
 
   pub none-left : (r : Bool) → most ≡ 0 → SaysSame w most i j r
   none-left r e n A B d d′ b = absurd (omega (arith, entries-positive A))
 
-  pub first-differs : cellKind w i ≡ cellKind w j → 2 ≤ cellKind w i
+  pub first-differs : cellKind w i ≡ cellKind w j → hasParts (cellKind w i) ≡ true
       → SaysSame w (shareOf w (cellFirst w i) (most - 1)) (cellFirst w i) (cellFirst w j) false
       → SaysSame w most i j false
   first-differs e h first n A B d d′ b = go (alike e (view d) (view d′)) b
     where
       go : {A B : Ty} → Alike w n i j A B → entries A ≤ most → false ≡ same A B
-      go (alike-wires α k) b = absurd (omega (arith, wire-kind α))
+      go (alike-leaves l k) b = absurd (leaf-clash l h k)
       go (alike-two {A = A} {C = C} {A′ = A′} {C′ = C′} m m′ k x y x′ y′) b =
           let f = first n A A′ x x′ (omega (arith, made-entries m, cell-of x .size)) in
           different-same C C′ λ q. same-different A A′ f (made-first m m′ q)
@@ -152,20 +155,20 @@ module _ (w : List ℕ) (most i j : ℕ) where
   first-alone e h first n A B d d′ b = go (alike e (view d) (view d′)) b
     where
       go : {A B : Ty} → Alike w n i j A B → entries A ≤ most → true ≡ same A B
-      go (alike-wires α k) b = absurd (omega (arith, wire-kind α))
+      go (alike-leaves l k) b = absurd (leaf-clash l refl (sym h ∙ k))
       go (alike-two m m′ k x y x′ y′) b = absurd (made-not-reusable m (sym k ∙ h))
       go (alike-one {A = A} {A′ = A′} k x x′) b =
           let f = first n A A′ x x′ (omega (arith, cell-of x .size)) in
           equal-same (! A) (! A′) (ap !_ (same-equal A A′ f))
 
-  pub then-second : (r : Bool) → cellKind w i ≡ cellKind w j → 2 ≤ cellKind w i → (cellKind w i ≡ reusable-kind → ⊥)
+  pub then-second : (r : Bool) → cellKind w i ≡ cellKind w j → hasParts (cellKind w i) ≡ true → (cellKind w i ≡ reusable-kind → ⊥)
       → SaysSame w (shareOf w (cellFirst w i) (most - 1)) (cellFirst w i) (cellFirst w j) true
       → SaysSame w (most - 1 - shareOf w (cellFirst w i) (most - 1)) (cellSecond w i) (cellSecond w j) r
       → SaysSame w most i j r
   then-second r e h h′ first second n A B d d′ b = go (alike e (view d) (view d′)) b
     where
       go : {A B : Ty} → Alike w n i j A B → entries A ≤ most → r ≡ same A B
-      go (alike-wires α k) b = absurd (omega (arith, wire-kind α))
+      go (alike-leaves l k) b = absurd (leaf-clash l h k)
       go (alike-two {A = A} {B = B} {C = C} {A′ = A′} {B′ = B′} {C′ = C′} m m′ k x y x′ y′) b =
           let f = first n A A′ x x′ (omega (arith, made-entries m, cell-of x .size)) in
           let s = second n B B′ y y′ (omega (arith, made-entries m, cell-of x .size)) in
@@ -174,15 +177,16 @@ module _ (w : List ℕ) (most i j : ℕ) where
 
 -- The test for a wire type.
 module _ (w : List ℕ) (most i : ℕ) where
-  pub is-wire : cellKind w i < 2 → SaysWireType w most i true
-  is-wire h n A d b = go (view d)
+  pub is-leaf : hasParts (cellKind w i) ≡ false → SaysWireType w most i true
+  is-leaf h n A d b = go (view d)
     where
       go : {A : Ty} → View w n i A → true ≡ isWireType A
-      go (no-part α k) = refl
-      go (two-parts m k x y) = absurd (omega (arith, made-kind m))
-      go (one-part k x) = absurd (omega arith)
+      go (no-part (leaf-wire α) k) = refl
+      go (no-part leaf-unit k) = refl
+      go (two-parts {k = kind} m k x y) = absurd (parts-clash kind (made-parts m) (ap hasParts (sym k) ∙ h))
+      go (one-part k x) = absurd (parts-clash reusable-kind refl (ap hasParts (sym k) ∙ h))
 
-  pub no-wire : 2 ≤ cellKind w i → (cellKind w i ≡ pair-type-kind → ⊥) → SaysWireType w most i false
+  pub no-wire : hasParts (cellKind w i) ≡ true → (cellKind w i ≡ pair-type-kind → ⊥) → SaysWireType w most i false
   no-wire h h′ n A d b = go (view d)
     where
       made : {k : ℕ} {A B C : Ty} → Made k A B C → (k ≡ pair-type-kind → ⊥) → false ≡ isWireType C
@@ -191,7 +195,7 @@ module _ (w : List ℕ) (most i : ℕ) where
       made made-circuit f = refl
 
       go : {A : Ty} → View w n i A → false ≡ isWireType A
-      go (no-part α k) = absurd (omega (arith, wire-kind α))
+      go (no-part l k) = absurd (leaf-clash l h k)
       go (two-parts m k x y) = made m λ e. h′ (k ∙ e)
       go (one-part k x) = refl
 
@@ -209,7 +213,7 @@ module _ (w : List ℕ) (most i : ℕ) where
       made made-circuit f g = refl
 
       go : {A : Ty} → View w n i A → entries A ≤ most → false ≡ isWireType A
-      go (no-part α k) b = absurd (omega (arith, wire-kind α))
+      go (no-part l k) b = absurd (leaf-clash l refl (sym e ∙ k))
       go (two-parts {A = A} m k x y) b = made m (sym k ∙ e) (first n A x (omega (arith, made-entries m, cell-of x .size)))
       go (one-part k x) b = refl
 
@@ -226,7 +230,7 @@ module _ (w : List ℕ) (most i : ℕ) where
       made made-circuit f g s = absurd (omega arith)
 
       go : {A : Ty} → View w n i A → entries A ≤ most → r ≡ isWireType A
-      go (no-part α k) b = absurd (omega (arith, wire-kind α))
+      go (no-part l k) b = absurd (leaf-clash l refl (sym e ∙ k))
       go (two-parts {A = A} {B = B} m k x y) b =
           made m (sym k ∙ e)
           (first n A x (omega (arith, made-entries m, cell-of x .size)))

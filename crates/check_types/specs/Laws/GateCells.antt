@@ -8,7 +8,8 @@ use mathlib.Core.List.{List, [], _∷_}
 use mathlib.Core.Option.{some}
 use lib.ListN.{length}
 use lib.Dec.{leb, leb→le}
-use Rattle.rules.specs.Types.{Bit, Qubit, Ty, wire, Circ, entries, typeCodes}
+use Rattle.rules.specs.Kinds.{bit-kind, qubit-kind, unit-kind}
+use Rattle.rules.specs.Types.{Bit, Qubit, Ty, wire, unit, Circ, entries, typeCodes}
 use Rattle.rules.specs.Gates.{GateType, _to_, nth, gateTable, gateType, isGate, isSome}
 use Rattle.rules.specs.GateCodes.{codeAt, circCodes, typeEntries, typeCode}
 use Rattle.rules.specs.Laws.GateCodes.{most-type}
@@ -16,10 +17,11 @@ use Rattle.rules.specs.Laws.TypeCodes.{typeCodes-entries, entries-positive}
 use Rattle.rules.proofs.GateTable.{at-each}
 use Rattle.check_types.specs.Cells.{Denotes}
 use Rattle.check_types.specs.Laws.Cells.{denotes-kept}
-use Rattle.check_types.specs.Laws.Load.{CodesAt, length-loadEntry, agree-loadEntry, entry-wire, length-loadCodes}
+use Rattle.check_types.specs.Laws.Load.{CodesAt, length-loadEntry, agree-loadEntry, entry-wire, entry-unit, length-loadCodes}
 use Rattle.check_types.specs.Laws.Load.{agree-loadCodes, codes-denote, codes-stand}
 use Rattle.check_types.specs.Load.{pick, loadEntry, loadCodes}
-use Rattle.check_types.specs.GateCells.{gateStart, gateCells, gateCell, loadGates, loadAllGates, GatesLoaded}
+use Rattle.check_types.specs.GateCells.{cell-of-unit, gateStart, gateCells, gateCell, loadGates, loadAllGates}
+use Rattle.check_types.specs.GateCells.{GatesLoaded}
 
 -- A gate's type has few entries.
 pub few-entries : (g : ℕ) → typeEntries g ≤ most-type
@@ -27,7 +29,7 @@ unfolding typeEntries
 few-entries g =
     leb→le (length (circCodes (gateType g))) most-type (at-each (λ o. leb (length (circCodes o)) most-type) gateTable tt g)
 
-pub gate-start-small : (g : ℕ) → gateStart g ≤ 2 + 7 * g
+pub gate-start-small : (g : ℕ) → gateStart g ≤ 3 + 7 * g
 unfolding gateStart
 gate-start-small zero = omega arith
 gate-start-small (suc g) = omega (arith, gate-start-small g, few-entries g)
@@ -56,10 +58,11 @@ is-gate : (g : ℕ) (T U : Ty) → gateType g ≡ some (T to U) → isGate g ≡
 unfolding isGate
 is-gate g T U e = ap isSome e
 
--- Bit, Qubit and the types of the gates below g are cells.
+-- Bit, Qubit, unit and the types of the gates below g are cells.
 record GatesBelow (w : List ℕ) (g : ℕ) : Type 0 where
   bit : Denotes w (gateStart g) 0 (wire Bit)
   qubit : Denotes w (gateStart g) 1 (wire Qubit)
+  unit-type : Denotes w (gateStart g) cell-of-unit unit
   gate : (h : ℕ) (T U : Ty) → h < g → gateType h ≡ some (T to U) → Denotes w (gateStart g) (gateCell h) (Circ T U)
 
 new-gate : (w : List ℕ) (g : ℕ) (T U : Ty) → gateStart (suc g) ≤ 65536 → 4 * gateStart (suc g) ≤ length w
@@ -81,7 +84,7 @@ one-more-gate : (w : List ℕ) (g : ℕ) → gateStart (suc g) ≤ 65536 → 4 *
     → GatesBelow w g
     → GatesBelow (loadCodes w (gateStart g) (typeCode g) 0 (typeEntries g)) (suc g)
 unfolding gateStart
-one-more-gate w g fits room b = record { bit = kept (b .bit); qubit = kept (b .qubit); gate = gates }
+one-more-gate w g fits room b = record { bit = kept (b .bit); qubit = kept (b .qubit); unit-type = kept (b .unit-type); gate = gates }
   where
     n : ℕ
     n = gateStart g
@@ -109,7 +112,10 @@ one-more-gate w g fits room b = record { bit = kept (b .bit); qubit = kept (b .q
 
 length-loadGates : (w : List ℕ) (g : ℕ) → length (loadGates w g) ≡ length w
 unfolding loadGates
-length-loadGates w zero = length-loadEntry (loadEntry w 0 0) 1 1 ∙ length-loadEntry w 0 0
+length-loadGates w zero =
+    length-loadEntry (loadEntry (loadEntry w 0 bit-kind) 1 qubit-kind) cell-of-unit unit-kind
+    ∙ length-loadEntry (loadEntry w 0 bit-kind) 1 qubit-kind
+    ∙ length-loadEntry w 0 bit-kind
 length-loadGates w (suc g) =
     length-loadCodes (loadGates w g) (gateStart g) (typeCode g) 0 (typeEntries g) ∙ length-loadGates w g
 
@@ -118,10 +124,24 @@ unfolding loadGates gateStart
 gates-below w zero fits room =
     record {
       bit =
-          denotes-kept (agree-loadEntry (loadEntry w 0 0) 1 1) (omega arith) (entry-wire w 0 Bit (omega arith));
-      qubit = entry-wire (loadEntry w 0 0) 1 Qubit (omega (arith, length-loadEntry w 0 0));
+          denotes-kept (agree-loadEntry w₂ cell-of-unit unit-kind) (omega arith)
+          (denotes-kept (agree-loadEntry w₁ 1 qubit-kind) (omega arith) (entry-wire w 0 Bit (omega arith)));
+      qubit =
+          denotes-kept (agree-loadEntry w₂ cell-of-unit unit-kind) (omega arith)
+          (entry-wire w₁ 1 Qubit (omega (arith, l₁)));
+      unit-type = entry-unit w₂ cell-of-unit (omega (arith, l₁, length-loadEntry w₁ 1 qubit-kind));
       gate = λ h T U l e. absurd (omega arith);
     }
+  where
+    -- With Bit, and with Qubit.
+    w₁ : List ℕ
+    w₁ = loadEntry w 0 bit-kind
+
+    w₂ : List ℕ
+    w₂ = loadEntry w₁ 1 qubit-kind
+
+    l₁ : length w₁ ≡ length w
+    l₁ = length-loadEntry w 0 bit-kind
 gates-below w (suc g) fits room =
     one-more-gate
     (loadGates w g)
@@ -155,7 +175,7 @@ unfolding gateCell
 cell-of-no-gate g e = ap (λ t. pick t (gateStart g + typeEntries g - 1) 0) (sym e)
 
 -- The numbers of cells before the gates.
-pub start-of-first : 2 ≡ gateStart 0
+pub start-of-first : 3 ≡ gateStart 0
 unfolding gateStart
 start-of-first = refl
 
@@ -164,27 +184,29 @@ unfolding gateStart
 start-of-next g = let e : suc g ≡ g + 1 = omega arith in ap gateStart e
 
 -- Loading the gates one by one.
-pub load-wires : (w : List ℕ) → loadEntry (loadEntry w 0 0) 1 1 ≡ loadGates w 0
+pub load-leaves : (w : List ℕ)
+    → loadEntry (loadEntry (loadEntry w 0 bit-kind) 1 qubit-kind) cell-of-unit unit-kind ≡ loadGates w 0
 unfolding loadGates
-load-wires w = refl
+load-leaves w = refl
 
 pub load-next-gate : (w : List ℕ) (g : ℕ)
     → loadCodes (loadGates w g) (gateStart g) (typeCode g) 0 (typeEntries g) ≡ loadGates w (g + 1)
 unfolding loadGates
 load-next-gate w g = let e : suc g ≡ g + 1 = omega arith in ap (λ i. loadGates w i) e
 
--- Where the buffer has room for them, loading makes Bit, Qubit and every gate's type cells.
+-- Where the buffer has room for them, loading makes Bit, Qubit, unit and every gate's type cells.
 pub gates-loaded : (w : List ℕ) → 4 * gateCells ≤ length w → GatesLoaded (loadAllGates w) gateCells
 unfolding gateCells
 gates-loaded w room =
-    let b = gates-below w 9 (omega (arith, gate-start-small 9)) room in
+    let b = gates-below w (length gateTable) (omega (arith, gate-start-small (length gateTable))) room in
     record {
       bit = b .bit;
       qubit = b .qubit;
+      unit-type = b .unit-type;
       gate = λ g T U e. b .gate g T U (gate-number gateTable g (T to U) e) e;
     }
 
--- There are 41 of these cells.
-pub gate-cells : gateCells ≡ 41
+-- There are 48 of these cells.
+pub gate-cells : gateCells ≡ 48
 unfolding gateCells gateStart typeEntries
 gate-cells = refl

@@ -3,57 +3,59 @@ use Prim.Native.Nat.{ℕ, zero, suc, _+_, _*_, _-_, _≤_, _<_}
 use native.Mathlib.Omega.{arith}
 use native.Mathlib.Decide.{decLe}
 use mathlib.Core.Path.{_≡_, refl, sym, _∙_, ap, ap₂, subst, subst₂}
+use mathlib.Core.Bool.{true, false}
 use mathlib.Core.List.{List, _∷_, _++_}
 use lib.ListN.{length, getD, List·getD-append}
 use lib.Seq.{getD-append-add}
-use lib.Dec.{ltb, eqb}
-use borrow.Author.Tests.{lt-ltb, le-ltb, ne-eqb}
-use Rattle.rules.specs.Kinds.{reusable-kind}
+use lib.Dec.{eqb}
+use borrow.Author.Tests.{ne-eqb}
+use Rattle.rules.specs.Kinds.{reusable-kind, unit-kind}
 use Rattle.rules.specs.Types.{Wire, Bit, Qubit, Ty, wire, _⊗_, _⊸_, !_, Circ, copyable, entries, most-entries, wireCode}
-use Rattle.rules.specs.Types.{typeCodes}
+use Rattle.rules.specs.Types.{typeCodes, unit}
 use Rattle.rules.specs.GateCodes.{codeAt}
 use Rattle.rules.specs.Laws.TypeCodes.{typeCodes-entries, entries-positive}
 use Rattle.check_types.specs.Cells.{marked, cellSize, copyableFrom, Denotes, Agree, Room, Made, made-pair, made-function}
-use Rattle.check_types.specs.Cells.{made-circuit}
+use Rattle.check_types.specs.Cells.{made-circuit, hasParts}
 use Rattle.check_types.specs.Laws.Cells.{cell-of, agree-refl, agree-less, agree-trans, denotes-kept, made-entries}
 use Rattle.check_types.specs.Laws.Cells.{made-copyable}
 use Rattle.check_types.specs.NewCell.{withCell}
 use Rattle.check_types.specs.Laws.NewCell.{length-withCell, word-above-cell, agree-withCell, two-parts-written}
-use Rattle.check_types.specs.Laws.NewCell.{one-part-written, wire-written}
+use Rattle.check_types.specs.Laws.NewCell.{one-part-written, wire-written, unit-written}
 use Rattle.check_types.specs.Load.{pick, firstBehind, secondBehind, entrySize, entryWord, loadEntry, loadCodes, codesOf}
 use Rattle.check_types.specs.Load.{TypesLoaded}
 
 -- The codes f have the type A in preorder at position p.
 pub data CodesAt (f : ℕ → ℕ) : ℕ → Ty → Type 0 where
   codes-wire : {p : ℕ} {α : Wire} → f p ≡ wireCode α → CodesAt f p (wire α)
+  codes-unit : {p : ℕ} → f p ≡ unit-kind → CodesAt f p unit
   codes-one : {p : ℕ} {A : Ty} → f p ≡ reusable-kind → CodesAt f (suc p) A → CodesAt f p (! A)
   codes-two : {p k : ℕ} {A B C : Ty}
       → Made k A B C → f p ≡ k → CodesAt f (suc p) A → CodesAt f (suc p + entries A) B
       → CodesAt f p C
 
 -- The size of an entry, by the number of its parts.
-pub size-of-wire : (w : List ℕ) (n kind : ℕ) → kind < 2 → 1 ≡ entrySize w n kind
+pub size-of-leaf : (w : List ℕ) (n kind : ℕ) → hasParts kind ≡ false → 1 ≡ entrySize w n kind
 unfolding entrySize
-size-of-wire w n kind h =
+size-of-leaf w n kind h =
     let s = cellSize w (firstBehind n) in
     let t = cellSize w (secondBehind w n) in
-    ap (λ b. pick b 1 (pick (eqb kind reusable-kind) (1 + s) (1 + s + t))) (sym (lt-ltb kind 2 h))
+    ap (λ b. pick b (pick (eqb kind reusable-kind) (1 + s) (1 + s + t)) 1) (sym h)
 
 pub size-of-one : (w : List ℕ) (n kind : ℕ) → kind ≡ reusable-kind → 1 + cellSize w (firstBehind n) ≡ entrySize w n kind
 unfolding entrySize
 size-of-one w n kind e =
     let s = cellSize w (firstBehind n) in
     let t = cellSize w (secondBehind w n) in
-    sym (ap (λ k. pick (ltb k 2) 1 (pick (eqb k reusable-kind) (1 + s) (1 + s + t))) e)
+    sym (ap (λ k. pick (hasParts k) (pick (eqb k reusable-kind) (1 + s) (1 + s + t)) 1) e)
 
-pub size-of-two : (w : List ℕ) (n kind : ℕ) → 2 ≤ kind → (kind ≡ reusable-kind → ⊥)
+pub size-of-two : (w : List ℕ) (n kind : ℕ) → hasParts kind ≡ true → (kind ≡ reusable-kind → ⊥)
     → 1 + cellSize w (firstBehind n) + cellSize w (secondBehind w n) ≡ entrySize w n kind
 unfolding entrySize
 size-of-two w n kind h f =
     let s = cellSize w (firstBehind n) in
     let t = cellSize w (secondBehind w n) in
     ap (λ b. pick b (1 + s) (1 + s + t)) (sym (ne-eqb kind reusable-kind f))
-    ∙ ap (λ b. pick b 1 (pick (eqb kind reusable-kind) (1 + s) (1 + s + t))) (sym (le-ltb kind 2 h))
+    ∙ ap (λ b. pick b (pick (eqb kind reusable-kind) (1 + s) (1 + s + t)) 1) (sym h)
 
 -- A cell with these parts and this fourth word, however they were computed, is the entry loaded.
 pub entry-loaded : (w w′ : List ℕ) (n kind first second size word t : ℕ)
@@ -90,6 +92,10 @@ pub entry-wire : (w : List ℕ) (n : ℕ) (α : Wire) → 4 * n + 4 ≤ length w
 unfolding loadEntry entrySize
 entry-wire w n Bit h = wire-written w n (firstBehind n) (secondBehind w n) Bit h
 entry-wire w n Qubit h = wire-written w n (firstBehind n) (secondBehind w n) Qubit h
+
+pub entry-unit : (w : List ℕ) (n : ℕ) → 4 * n + 4 ≤ length w → Denotes (loadEntry w n unit-kind) (n + 1) n unit
+unfolding loadEntry entrySize
+entry-unit w n h = unit-written w n (firstBehind n) (secondBehind w n) h
 
 entry-one : (w : List ℕ) (n : ℕ) {A : Ty} → Room w n → Denotes w n (n - 1) A → entries (! A) ≤ most-entries
     → Denotes (loadEntry w n 4) (n + 1) n (! A)
@@ -192,6 +198,11 @@ module _ (w : List ℕ) (n : ℕ) (f : ℕ → ℕ) (p k : ℕ)
       (λ c. Denotes (loadEntry w (n + k) c) (n + k + 1) (n + k) (wire α))
       (sym e)
       (entry-wire w (n + k) α (omega arith))
+  first-entry A (codes-unit e) h b =
+      subst
+      (λ c. Denotes (loadEntry w (n + k) c) (n + k + 1) (n + k) unit)
+      (sym e)
+      (entry-unit w (n + k) (omega arith))
   first-entry A (codes-one {A = B} e s) h b =
       let d : Denotes w (n + k) (n + k - 1) B
       = subst (λ j. Denotes w (n + k) j B) (omega (arith, entries-positive B))
@@ -300,6 +311,7 @@ pub codes-stand : (f : ℕ → ℕ) (p : ℕ) (A : Ty)
     → ((i : ℕ) → i < entries A → f (p + i) ≡ codeAt (typeCodes A) i)
     → CodesAt f p A
 codes-stand f p (wire α) h = let e : p ≡ p + 0 = omega arith in codes-wire (ap f e ∙ h 0 (omega arith))
+codes-stand f p unit h = let e : p ≡ p + 0 = omega arith in codes-unit (ap f e ∙ h 0 (omega arith))
 codes-stand f p (! A) h =
     let e : p ≡ p + 0 = omega arith in
     codes-one

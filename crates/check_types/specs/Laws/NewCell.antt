@@ -12,9 +12,11 @@ use lib.Dec.{leb}
 use borrow.Author.Tests.{le-leb, lt-leb}
 use Rattle.words.specs.Words.{words, putWords}
 use Rattle.words.specs.Laws.Words.{put-view, set-within, set-past, length-set-words}
-use Rattle.rules.specs.Types.{Wire, Bit, Qubit, Ty, wire, _⊗_, _⊸_, !_, Circ, copyable, entries, most-entries, wireCode}
+use Rattle.rules.specs.Kinds.{unit-kind}
+use Rattle.rules.specs.Types.{Wire, Bit, Qubit, Ty, wire, unit, _⊗_, _⊸_, !_, Circ, copyable, entries, most-entries}
+use Rattle.rules.specs.Types.{wireCode}
 use Rattle.check_types.specs.Cells.{copyable-mark, marked, cellKind, cellFirst, cellSecond, kindOf, Cell, Agree, Room}
-use Rattle.check_types.specs.Cells.{Denotes}
+use Rattle.check_types.specs.Cells.{Denotes, unit-cell}
 use Rattle.check_types.specs.Cells.{wire-cell, pair-cell, function-cell, reusable-cell, circuit-cell, Made, made-pair}
 use Rattle.check_types.specs.Cells.{made-function, made-circuit}
 use Rattle.check_types.specs.Laws.Cells.{cell-of, denotes-kept}
@@ -150,6 +152,7 @@ module _ (w : List ℕ) (n kind first second word : ℕ) where
         kind-fits : (A : Ty) → kind ≡ kindOf A → kind < 65536
         kind-fits (wire Bit) k = omega arith
         kind-fits (wire Qubit) k = omega arith
+        kind-fits unit k = omega arith
         kind-fits (A ⊗ B) k = omega arith
         kind-fits (A ⊸ B) k = omega arith
         kind-fits (! A) k = omega arith
@@ -211,3 +214,9 @@ pub wire-written : (w : List ℕ) (n first second : ℕ) (α : Wire)
     → Denotes (withCell w n (wireCode α) first second 1) (n + 1) n (wire α)
 wire-written w n first second α room =
     wire-cell (cell-written w n (wireCode α) first second 1 room (wire α) refl refl (omega arith))
+
+pub unit-written : (w : List ℕ) (n first second : ℕ)
+    → 4 * n + 4 ≤ length w
+    → Denotes (withCell w n unit-kind first second (marked true 1)) (n + 1) n unit
+unit-written w n first second room =
+    unit-cell (cell-written w n unit-kind first second (marked true 1) room unit refl refl (omega arith))

@@ -10,7 +10,6 @@ use borrow.Author.Tests.{le-leb, lt-leb}
 use Rattle.rules.specs.Kinds.{pair-type-kind, function-kind, reusable-kind}
 use Rattle.rules.specs.Types.{Ty, !_, Circ, entries, isWireType, most-entries}
 use Rattle.rules.specs.Inference.{same, given, if-true, asPair, asFunction, asReusable, boxType, liftType}
-use Rattle.rules.specs.Laws.TypeCodes.{wire-kind}
 use Rattle.check_types.specs.declared.Ruled.{Ruled}
 use Rattle.check_types.specs.declared.Ruled.the-variants.{Gives, Fails}
 use Rattle.check_types.specs.declared.Parts.{Parts}
@@ -22,6 +21,7 @@ use Rattle.check_types.specs.Laws.Cells.{cell-of, agree-refl, made-entri
 use Rattle.check_types.specs.Laws.Cells.{made-not-reusable, made-copyable}
 use Rattle.check_types.specs.NewCell.{withCell}
 use Rattle.check_types.specs.Laws.NewCell.{length-withCell, word-above-cell, agree-withCell, two-parts-written}
+use Rattle.check_types.specs.Laws.Cells.{leaf-wire, leaf-unit, leaf-clash}
 use Rattle.check_types.specs.Laws.NewCell.{one-part-written}
 use Rattle.check_types.specs.Laws.Compare.{same-equal}
 use Rattle.check_types.specs.Rules.{SaysSameType, SaysIsWireType, Reads, reads-pair, reads-function, reads-circuit}
@@ -41,17 +41,17 @@ pub of-kind : {w : List ℕ} {n i k : ℕ} {g : Ty → Option (Ty × Ty)} {F : T
 of-kind {w} {n} {i} r d e = go r (view d) e
   where
     go : {k : ℕ} {g : Ty → Option (Ty × Ty)} {F : Ty} → Reads k g → View w n i F → cellKind w i ≡ k → PartsOf w n i (g F) F
-    go reads-pair (no-part α k) e = absurd (omega (arith, wire-kind α))
+    go reads-pair (no-part l k) e = absurd (leaf-clash l refl (sym e ∙ k))
     go reads-pair (one-part k x) e = absurd (omega arith)
     go reads-pair (two-parts made-pair k x y) e = record { first = _; second = _; parts = refl; first-denotes = x; second-denotes = y; size = refl }
     go reads-pair (two-parts made-function k x y) e = absurd (omega arith)
     go reads-pair (two-parts made-circuit k x y) e = absurd (omega arith)
-    go reads-function (no-part α k) e = absurd (omega (arith, wire-kind α))
+    go reads-function (no-part l k) e = absurd (leaf-clash l refl (sym e ∙ k))
     go reads-function (one-part k x) e = absurd (omega arith)
     go reads-function (two-parts made-pair k x y) e = absurd (omega arith)
     go reads-function (two-parts made-function k x y) e = record { first = _; second = _; parts = refl; first-denotes = x; second-denotes = y; size = refl }
     go reads-function (two-parts made-circuit k x y) e = absurd (omega arith)
-    go reads-circuit (no-part α k) e = absurd (omega (arith, wire-kind α))
+    go reads-circuit (no-part l k) e = absurd (leaf-clash l refl (sym e ∙ k))
     go reads-circuit (one-part k x) e = absurd (omega arith)
     go reads-circuit (two-parts made-pair k x y) e = absurd (omega arith)
     go reads-circuit (two-parts made-function k x y) e = absurd (omega arith)
@@ -63,17 +63,20 @@ pub of-other-kind : {w : List ℕ} {n i k : ℕ} {g : Ty → Option (Ty × Ty)} 
 of-other-kind {w} {n} {i} r d f = go r (view d) f
   where
     go : {k : ℕ} {g : Ty → Option (Ty × Ty)} {F : Ty} → Reads k g → View w n i F → (cellKind w i ≡ k → ⊥) → g F ≡ none
-    go reads-pair (no-part α k) f = refl
+    go reads-pair (no-part (leaf-wire α) k) f = refl
+    go reads-pair (no-part leaf-unit k) f = refl
     go reads-pair (one-part k x) f = refl
     go reads-pair (two-parts made-pair k x y) f = absurd (f k)
     go reads-pair (two-parts made-function k x y) f = refl
     go reads-pair (two-parts made-circuit k x y) f = refl
-    go reads-function (no-part α k) f = refl
+    go reads-function (no-part (leaf-wire α) k) f = refl
+    go reads-function (no-part leaf-unit k) f = refl
     go reads-function (one-part k x) f = refl
     go reads-function (two-parts made-pair k x y) f = refl
     go reads-function (two-parts made-function k x y) f = absurd (f k)
     go reads-function (two-parts made-circuit k x y) f = refl
-    go reads-circuit (no-part α k) f = refl
+    go reads-circuit (no-part (leaf-wire α) k) f = refl
+    go reads-circuit (no-part leaf-unit k) f = refl
     go reads-circuit (one-part k x) f = refl
     go reads-circuit (two-parts made-pair k x y) f = refl
     go reads-circuit (two-parts made-function k x y) f = refl
@@ -90,7 +93,7 @@ pub reusable : {w : List ℕ} {n i : ℕ} {F : Ty} → Denotes w n i F → cellK
 reusable {w} {n} {i} d e = go (view d)
   where
     go : {F : Ty} → View w n i F → PartOf w n i F
-    go (no-part α k) = absurd (omega (arith, wire-kind α))
+    go (no-part l k) = absurd (leaf-clash l refl (sym e ∙ k))
     go (one-part k x) = record { first = _; part = refl; denotes = x; size = refl }
     go (two-parts m k x y) = absurd (made-not-reusable m (sym k ∙ e))
 
@@ -98,7 +101,8 @@ pub not-reusable : {w : List ℕ} {n i : ℕ} {F : Ty} → Denotes w n i F → (
 not-reusable {w} {n} {i} d f = go (view d)
   where
     go : {F : Ty} → View w n i F → asReusable F ≡ none
-    go (no-part α k) = refl
+    go (no-part (leaf-wire α) k) = refl
+    go (no-part leaf-unit k) = refl
     go (one-part k x) = absurd (f k)
     go (two-parts made-pair k x y) = refl
     go (two-parts made-function k x y) = refl
