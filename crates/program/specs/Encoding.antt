@@ -4,10 +4,10 @@ use Prim.Native.Nat.{ℕ, _+_, _/_, _%_}
 use mathlib.Core.List.{List, [], _∷_, _++_, map}
 use lib.ListN.{length, replicate}
 use Rattle.rules.specs.Kinds.{variable-kind, label-kind, abstraction-kind, application-kind, pair-kind, let-kind}
-use Rattle.rules.specs.Kinds.{lift-kind, force-kind, box-kind, apply-kind, gate-kind}
+use Rattle.rules.specs.Kinds.{lift-kind, force-kind, box-kind, apply-kind, gate-kind, unit-value-kind}
 use Rattle.rules.specs.Types.{Wire, Ty, entries, wireCode, typeCodes}
 use Rattle.rules.specs.Terms.{Term, variable, label, gate, constant, abstraction, application, pair, let-in, lift, force}
-use Rattle.rules.specs.Terms.{box, apply}
+use Rattle.rules.specs.Terms.{unit-value, box, apply}
 use Rattle.rules.specs.Sizes.{nodes}
 
 -- The types that a term names, in order of occurrence: those of its abstractions and boxes.
@@ -15,6 +15,7 @@ abbrev pub typesIn : Term → List Ty
 typesIn (variable x) = []
 typesIn (label ℓ) = []
 typesIn (gate x) = []
+typesIn unit-value = []
 typesIn (constant c) = []
 typesIn (abstraction A M) = A ∷ typesIn M
 typesIn (application M N) = typesIn M ++ typesIn N
@@ -40,6 +41,7 @@ abbrev pub termKinds : Term → List ℕ
 termKinds (variable x) = variable-kind ∷ []
 termKinds (label ℓ) = label-kind ∷ []
 termKinds (gate x) = gate-kind ∷ []
+termKinds unit-value = unit-value-kind ∷ []
 termKinds (constant c) = []
 termKinds (abstraction A M) = abstraction-kind ∷ termKinds M
 termKinds (application M N) = application-kind ∷ termKinds M ++ termKinds N
@@ -55,6 +57,7 @@ abbrev pub termArguments : ℕ → Term → List ℕ
 termArguments p (variable x) = x ∷ []
 termArguments p (label ℓ) = ℓ ∷ []
 termArguments p (gate x) = x ∷ []
+termArguments p unit-value = 0 ∷ []
 termArguments p (constant c) = []
 termArguments p (abstraction A M) = p ∷ termArguments (p + entries A) M
 termArguments p (application M N) = 0 ∷ termArguments p M ++ termArguments (p + entriesOf (typesIn M)) N

@@ -5,9 +5,9 @@ use mathlib.Core.List.{List}
 use lib.Dec.{eqb, leb, ltb}
 use lib.ListN.{getD}
 use Rattle.words.specs.Numbers.{wordAt}
-use Rattle.rules.specs.Kinds.{qubit-kind, pair-type-kind, function-kind, reusable-kind, circuit-kind, variable-kind}
+use Rattle.rules.specs.Kinds.{qubit-kind, pair-type-kind, function-kind, reusable-kind, circuit-kind, unit-kind, variable-kind}
 use Rattle.rules.specs.Kinds.{label-kind, abstraction-kind, application-kind, let-kind, lift-kind, force-kind, box-kind}
-use Rattle.rules.specs.Kinds.{apply-kind, gate-kind}
+use Rattle.rules.specs.Kinds.{apply-kind, gate-kind, unit-value-kind}
 use Rattle.rules.specs.Gates.{isGate}
 use Rattle.program.specs.declared.format.Argument.{Argument}
 use Rattle.program.specs.declared.format.Argument.the-variants.{Zero, LabelNumber, GateNumber, TypePosition}
@@ -51,16 +51,18 @@ within least greatest k = leb least k && leb k greatest
 unfoldable pub labelShape : ℕ → Shape
 labelShape k = cond (leb k qubit-kind) (Node 0 Zero) Unknown
 
--- 01: "type section: 0 Bit, 1 Qubit (no parts); 2 pair, 3 function, 5 circuit (two parts); 4 reusable (one)."
+-- 01: "type section: 0 Bit, 1 Qubit (no parts); 2 pair, 3 function, 5 circuit (two parts); 4 reusable (one)." 02, ticket 5: "a
+-- unit type (type kind 6)", without parts.
 unfoldable pub typeShape : ℕ → Shape
 typeShape k =
     cond (leb k qubit-kind) (Node 0 Zero)
     (cond (within pair-type-kind function-kind k) (Node 2 Zero)
-    (cond (eqb k reusable-kind) (Node 1 Zero) (cond (eqb k circuit-kind) (Node 2 Zero) Unknown)))
+    (cond (eqb k reusable-kind) (Node 1 Zero)
+    (cond (eqb k circuit-kind) (Node 2 Zero) (cond (eqb k unit-kind) (Node 0 Zero) Unknown))))
 
 -- 01: "term section: 16 variable, 17 label, 26 gate (no parts); 18 abstraction, 22 lift, 23 force, 24 box (one);
 -- 19 application, 20 pair, 21 let, 25 apply (two)." "A label or gate has its number. Abstraction and box have a type
--- position, 0 to P−1. Every other argument is 0."
+-- position, 0 to P−1. Every other argument is 0." 02, ticket 5: "its value (term kind 27)", without parts.
 unfoldable pub termShape : ℕ → Shape
 termShape k =
     cond (eqb k variable-kind) (Node 0 BinderCount)
@@ -69,7 +71,8 @@ termShape k =
     (cond (within application-kind let-kind k) (Node 2 Zero)
     (cond (within lift-kind force-kind k) (Node 1 Zero)
     (cond (eqb k box-kind) (Node 1 TypePosition)
-    (cond (eqb k apply-kind) (Node 2 Zero) (cond (eqb k gate-kind) (Node 0 GateNumber) Unknown)))))))
+    (cond (eqb k apply-kind) (Node 2 Zero)
+    (cond (eqb k gate-kind) (Node 0 GateNumber) (cond (eqb k unit-value-kind) (Node 0 Zero) Unknown))))))))
 
 -- The shape of an entry, by its section.
 unfoldable pub shapeAt : List ℕ → ℕ → Shape

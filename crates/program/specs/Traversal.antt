@@ -3,7 +3,7 @@ use Prim.Native.Nat.{ℕ, zero, suc, _+_}
 use mathlib.Core.Bool.{Bool, cond}
 use mathlib.Core.List.{List, [], _∷_}
 use lib.Dec.{eqb, leb, ltb}
-use Rattle.rules.specs.Kinds.{qubit-kind, pair-type-kind, variable-kind, abstraction-kind, let-kind}
+use Rattle.rules.specs.Kinds.{qubit-kind, pair-type-kind, unit-kind, variable-kind, abstraction-kind, let-kind}
 use Rattle.program.specs.Format.{kindAt, argumentAt, shapeAt}
 use Rattle.program.specs.declared.format.Shape.{Shape}
 use Rattle.program.specs.declared.format.Shape.the-variants.{Node, Unknown}
@@ -27,9 +27,10 @@ partsOf (Node parts argument) binders =
     cond (eqb parts 0) Leaf (cond (eqb parts 1) (One binders) (Two binders binders))
 partsOf Unknown binders = Stop
 
--- 01: "Wire types are Bit, Qubit and pairs of wire types".
+-- 01: "Wire types are Bit, Qubit and pairs of wire types". 02, ticket 5: "Unit is a wire type".
 abbrev pub wireParts : ℕ → Parts
-wireParts k = cond (leb k qubit-kind) Leaf (cond (eqb k pair-type-kind) (Two 0 0) Stop)
+wireParts k =
+    cond (leb k qubit-kind) Leaf (cond (eqb k pair-type-kind) (Two 0 0) (cond (eqb k unit-kind) Leaf Stop))
 
 -- 01: "A variable's argument counts the binders between it and its own. Let binds two in its second part". An
 -- abstraction binds one in its part. A variable with no binder stops the traversal.

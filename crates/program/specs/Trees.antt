@@ -7,22 +7,23 @@ use mathlib.Core.List.{List}
 use mathlib.Core.Option.{some}
 use lib.Dec.{T as IsTrue, ltb}
 use lib.ListN.{length}
-use Rattle.rules.specs.Kinds.{bit-kind, qubit-kind, pair-type-kind, function-kind, reusable-kind, circuit-kind}
+use Rattle.rules.specs.Kinds.{bit-kind, qubit-kind, pair-type-kind, function-kind, reusable-kind, circuit-kind, unit-kind}
 use Rattle.rules.specs.Kinds.{variable-kind, label-kind, abstraction-kind, application-kind, pair-kind, let-kind}
-use Rattle.rules.specs.Kinds.{lift-kind, force-kind, box-kind, apply-kind, gate-kind}
-use Rattle.rules.specs.Types.{Wire, Bit, Qubit, Ty, wire, _⊗_, _⊸_, !_, Circ, isWireType, wireCode}
+use Rattle.rules.specs.Kinds.{lift-kind, force-kind, box-kind, apply-kind, gate-kind, unit-value-kind}
+use Rattle.rules.specs.Types.{Wire, Bit, Qubit, Ty, wire, unit, _⊗_, _⊸_, !_, Circ, isWireType, wireCode}
 use Rattle.rules.specs.Gates.{nth, isGate}
 use Rattle.rules.specs.Terms.{Term, variable, label, gate, constant, abstraction, application, pair, let-in, lift, force}
-use Rattle.rules.specs.Terms.{box, apply}
+use Rattle.rules.specs.Terms.{unit-value, box, apply}
 use Rattle.rules.specs.Counting.{source}
 use Rattle.program.specs.Format.{labelCount, typeCount, termCount, firstTerm, entryCount, kindAt, argumentAt}
 use Rattle.rules.specs.Sizes.{most-labels, most-types, most-terms}
 
 -- A type stands in preorder in the entries e to n − 1. 01, type section: "0 Bit, 1 Qubit (no parts); 2 pair, 3 function,
--- 5 circuit (two parts); 4 reusable (one)."
+-- 5 circuit (two parts); 4 reusable (one)." 02, ticket 5: "a unit type (type kind 6)", without parts.
 pub data TypeAt (f : List ℕ) : ℕ → Ty → ℕ → Type 0 where
   bit-at : {e : ℕ} → kindAt f e ≡ bit-kind → TypeAt f e (wire Bit) (suc e)
   qubit-at : {e : ℕ} → kindAt f e ≡ qubit-kind → TypeAt f e (wire Qubit) (suc e)
+  unit-at : {e : ℕ} → kindAt f e ≡ unit-kind → TypeAt f e unit (suc e)
   tensor-at : {e m n : ℕ} {A B : Ty}
       → kindAt f e ≡ pair-type-kind → TypeAt f (suc e) A m → TypeAt f m B n
       → TypeAt f e (A ⊗ B) n
@@ -41,7 +42,8 @@ pub data TypeAtPosition (f : List ℕ) (p : ℕ) (A : Ty) : Type 0 where
 
 -- A term stands in preorder in the entries e to n − 1. 01, term section: "16 variable, 17 label, 26 gate (no parts);
 -- 18 abstraction, 22 lift, 23 force, 24 box (one); 19 application, 20 pair, 21 let, 25 apply (two)." "A label or gate has
--- its number. Abstraction and box have a type position, 0 to P−1. Every other argument is 0."
+-- its number. Abstraction and box have a type position, 0 to P−1. Every other argument is 0." 02, ticket 5: "its value (term
+-- kind 27)", without parts.
 pub data TermAt (f : List ℕ) : ℕ → Term → ℕ → Type 0 where
   variable-at : {e x : ℕ} → kindAt f e ≡ variable-kind → argumentAt f e ≡ x → TermAt f e (variable x) (suc e)
   label-at : {e x : ℕ} → kindAt f e ≡ label-kind → argumentAt f e ≡ x → TermAt f e (label x) (suc e)
@@ -70,10 +72,12 @@ pub data TermAt (f : List ℕ) : ℕ → Term → ℕ → Type 0 where
       → kindAt f e ≡ apply-kind → argumentAt f e ≡ 0 → TermAt f (suc e) M m → TermAt f m N n
       → TermAt f e (apply M N) n
   gate-at : {e x : ℕ} → kindAt f e ≡ gate-kind → argumentAt f e ≡ x → TermAt f e (gate x) (suc e)
+  unit-value-at : {e : ℕ} → kindAt f e ≡ unit-value-kind → argumentAt f e ≡ 0 → TermAt f e unit-value (suc e)
 
 -- Each Circ in a type has wire types for its parts. 01: "both parts of Circ must be wire types."
 abbrev pub formed : Ty → Bool
 formed (wire α) = true
+formed unit = true
 formed (A ⊗ B) = formed A && formed B
 formed (A ⊸ B) = formed A && formed B
 formed (! A) = formed A
@@ -85,6 +89,7 @@ abbrev pub closedUnder : ℕ → Term → Bool
 closedUnder b (variable x) = ltb x b
 closedUnder b (label ℓ) = true
 closedUnder b (gate x) = true
+closedUnder b unit-value = true
 closedUnder b (constant c) = true
 closedUnder b (abstraction A M) = closedUnder (b + 1) M
 closedUnder b (application M N) = closedUnder b M && closedUnder b N
@@ -100,6 +105,7 @@ abbrev pub labelsBelow : ℕ → Term → Bool
 labelsBelow l (variable x) = true
 labelsBelow l (label ℓ) = ltb ℓ l
 labelsBelow l (gate x) = true
+labelsBelow l unit-value = true
 labelsBelow l (constant c) = true
 labelsBelow l (abstraction A M) = labelsBelow l M
 labelsBelow l (application M N) = labelsBelow l M && labelsBelow l N
@@ -115,6 +121,7 @@ abbrev pub gatesKnown : Term → Bool
 gatesKnown (variable x) = true
 gatesKnown (label ℓ) = true
 gatesKnown (gate x) = isGate x
+gatesKnown unit-value = true
 gatesKnown (constant c) = true
 gatesKnown (abstraction A M) = gatesKnown M
 gatesKnown (application M N) = gatesKnown M && gatesKnown N
@@ -130,6 +137,7 @@ abbrev pub boxesWired : Term → Bool
 boxesWired (variable x) = true
 boxesWired (label ℓ) = true
 boxesWired (gate x) = true
+boxesWired unit-value = true
 boxesWired (constant c) = true
 boxesWired (abstraction A M) = boxesWired M
 boxesWired (application M N) = boxesWired M && boxesWired N

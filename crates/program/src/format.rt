@@ -14,6 +14,8 @@ use rules::kinds::LIFT;
 use rules::kinds::PAIR_TYPE;
 use rules::kinds::QUBIT;
 use rules::kinds::REUSABLE;
+use rules::kinds::UNIT;
+use rules::kinds::UNIT_VALUE;
 use rules::kinds::VARIABLE;
 use words::byte_at;
 use words::word_at;
@@ -119,6 +121,10 @@ pub(crate) fn type_shape(kind: usize) -> Shape
             parts: 2,
             argument: Argument::Zero,
         },
+        UNIT => Shape::Node {
+            parts: 0,
+            argument: Argument::Zero,
+        },
         _ => Shape::Unknown,
     }
 }
@@ -158,6 +164,10 @@ pub fn term_shape(kind: usize) -> Shape
         GATE => Shape::Node {
             parts: 0,
             argument: Argument::GateNumber,
+        },
+        UNIT_VALUE => Shape::Node {
+            parts: 0,
+            argument: Argument::Zero,
         },
         _ => Shape::Unknown,
     }

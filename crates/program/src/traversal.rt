@@ -7,6 +7,7 @@ use rules::kinds::BIT;
 use rules::kinds::LET;
 use rules::kinds::PAIR_TYPE;
 use rules::kinds::QUBIT;
+use rules::kinds::UNIT;
 use rules::kinds::VARIABLE;
 ghost use mathlib.Core.Path.{_≡_};
 ghost use Prim.Native.Nat.{_*_, _<_, _≤_};
@@ -60,6 +61,7 @@ pub(crate) fn wire_parts(kind: usize) -> Parts
     match kind {
         BIT..=QUBIT => Parts::Leaf,
         PAIR_TYPE => Parts::Two(0, 0),
+        UNIT => Parts::Leaf,
         _ => Parts::Stop,
     }
 }

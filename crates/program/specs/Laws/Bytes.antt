@@ -6,10 +6,10 @@ use native.Mathlib.Omega.{arith}
 use lib.Dec.{T as IsTrue, ltb, ltb→lt, lt→ltb}
 use lib.ListN.{length, replicate}
 use lib.Pow.{areBytes}
-use Rattle.rules.specs.Types.{Wire, Bit, Qubit, Ty, wire, _⊗_, _⊸_, !_, Circ, entries, wireCode, typeCodes}
+use Rattle.rules.specs.Types.{Wire, Bit, Qubit, Ty, wire, unit, _⊗_, _⊸_, !_, Circ, entries, wireCode, typeCodes}
 use Rattle.rules.specs.Gates.{GateType, nth, gateTable, isSome, isGate}
 use Rattle.rules.specs.Terms.{Term, variable, label, gate, constant, abstraction, application, pair, let-in, lift, force}
-use Rattle.rules.specs.Terms.{box, apply}
+use Rattle.rules.specs.Terms.{unit-value, box, apply}
 use Rattle.rules.specs.Sizes.{nodes, most-labels}
 use Rattle.rules.specs.Laws.Booleans.{and-left, and-right, and-both}
 use Rattle.program.specs.Trees.{closedUnder, labelsBelow, gatesKnown}
@@ -53,6 +53,7 @@ labels-bytes (α ∷ labels) = bytes-first (wireCode α) (map wireCode labels) (
 
 type-bytes : (A : Ty) → IsTrue (areBytes (typeCodes A))
 type-bytes (wire α) = bytes-first (wireCode α) [] (wire-code-byte α) tt
+type-bytes unit = tt
 type-bytes (A ⊗ B) = bytes-append (typeCodes A) (typeCodes B) (type-bytes A) (type-bytes B)
 type-bytes (A ⊸ B) = bytes-append (typeCodes A) (typeCodes B) (type-bytes A) (type-bytes B)
 type-bytes (! A) = type-bytes A
@@ -66,6 +67,7 @@ kinds-bytes : (M : Term) → IsTrue (areBytes (termKinds M))
 kinds-bytes (variable x) = tt
 kinds-bytes (label ℓ) = tt
 kinds-bytes (gate x) = tt
+kinds-bytes unit-value = tt
 kinds-bytes (constant c) = tt
 kinds-bytes (abstraction A M) = kinds-bytes M
 kinds-bytes (application M N) = bytes-append (termKinds M) (termKinds N) (kinds-bytes M) (kinds-bytes N)
@@ -144,6 +146,7 @@ arguments-small gates (variable x) l b p w =
 arguments-small gates (label ℓ) l b p w =
     let h = ltb→lt ℓ l (w .are-labels) in let k = w .labels-small in (omega arith, tt)
 arguments-small gates (gate x) l b p w = (gates x (w .are-gates), tt)
+arguments-small gates unit-value l b p w = (omega arith, tt)
 arguments-small gates (constant c) l b p w = tt
 arguments-small gates (abstraction A M) l b p w =
     let k = w .positions-small in (

@@ -7,9 +7,9 @@ use native.Mathlib.Omega.{arith}
 use lib.Dec.{T as IsTrue, eqb, leb}
 use native.Mathlib.Decide.{decLe}
 use borrow.Author.Tests.{lt-ltb, le-ltb, le-leb, leb-true}
-use Rattle.rules.specs.Kinds.{pair-type-kind, function-kind, reusable-kind, circuit-kind, variable-kind, label-kind}
+use Rattle.rules.specs.Kinds.{pair-type-kind, function-kind, reusable-kind, circuit-kind, unit-kind, variable-kind, label-kind}
 use Rattle.rules.specs.Kinds.{abstraction-kind, application-kind, pair-kind, let-kind, lift-kind, force-kind, box-kind}
-use Rattle.rules.specs.Kinds.{apply-kind, gate-kind}
+use Rattle.rules.specs.Kinds.{apply-kind, gate-kind, unit-value-kind}
 use Rattle.program.specs.Format.{labelCount, typeCount, firstTerm, kindAt, labelShape, typeShape, termShape, shapeAt}
 use Rattle.program.specs.Format.{isKnown, shapeAllows, argumentAt}
 use Rattle.program.specs.Reading.{kindWrong, argumentWrong}
@@ -30,6 +30,7 @@ pub data TypeKind (k : ℕ) : Type 0 where
   is-function : k ≡ function-kind → TypeKind k
   is-reusable : k ≡ reusable-kind → TypeKind k
   is-circ : k ≡ circuit-kind → TypeKind k
+  is-unit : k ≡ unit-kind → TypeKind k
 
 -- The kinds of the term section.
 pub data TermKind (k : ℕ) : Type 0 where
@@ -44,17 +45,19 @@ pub data TermKind (k : ℕ) : Type 0 where
   is-box : k ≡ box-kind → TermKind k
   is-apply : k ≡ apply-kind → TermKind k
   is-gate : k ≡ gate-kind → TermKind k
+  is-unit-value : k ≡ unit-value-kind → TermKind k
 
-type-kind-at : (k : ℕ) → k ≤ circuit-kind → TypeKind k
+type-kind-at : (k : ℕ) → k ≤ unit-kind → TypeKind k
 type-kind-at zero h = is-bit refl
 type-kind-at (suc zero) h = is-qubit refl
 type-kind-at (suc (suc zero)) h = is-tensor refl
 type-kind-at (suc (suc (suc zero))) h = is-function refl
 type-kind-at (suc (suc (suc (suc zero)))) h = is-reusable refl
 type-kind-at (suc (suc (suc (suc (suc zero))))) h = is-circ refl
-type-kind-at (suc (suc (suc (suc (suc (suc k)))))) h = let z : ⊥ = omega arith in absurd z
+type-kind-at (suc (suc (suc (suc (suc (suc zero)))))) h = is-unit refl
+type-kind-at (suc (suc (suc (suc (suc (suc (suc k))))))) h = let z : ⊥ = omega arith in absurd z
 
-term-kind-at : (k j : ℕ) → k ≡ variable-kind + j → j ≤ 10 → TermKind k
+term-kind-at : (k j : ℕ) → k ≡ variable-kind + j → j ≤ 11 → TermKind k
 term-kind-at k zero q h = is-variable q
 term-kind-at k (suc zero) q h = is-label q
 term-kind-at k (suc (suc zero)) q h = is-abstraction q
@@ -66,35 +69,37 @@ term-kind-at k (suc (suc (suc (suc (suc (suc (suc zero))))))) q h = is-force q
 term-kind-at k (suc (suc (suc (suc (suc (suc (suc (suc zero)))))))) q h = is-box q
 term-kind-at k (suc (suc (suc (suc (suc (suc (suc (suc (suc zero))))))))) q h = is-apply q
 term-kind-at k (suc (suc (suc (suc (suc (suc (suc (suc (suc (suc zero)))))))))) q h = is-gate q
-term-kind-at k (suc (suc (suc (suc (suc (suc (suc (suc (suc (suc (suc j))))))))))) q h = let z : ⊥ = omega arith in absurd z
+term-kind-at k (suc (suc (suc (suc (suc (suc (suc (suc (suc (suc (suc zero))))))))))) q h = is-unit-value q
+term-kind-at k (suc (suc (suc (suc (suc (suc (suc (suc (suc (suc (suc (suc j)))))))))))) q h =
+    let z : ⊥ = omega arith in absurd z
 
 -- An unknown shape is not known.
 unknown-not : (s : Shape) → IsTrue (isKnown s) → s ≡ Unknown → ⊥
 unknown-not s h q = subst (λ t. IsTrue (isKnown t)) q h
 
-type-range : (k : ℕ) → IsTrue (isKnown (typeShape k)) → k ≤ circuit-kind
-type-range k h = go (decLe k circuit-kind)
+type-range : (k : ℕ) → IsTrue (isKnown (typeShape k)) → k ≤ unit-kind
+type-range k h = go (decLe k unit-kind)
   where
-    go : Dec (k ≤ circuit-kind) → k ≤ circuit-kind
+    go : Dec (k ≤ unit-kind) → k ≤ unit-kind
     go (yes q) = q
     go (no n) = absurd (unknown-not (typeShape k) h (no-types k (omega (arith, n))))
 
--- An entry of the type section with a known shape has one of the six kinds.
+-- An entry of the type section with a known shape has one of the seven kinds.
 pub type-kind : (k : ℕ) → IsTrue (isKnown (typeShape k)) → TypeKind k
 type-kind k h = type-kind-at k (type-range k h)
 
-term-range : (k : ℕ) → IsTrue (isKnown (termShape k)) → (variable-kind ≤ k) × (k ≤ gate-kind)
-term-range k h = (go (decLe variable-kind k), go′ (decLe k gate-kind))
+term-range : (k : ℕ) → IsTrue (isKnown (termShape k)) → (variable-kind ≤ k) × (k ≤ unit-value-kind)
+term-range k h = (go (decLe variable-kind k), go′ (decLe k unit-value-kind))
   where
     go : Dec (variable-kind ≤ k) → variable-kind ≤ k
     go (yes q) = q
     go (no n) = absurd (unknown-not (termShape k) h (no-terms-below k (omega (arith, n))))
 
-    go′ : Dec (k ≤ gate-kind) → k ≤ gate-kind
+    go′ : Dec (k ≤ unit-value-kind) → k ≤ unit-value-kind
     go′ (yes q) = q
     go′ (no n) = absurd (unknown-not (termShape k) h (no-terms-above k (omega (arith, n))))
 
--- An entry of the term section with a known shape has one of the eleven kinds.
+-- An entry of the term section with a known shape has one of the twelve kinds.
 pub term-kind : (k : ℕ) → IsTrue (isKnown (termShape k)) → TermKind k
 term-kind k h = let r = term-range k h in term-kind-at k (k - variable-kind) (omega (arith, r)) (omega (arith, r))
 
@@ -134,6 +139,7 @@ type-shape-zero k (is-tensor h) = (2, ap typeShape h)
 type-shape-zero k (is-function h) = (2, ap typeShape h)
 type-shape-zero k (is-reusable h) = (1, ap typeShape h)
 type-shape-zero k (is-circ h) = (2, ap typeShape h)
+type-shape-zero k (is-unit h) = (0, ap typeShape h)
 
 -- An entry of such a shape has a right kind, and its argument is right exactly if it is 0.
 pub zero-shape-kind : (f : List ℕ) (e parts : ℕ) → shapeAt f e ≡ Node parts Zero → kindWrong f e ≡ false

@@ -7,9 +7,9 @@ use mathlib.Core.Bool.{Bool, true, false}
 use mathlib.Core.List.{List}
 use lib.Dec.{eqb}
 use borrow.Author.Tests.{lt-ltb, le-ltb, le-leb, lt-leb, ne-eqb}
-use Rattle.rules.specs.Kinds.{qubit-kind, pair-type-kind, function-kind, reusable-kind, circuit-kind, variable-kind}
+use Rattle.rules.specs.Kinds.{qubit-kind, pair-type-kind, function-kind, reusable-kind, circuit-kind, unit-kind, variable-kind}
 use Rattle.rules.specs.Kinds.{label-kind, abstraction-kind, application-kind, let-kind, lift-kind, force-kind, box-kind}
-use Rattle.rules.specs.Kinds.{apply-kind, gate-kind}
+use Rattle.rules.specs.Kinds.{apply-kind, gate-kind, unit-value-kind}
 use Rattle.program.specs.Format.{labelCount, firstTerm, kindAt, labelShape, typeShape}
 use Rattle.program.specs.Format.{termShape, shapeAt}
 use Rattle.words.specs.Laws.Numbers.{one-left}
@@ -70,7 +70,7 @@ pub two-part-types : (k : ℕ) → pair-type-kind ≤ k → k < reusable-kind �
 unfolding typeShape
 two-part-types k least most = rw (lt-leb k qubit-kind (omega arith), le-leb pair-type-kind k least, le-leb k function-kind (omega arith))
 
-pub no-types : (k : ℕ) → circuit-kind < k → typeShape k ≡ Unknown
+pub no-types : (k : ℕ) → unit-kind < k → typeShape k ≡ Unknown
 unfolding typeShape
 no-types k h =
     rw (
@@ -78,7 +78,8 @@ no-types k h =
       le-leb pair-type-kind k (omega arith),
       lt-leb k function-kind (omega arith),
       above k reusable-kind (omega arith),
-      above k circuit-kind h,
+      above k circuit-kind (omega arith),
+      above k unit-kind h,
     )
 
 pub two-part-terms : (k : ℕ) → application-kind ≤ k → k < lift-kind → termShape k ≡ Node 2 Zero
@@ -117,9 +118,10 @@ no-terms-below k h =
       below k box-kind (omega arith),
       below k apply-kind (omega arith),
       below k gate-kind (omega arith),
+      below k unit-value-kind (omega arith),
     )
 
-pub no-terms-above : (k : ℕ) → gate-kind < k → termShape k ≡ Unknown
+pub no-terms-above : (k : ℕ) → unit-value-kind < k → termShape k ≡ Unknown
 unfolding termShape
 no-terms-above k h =
     rw (
@@ -132,5 +134,6 @@ no-terms-above k h =
       lt-leb k force-kind (omega arith),
       above k box-kind (omega arith),
       above k apply-kind (omega arith),
-      above k gate-kind h,
+      above k gate-kind (omega arith),
+      above k unit-value-kind h,
     )

@@ -18,15 +18,16 @@ use Rattle.program.specs.Format.{labelCount, typeCount, termCount, first
 use Rattle.program.specs.Format.{labelShape, typeShape, termShape, shapeAt, isKnown, shapeAllows}
 use Rattle.program.specs.Traversal.{traverseFrom}
 use Rattle.program.specs.Reading.{runsOut, kindWrong, argumentWrong, typeWrong, circWrong, boxWrong, wiresWrong}
-use Rattle.program.specs.Trees.{TypeAt, bit-at, qubit-at, tensor-at, function-at, reusable-at, circ-at, TypeAtPosition}
+use Rattle.program.specs.Trees.{TypeAt, bit-at, qubit-at, unit-at, tensor-at, function-at, reusable-at, circ-at}
+use Rattle.program.specs.Trees.{TypeAtPosition}
 use Rattle.program.specs.Trees.{at-position, formed, TermAt, variable-at, label-at, abstraction-at, application-at}
 use Rattle.program.specs.Trees.{pair-at, let-at, lift-at, force-at, box-at, apply-at, gate-at, labelsBelow, gatesKnown}
-use Rattle.program.specs.Trees.{boxesWired}
+use Rattle.program.specs.Trees.{unit-value-at, boxesWired}
 use Rattle.program.specs.Laws.Kinds.{of-true, TypeKind, is-bit, is-qubit, is-tensor, is-function, is-reusable}
-use Rattle.program.specs.Laws.Kinds.{is-circ, type-kind, label-range, shape-of-label, shape-of-type, shape-of-term}
+use Rattle.program.specs.Laws.Kinds.{is-circ, is-unit, type-kind, label-range, shape-of-label, shape-of-type, shape-of-term}
 use Rattle.program.specs.Laws.Kinds.{TermKind, is-variable, is-label, is-abstraction, is-application, is-pair, is-let}
-use Rattle.program.specs.Laws.Kinds.{is-lift, is-force, is-box, is-apply, is-gate, term-kind, label-shape-zero}
-use Rattle.program.specs.Laws.Kinds.{type-shape-zero, zero-shape-argument}
+use Rattle.program.specs.Laws.Kinds.{is-lift, is-force, is-box, is-apply, is-gate, is-unit-value, term-kind}
+use Rattle.program.specs.Laws.Kinds.{label-shape-zero, type-shape-zero, zero-shape-argument}
 use Rattle.program.specs.Laws.TreeTraversal.{traverse-entry, type-parts, type-end, term-parts, term-end}
 use Rattle.program.specs.Laws.WireTests.{circ-test, box-test, wires-of-type, wires-of-term}
 use Rattle.program.specs.Laws.Tests.{Passed}
@@ -97,6 +98,9 @@ type-entry f left e b waiting h l (is-circ k) o ih =
     ih (b ∷ b ∷ waiting)
     (ap runsOut (sym (traverse-entry TypeEnd f left e b waiting (Two b b) (type-parts f e b 5 h l k))) ∙ o) in
     (r .0, types-two-at Circ (λ A B m n s t. circ-at k s t) (r .1), r .2)
+type-entry f left e b waiting h l (is-unit k) o ih =
+    types-leaf (unit-at k)
+    (ih waiting (ap runsOut (sym (traverse-entry TypeEnd f left e b waiting Leaf (type-parts f e b 6 h l k))) ∙ o))
 
 -- An entry of the type section has one of its kinds.
 kind-of-type : (f : List ℕ) → Passed f → (e : ℕ) → labelCount f ≤ e → e < firstTerm f → TypeKind (kindAt f e)
@@ -146,6 +150,7 @@ pub type-formed : {f : List ℕ} {e n : ℕ} {A : Ty}
     → IsTrue (formed A)
 type-formed p (bit-at k) h l = tt
 type-formed p (qubit-at k) h l = tt
+type-formed p (unit-at k) h l = tt
 type-formed p (tensor-at {A = A} {B = B} k s t) h l =
     let u = type-end s in
     let v = type-end t in
@@ -323,6 +328,9 @@ term-entry f p left e b n waiting h l (is-apply k) o ih =
 term-entry f p left e b n waiting h l (is-gate k) o ih =
     next-term (gate-at k refl)
     (ih waiting (sym (traverse-entry TermEnd f left e b waiting Leaf (term-parts f e b 26 h k)) ∙ o))
+term-entry f p left e b n waiting h l (is-unit-value k) o ih =
+    next-term (unit-value-at k (eqb→eq (argumentAt f e) 0 (argument-of-term f p e 27 h l k)))
+    (ih waiting (sym (traverse-entry TermEnd f left e b waiting Leaf (term-parts f e b 27 h k)) ∙ o))
 
 -- An entry of the term section has one of its kinds.
 kind-of-term : (f : List ℕ) → Passed f → (e : ℕ) → firstTerm f ≤ e → e < entryCount f → TermKind (kindAt f e)
@@ -413,3 +421,4 @@ term-allowed {f} p (apply-at {M = M} {N = N} k a s t) h l =
     let v = term-end t in
     allowed-two f M N (term-allowed p s (omega arith) (omega arith)) (term-allowed p t (omega arith) l)
 term-allowed p (gate-at {e = e} k a) h l = (tt, subst (λ x. IsTrue (isGate x)) a (argument-of-term _ p e 26 h l k), tt)
+term-allowed p (unit-value-at k a) h l = (tt, tt, tt)

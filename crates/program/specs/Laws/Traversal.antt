@@ -6,7 +6,7 @@ use mathlib.Core.Path.{_≡_, refl, sym, ap, subst, _∙_}
 use mathlib.Core.Bool.{Bool, true, false, cond}
 use mathlib.Core.List.{List, [], _∷_}
 use lib.Dec.{eqb, leb, ltb}
-use Rattle.rules.specs.Kinds.{qubit-kind, pair-type-kind, variable-kind, abstraction-kind, let-kind}
+use Rattle.rules.specs.Kinds.{qubit-kind, pair-type-kind, unit-kind, variable-kind, abstraction-kind, let-kind}
 use Rattle.program.specs.Format.{kindAt, argumentAt, shapeAt}
 use Rattle.program.specs.Traversal.{partsOf, wireParts, scopeParts, partsAt, traverseFrom}
 use Rattle.program.specs.Sized.{most-file-entries}
@@ -65,8 +65,9 @@ shape-fits Unknown b = tt
 
 wire-fits : (k b : ℕ) → PartsFit (b + 2) (wireParts k)
 wire-fits k b =
-    cond-fits (b + 2) (leb k qubit-kind) Leaf (cond (eqb k pair-type-kind) (Two 0 0) Stop) tt
-    (cond-fits (b + 2) (eqb k pair-type-kind) (Two 0 0) Stop (omega arith, omega arith) tt)
+    cond-fits (b + 2) (leb k qubit-kind) Leaf (cond (eqb k pair-type-kind) (Two 0 0) (cond (eqb k unit-kind) Leaf Stop)) tt
+    (cond-fits (b + 2) (eqb k pair-type-kind) (Two 0 0) (cond (eqb k unit-kind) Leaf Stop) (omega arith, omega arith)
+    (cond-fits (b + 2) (eqb k unit-kind) Leaf Stop tt tt))
 
 scope-fits : (f : List ℕ) (e b : ℕ) → PartsFit (b + 2) (scopeParts f e b)
 scope-fits f e b =

@@ -15,9 +15,9 @@ use Rattle.program.specs.Traversal.{traverseFrom, partsAt, partsOf, wire
 use Rattle.rules.specs.Counting.{source}
 use Rattle.rules.specs.Laws.Booleans.{and-left, and-right, and-both, is-true}
 use Rattle.rules.specs.Laws.TypeCodes.{entries-positive}
-use Rattle.program.specs.Trees.{TypeAt, bit-at, qubit-at, tensor-at, function-at, reusable-at, circ-at, TermAt}
+use Rattle.program.specs.Trees.{TypeAt, bit-at, qubit-at, unit-at, tensor-at, function-at, reusable-at, circ-at, TermAt}
 use Rattle.program.specs.Trees.{variable-at, label-at, abstraction-at, application-at, pair-at, let-at, lift-at}
-use Rattle.program.specs.Trees.{force-at, box-at, apply-at, gate-at, closedUnder}
+use Rattle.program.specs.Trees.{force-at, box-at, apply-at, gate-at, unit-value-at, closedUnder}
 use Rattle.program.specs.Laws.Kinds.{shape-of-type, shape-of-term}
 use Rattle.program.specs.declared.traversal.Subject.{Subject}
 use Rattle.program.specs.declared.traversal.Subject.the-variants.{TypeEnd, WireType, TermEnd, Scope}
@@ -68,6 +68,7 @@ traverse-entry s f left e b waiting p h = ap (traverseOn s f left e waiting) h
 pub type-end : {f : List ℕ} {e n : ℕ} {A : Ty} → TypeAt f e A n → n ≡ e + entries A
 type-end (bit-at k) = omega arith
 type-end (qubit-at k) = omega arith
+type-end (unit-at k) = omega arith
 type-end (tensor-at k s t) = let a = type-end s in let b = type-end t in omega arith
 type-end (function-at k s t) = let a = type-end s in let b = type-end t in omega arith
 type-end (reusable-at k s) = let a = type-end s in omega arith
@@ -174,6 +175,7 @@ pub pass-type : {f : List ℕ} {e n : ℕ} {A : Ty}
 unfolding typeShape
 pass-type {f} (bit-at {e = e} k) b h l = pass-leaf TypeEnd f e b (type-parts f e b 0 h l k)
 pass-type {f} (qubit-at {e = e} k) b h l = pass-leaf TypeEnd f e b (type-parts f e b 1 h l k)
+pass-type {f} (unit-at {e = e} k) b h l = pass-leaf TypeEnd f e b (type-parts f e b 6 h l k)
 pass-type {f} (tensor-at {e = e} {m = m} {n = n} {A = A} {B = B} k s t) b h l =
     let p = type-end s in
     let q = type-end t in
@@ -212,6 +214,7 @@ pub pass-wire : {f : List ℕ} {e n : ℕ} {A : Ty}
     → Passes WireType f e b (entries A) n
 pass-wire {f} (bit-at {e = e} k) b w = pass-leaf WireType f e b (ap wireParts k)
 pass-wire {f} (qubit-at {e = e} k) b w = pass-leaf WireType f e b (ap wireParts k)
+pass-wire {f} (unit-at {e = e} k) b w = pass-leaf WireType f e b (ap wireParts k)
 pass-wire {f} (tensor-at {e = e} {m = m} {n = n} {A = A} {B = B} k s t) b w =
     pass-two WireType f e b 0 0 (entries A) (entries B) m n (ap wireParts k)
     (pass-wire s 0 (and-left (isWireType A) (isWireType B) w))
@@ -227,6 +230,7 @@ pub stop-wire : {f : List ℕ} {e n : ℕ} {A : Ty}
     → Stops WireType f e b (entries A)
 stop-wire (bit-at k) b w = absurd (true≢false w)
 stop-wire (qubit-at k) b w = absurd (true≢false w)
+stop-wire (unit-at k) b w = absurd (true≢false w)
 stop-wire {f} (tensor-at {e = e} {m = m} {A = A} {B = B} k s t) b w =
     either-fails (isWireType A) (isWireType B) w
     (λ p. stop-first WireType f e b 0 0 (entries A) (entries B) (ap wireParts k) (stop-wire s 0 p))
@@ -250,6 +254,7 @@ term-end (force-at k a s) = let p = term-end s in omega arith
 term-end (box-at k a s) = let p = term-end s in omega arith
 term-end (apply-at k a s t) = let p = term-end s in let q = term-end t in omega arith
 term-end (gate-at k a) = omega arith
+term-end (unit-value-at k a) = omega arith
 
 -- A term that stands in a file has no circuit constant.
 pub term-source : {f : List ℕ} {e n : ℕ} {M : Term} → TermAt f e M n → IsTrue (source M)
@@ -264,6 +269,7 @@ term-source (force-at k a s) = term-source s
 term-source (box-at k a s) = term-source s
 term-source (apply-at {M = M} {N = N} k a s t) = and-both (source M) (source N) (term-source s) (term-source t)
 term-source (gate-at k a) = tt
+term-source (unit-value-at k a) = tt
 
 -- The parts of an entry of the term section.
 pub term-parts : (f : List ℕ) (e b k : ℕ)
@@ -308,6 +314,7 @@ pass-term {f} (apply-at {e = e} {m = m} {n = n} {M = M} {N = N} k a s t) b h =
     (pass-term s b (omega arith))
     (pass-term t b (omega arith))
 pass-term {f} (gate-at {e = e} k a) b h = pass-leaf TermEnd f e b (term-parts f e b 26 h k)
+pass-term {f} (unit-value-at {e = e} k a) b h = pass-leaf TermEnd f e b (term-parts f e b 27 h k)
 
 -- The parts of an entry of kind k with argument a in the traversal over binders.
 abbrev scopePartsOf : ℕ → ℕ → ℕ → Parts
@@ -371,6 +378,7 @@ pass-scope {f} (apply-at {e = e} {m = m} {n = n} {M = M} {N = N} k a s t) b h c 
     (pass-scope s b (omega arith) (and-left (closedUnder b M) (closedUnder b N) c))
     (pass-scope t b (omega arith) (and-right (closedUnder b M) (closedUnder b N) c))
 pass-scope {f} (gate-at {e = e} k a) b h c = pass-leaf Scope f e b (scope-parts f e b 26 h k)
+pass-scope {f} (unit-value-at {e = e} k a) b h c = pass-leaf Scope f e b (scope-parts f e b 27 h k)
 
 -- Two parts of which one stops the traversal over binders.
 stop-scope-two : {f : List ℕ} {e m : ℕ} {M : Term} (N : Term) (b x y : ℕ)
@@ -423,3 +431,4 @@ stop-scope {f} (apply-at {e = e} {m = m} {M = M} {N = N} k a s t) b h c =
     (λ u. stop-scope s b (omega arith) u)
     (λ u. stop-scope t b (omega arith) u)
 stop-scope (gate-at k a) b h c = absurd (true≢false c)
+stop-scope (unit-value-at k a) b h c = absurd (true≢false c)

@@ -20,12 +20,13 @@ use Rattle.program.specs.Format.{termShape, shapeAt, isKnown, shapeAllow
 use Rattle.program.specs.Traversal.{traverseFrom}
 use Rattle.program.specs.Reading.{runsOut, kindWrong, argumentWrong, typeWrong, circWrong, boxWrong, wiresWrong}
 use Rattle.program.specs.Reading.{readOf}
-use Rattle.program.specs.Trees.{TypeAt, bit-at, qubit-at, tensor-at, function-at, reusable-at, circ-at, TypeAtPosition}
+use Rattle.program.specs.Trees.{TypeAt, bit-at, qubit-at, unit-at, tensor-at, function-at, reusable-at, circ-at}
+use Rattle.program.specs.Trees.{TypeAtPosition}
 use Rattle.program.specs.Trees.{at-position, formed, TermAt, variable-at, label-at, abstraction-at, application-at}
 use Rattle.program.specs.Trees.{pair-at, let-at, lift-at, force-at, box-at, apply-at, gate-at, labelsBelow, gatesKnown}
-use Rattle.program.specs.Trees.{boxesWired, closedUnder, AcceptedFile}
+use Rattle.program.specs.Trees.{unit-value-at, boxesWired, closedUnder, AcceptedFile}
 use Rattle.program.specs.Laws.Kinds.{of-true, TypeKind, is-bit, is-qubit, is-tensor}
-use Rattle.program.specs.Laws.Kinds.{is-function, is-reusable, is-circ, shape-of-label, shape-of-type, shape-of-term}
+use Rattle.program.specs.Laws.Kinds.{is-function, is-reusable, is-circ, is-unit, shape-of-label, shape-of-type, shape-of-term}
 use Rattle.program.specs.Laws.Kinds.{label-shape-zero, type-shape-zero, zero-shape-kind, zero-shape-argument}
 use Rattle.program.specs.Laws.TreeTraversal.{type-end, type-nonempty, pass-type, term-end, term-source, pass-term}
 use Rattle.program.specs.Laws.TreeTraversal.{pass-scope, stop-scope, range-leaf, range-one, range-two}
@@ -127,6 +128,7 @@ label-right f labels M t e h =
 kind-of-tree : {f : List ℕ} {e n : ℕ} {A : Ty} → TypeAt f e A n → TypeKind (kindAt f e)
 kind-of-tree (bit-at k) = is-bit k
 kind-of-tree (qubit-at k) = is-qubit k
+kind-of-tree (unit-at k) = is-unit k
 kind-of-tree (tensor-at k s t) = is-tensor k
 kind-of-tree (function-at k s t) = is-function k
 kind-of-tree (reusable-at k s) = is-reusable k
@@ -138,6 +140,7 @@ type-wires : {f : List ℕ} {e n : ℕ} {A : Ty}
     → (eqb (kindAt f e) circuit-kind && circWrong f e) ≡ false
 type-wires {f} (bit-at {e = e} k) h w = ap (λ i. eqb i circuit-kind && circWrong f e) k
 type-wires {f} (qubit-at {e = e} k) h w = ap (λ i. eqb i circuit-kind && circWrong f e) k
+type-wires {f} (unit-at {e = e} k) h w = ap (λ i. eqb i circuit-kind && circWrong f e) k
 type-wires {f} (tensor-at {e = e} k s t) h w = ap (λ i. eqb i circuit-kind && circWrong f e) k
 type-wires {f} (function-at {e = e} k s t) h w = ap (λ i. eqb i circuit-kind && circWrong f e) k
 type-wires {f} (reusable-at {e = e} k s) h w = ap (λ i. eqb i circuit-kind && circWrong f e) k
@@ -262,6 +265,8 @@ terms-right {f} (apply-at {e = e} {m = m} {n = n} {M = M} {N = N} k a s t) h w =
 terms-right {f} (gate-at {e = e} {x = x} k a) h w =
     range-leaf (EntryRight f) e
     (term-right f e 26 h k refl (ap isGate a ∙ is-true (isGate x) (w .1)) refl)
+terms-right {f} (unit-value-at {e = e} k a) h w =
+    range-leaf (EntryRight f) e (term-right f e 27 h k refl (eq-eqb (argumentAt f e) 0 a) refl)
 
 entry-right : (f : List ℕ) (labels : List Wire) (M : Term)
     → AcceptedFile f labels M

@@ -7,10 +7,10 @@ use native.Mathlib.Omega.{arith}
 use native.Mathlib.Decide.{decLt}
 use lib.Dec.{T as IsTrue}
 use lib.ListN.{length, getD, replicate, length-append, length-map, length-replicate, List·getD-append}
-use Rattle.rules.specs.Types.{Wire, Bit, Qubit, Ty, wire, _⊗_, _⊸_, !_, Circ, isWireType, entries, wireCode, typeCodes}
+use Rattle.rules.specs.Types.{Wire, Bit, Qubit, Ty, wire, unit, _⊗_, _⊸_, !_, Circ, isWireType, entries, wireCode, typeCodes}
 use Rattle.rules.specs.Gates.{nth}
 use Rattle.rules.specs.Terms.{Term, variable, label, gate, constant, abstraction, application, pair, let-in, lift, force}
-use Rattle.rules.specs.Terms.{box, apply}
+use Rattle.rules.specs.Terms.{unit-value, box, apply}
 use Rattle.rules.specs.Sizes.{nodes}
 use Rattle.rules.specs.Counting.{source}
 use Rattle.rules.specs.Laws.Booleans.{and-left, and-right, and-both}
@@ -19,10 +19,11 @@ use Rattle.program.specs.Format.{labelCount, typeCount, termCount, first
 use Rattle.words.specs.Numbers.{wordAt}
 use Rattle.program.specs.Reading.{readOf}
 use Rattle.program.specs.declared.ReadAnswer.the-variants.{Accepted}
-use Rattle.program.specs.Trees.{TypeAt, bit-at, qubit-at, tensor-at, function-at, reusable-at, circ-at, TypeAtPosition}
+use Rattle.program.specs.Trees.{TypeAt, bit-at, qubit-at, unit-at, tensor-at, function-at, reusable-at, circ-at}
+use Rattle.program.specs.Trees.{TypeAtPosition}
 use Rattle.program.specs.Trees.{at-position, formed, labelsBelow, TermAt, variable-at, label-at, abstraction-at}
 use Rattle.program.specs.Trees.{application-at, pair-at, let-at, lift-at, force-at, box-at, apply-at, gate-at}
-use Rattle.program.specs.Trees.{AcceptedFile}
+use Rattle.program.specs.Trees.{unit-value-at, AcceptedFile}
 use Rattle.program.specs.Encoding.{typesIn, entriesOf, codesOf, termKinds, termArguments, words, programKinds}
 use Rattle.program.specs.Encoding.{programArguments, encode}
 use Rattle.program.specs.Laws.Trees.{allFormed, Writable}
@@ -78,6 +79,7 @@ wire-stands f e n Qubit k q = subst (λ i. TypeAt f e (wire Qubit) i) (sym q) (q
 -- A type stands where its codes stand.
 type-stands : (f : List ℕ) (A : Ty) (e n : ℕ) → Stand (kindAt f) e (typeCodes A) → n ≡ e + entries A → TypeAt f e A n
 type-stands f (wire α) e n h q = wire-stands f e n α (h .0) (omega arith)
+type-stands f unit e n h q = let r : suc e ≡ n = omega arith in subst (λ i. TypeAt f e unit i) r (unit-at (h .0))
 type-stands f (A ⊗ B) e n h q =
     let p = typeCodes-entries A in
     tensor-at (h .0)
@@ -101,6 +103,7 @@ type-stands f (Circ A B) e n h q =
 -- A wire type has no Circ at all.
 wire-formed : (A : Ty) → IsTrue (isWireType A) → IsTrue (formed A)
 wire-formed (wire α) h = tt
+wire-formed unit h = tt
 wire-formed (A ⊗ B) h =
     and-both (formed A) (formed B) (wire-formed A (and-left (isWireType A) (isWireType B) h))
     (wire-formed B (and-right (isWireType A) (isWireType B) h))
@@ -123,6 +126,7 @@ typed-inside {f} (bit-at {e = e} k) w =
     range-leaf (TypedBy f (suc e)) e (wire Bit, suc e, bit-at k, omega arith, tt)
 typed-inside {f} (qubit-at {e = e} k) w =
     range-leaf (TypedBy f (suc e)) e (wire Qubit, suc e, qubit-at k, omega arith, tt)
+typed-inside {f} (unit-at {e = e} k) w = range-leaf (TypedBy f (suc e)) e (unit, suc e, unit-at k, omega arith, tt)
 typed-inside {f} (tensor-at {e = e} {m = m} {n = n} {A = A} {B = B} k s t) w =
     let q = type-end t in
     range-two (TypedBy f n) e m n (A ⊗ B, n, tensor-at k s t, omega arith, w)
@@ -192,6 +196,7 @@ kinds-count : (M : Term) → IsTrue (source M) → length (termKinds M) ≡ node
 kinds-count (variable x) h = refl
 kinds-count (label ℓ) h = refl
 kinds-count (gate x) h = refl
+kinds-count unit-value h = refl
 kinds-count (constant c) h = absurd h
 kinds-count (abstraction A M) h = let p = kinds-count M h in omega arith
 kinds-count (application M N) h =
@@ -232,6 +237,7 @@ arguments-count : (M : Term) (p : ℕ) → length (termArguments p M) ≡ length
 arguments-count (variable x) p = refl
 arguments-count (label ℓ) p = refl
 arguments-count (gate x) p = refl
+arguments-count unit-value p = refl
 arguments-count (constant c) p = refl
 arguments-count (abstraction A M) p = ap suc (arguments-count M (p + entries A))
 arguments-count (application M N) p =
@@ -357,6 +363,9 @@ term-stands f (label x) e p n h q w =
 term-stands f (gate x) e p n h q w =
     let r : suc e ≡ n = omega arith in
     subst (λ i. TermAt f e (gate x) i) r (gate-at (w .kinds-stand .0) (w .arguments-stand .0))
+term-stands f unit-value e p n h q w =
+    let r : suc e ≡ n = omega arith in
+    subst (λ i. TermAt f e unit-value i) r (unit-value-at (w .kinds-stand .0) (w .arguments-stand .0))
 term-stands f (constant c) e p n h q w = absurd h
 term-stands f (abstraction A M) e p n h q w =
     abstraction-at (w .kinds-stand .0)
@@ -620,6 +629,7 @@ nodes-some : (M : Term) → 1 ≤ nodes M
 nodes-some (variable x) = omega arith
 nodes-some (label ℓ) = omega arith
 nodes-some (gate x) = omega arith
+nodes-some unit-value = omega arith
 nodes-some (constant c) = omega arith
 nodes-some (abstraction A M) = omega arith
 nodes-some (application M N) = omega arith

@@ -1,4 +1,4 @@
--- Files with the answer of `read`, by computation: c1 of 01's cases, a file for each refusal, and a long file.
+-- Files with the answer of `read`, by computation: c1 of 01's cases, a file for each refusal, files with unit, and a long file.
 use Prim.Native.Nat.{ℕ}
 use mathlib.Core.Path.{_≡_, refl}
 use mathlib.Core.List.{List, [], _∷_, _++_}
@@ -44,12 +44,12 @@ pub byte-over : readOf (fileOf 1 0 1 (1 ∷ 17 ∷ []) (0 ∷ 0 ∷ []) ++ (0 �
 unfolding opened
 byte-over = refl
 
--- A label of kind 2, a type of kind 6, a term of kind 0: the first of them.
-pub wrong-label-kind : readOf (fileOf 1 1 1 (2 ∷ 6 ∷ 0 ∷ []) (0 ∷ 0 ∷ 0 ∷ [])) ≡ refused 4 0
+-- A label of kind 2, a type of kind 7, a term of kind 0: the first of them.
+pub wrong-label-kind : readOf (fileOf 1 1 1 (2 ∷ 7 ∷ 0 ∷ []) (0 ∷ 0 ∷ 0 ∷ [])) ≡ refused 4 0
 unfolding opened
 wrong-label-kind = refl
 
-pub wrong-type-kind : readOf (fileOf 1 1 1 (1 ∷ 6 ∷ 0 ∷ []) (0 ∷ 0 ∷ 0 ∷ [])) ≡ refused 4 1
+pub wrong-type-kind : readOf (fileOf 1 1 1 (1 ∷ 7 ∷ 0 ∷ []) (0 ∷ 0 ∷ 0 ∷ [])) ≡ refused 4 1
 unfolding opened
 wrong-type-kind = refl
 
@@ -57,12 +57,12 @@ pub wrong-term-kind : readOf (fileOf 1 1 1 (1 ∷ 0 ∷ 0 ∷ []) (0 ∷ 0 ∷ 0
 unfolding opened
 wrong-term-kind = refl
 
--- Label 1 in a file with one label, gate 9, an abstraction at position 1 of a type section with one entry.
+-- Label 1 in a file with one label, gate 11, an abstraction at position 1 of a type section with one entry.
 pub no-such-label : readOf (fileOf 1 0 1 (1 ∷ 17 ∷ []) (0 ∷ 1 ∷ [])) ≡ refused 5 1
 unfolding opened
 no-such-label = refl
 
-pub no-such-gate : readOf (fileOf 1 0 1 (1 ∷ 26 ∷ []) (0 ∷ 9 ∷ [])) ≡ refused 5 1
+pub no-such-gate : readOf (fileOf 1 0 1 (1 ∷ 26 ∷ []) (0 ∷ 11 ∷ [])) ≡ refused 5 1
 unfolding opened
 no-such-gate = refl
 
@@ -105,6 +105,64 @@ let-first-part = refl
 pub let-second-part : readOf (fileOf 1 0 3 (1 ∷ 21 ∷ 17 ∷ 16 ∷ []) (0 ∷ 0 ∷ 0 ∷ 1 ∷ [])) ≡ Accepted 1 0 3
 unfolding opened
 let-second-part = refl
+
+-- 02, ticket 5. Unit's value alone, in a file without labels and types; gates 9 and 10.
+pub unit-alone : readOf (fileOf 0 0 1 (27 ∷ []) (0 ∷ [])) ≡ Accepted 0 0 1
+unfolding opened
+unit-alone = refl
+
+pub init-alone : readOf (fileOf 0 0 1 (26 ∷ []) (9 ∷ [])) ≡ Accepted 0 0 1
+unfolding opened
+init-alone = refl
+
+pub discard-alone : readOf (fileOf 0 0 1 (26 ∷ []) (10 ∷ [])) ≡ Accepted 0 0 1
+unfolding opened
+discard-alone = refl
+
+-- Unit is a wire type, alone and inside pairs: a box at unit; Circ from the pair of unit and Qubit to unit, and a box at that pair.
+pub box-at-unit : readOf (fileOf 0 1 4 (6 ∷ 24 ∷ 22 ∷ 18 ∷ 16 ∷ []) (0 ∷ 0 ∷ 0 ∷ 0 ∷ 0 ∷ [])) ≡ Accepted 0 1 4
+unfolding opened
+box-at-unit = refl
+
+pub circ-with-unit
+    : readOf (fileOf 0 5 2 (5 ∷ 2 ∷ 6 ∷ 1 ∷ 6 ∷ 24 ∷ 27 ∷ []) (0 ∷ 0 ∷ 0 ∷ 0 ∷ 0 ∷ 1 ∷ 0 ∷ [])) ≡ Accepted 0 5 2
+unfolding opened
+circ-with-unit = refl
+
+-- Kind 6 is no label's kind and no term's, kind 27 no type's; a term of kind 28.
+pub unit-as-label : readOf (fileOf 1 0 1 (6 ∷ 17 ∷ []) (0 ∷ 0 ∷ [])) ≡ refused 4 0
+unfolding opened
+unit-as-label = refl
+
+pub unit-as-term : readOf (fileOf 0 0 1 (6 ∷ []) (0 ∷ [])) ≡ refused 4 0
+unfolding opened
+unit-as-term = refl
+
+pub unit-value-as-type : readOf (fileOf 0 1 1 (27 ∷ 27 ∷ []) (0 ∷ 0 ∷ [])) ≡ refused 4 0
+unfolding opened
+unit-value-as-type = refl
+
+pub kind-past-unit-value : readOf (fileOf 0 0 1 (28 ∷ []) (0 ∷ [])) ≡ refused 4 0
+unfolding opened
+kind-past-unit-value = refl
+
+-- Unit and its value with argument 1.
+pub unit-argument : readOf (fileOf 0 1 1 (6 ∷ 27 ∷ []) (1 ∷ 0 ∷ [])) ≡ refused 5 0
+unfolding opened
+unit-argument = refl
+
+pub unit-value-argument : readOf (fileOf 0 0 1 (27 ∷ []) (1 ∷ [])) ≡ refused 5 0
+unfolding opened
+unit-value-argument = refl
+
+-- Unit and its value have no parts: a pair of unit and nothing runs out; a value behind a value is left over.
+pub unit-runs-out : readOf (fileOf 0 2 1 (2 ∷ 6 ∷ 27 ∷ []) (0 ∷ 0 ∷ 0 ∷ [])) ≡ refused 6 0
+unfolding opened
+unit-runs-out = refl
+
+pub unit-value-left-over : readOf (fileOf 0 0 2 (27 ∷ 27 ∷ []) (0 ∷ 0 ∷ [])) ≡ refused 8 1
+unfolding opened
+unit-value-left-over = refl
 
 -- 400 term entries: 399 lifts around label 0.
 abbrev longFile : List ℕ

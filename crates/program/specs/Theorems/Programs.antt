@@ -8,7 +8,7 @@ use lib.Dec.{T as IsTrue, eqb, leb, ltb→lt, le→leb}
 use borrow.Author.Tests.{ne-eqb}
 use Rattle.rules.specs.Types.{Wire, Ty, entries, most-entries}
 use Rattle.rules.specs.Terms.{Term, variable, label, gate, constant, abstraction, application, pair, let-in, lift, force}
-use Rattle.rules.specs.Terms.{box, apply}
+use Rattle.rules.specs.Terms.{unit-value, box, apply}
 use Rattle.rules.specs.Circuits.{one-if}
 use Rattle.rules.specs.Sizes.{nodes}
 use Rattle.rules.specs.Inference.{uses, labelUses}
@@ -16,7 +16,7 @@ use Rattle.rules.specs.Laws.Booleans.{and-left, and-right, and-both}
 use Rattle.program.specs.Format.{termCount}
 use Rattle.program.specs.Trees.{TypeAtPosition, at-position, formed, closedUnder, labelsBelow, TermAt, variable-at}
 use Rattle.program.specs.Trees.{label-at, abstraction-at, application-at, pair-at, let-at, lift-at, force-at, box-at}
-use Rattle.program.specs.Trees.{apply-at, gate-at, AcceptedFile}
+use Rattle.program.specs.Trees.{apply-at, gate-at, unit-value-at, AcceptedFile}
 use Rattle.program.specs.Encoding.{typesIn}
 use Rattle.program.specs.Laws.Trees.{allFormed}
 use Rattle.program.specs.Laws.TreeTraversal.{type-end, type-nonempty, term-end}
@@ -84,6 +84,7 @@ types-good g (box-at {T = T} {M = M} k a s) =
 types-good g (apply-at {M = M} {N = N} k a s t) =
     good-append (typesIn M) (typesIn N) (types-good g s) (types-good g t)
 types-good g (gate-at k a) = (tt, tt)
+types-good g (unit-value-at k a) = (tt, tt)
 
 -- The types of a program's abstractions and boxes: their Circs are of wire types, and they have at most 512 entries.
 pub accepted-types : {f : List ℕ} {labels : List Wire} {M : Term} → AcceptedFile f labels M → GoodTypes (typesIn M)
@@ -100,6 +101,7 @@ pub labels-unused : (M : Term) (l : ℕ) → IsTrue (labelsBelow l M) → (ℓ :
 labels-unused (variable x) l h ℓ k = refl
 labels-unused (label x) l h ℓ k = not-used ℓ x l (ltb→lt x l h) k
 labels-unused (gate x) l h ℓ k = refl
+labels-unused unit-value l h ℓ k = refl
 labels-unused (constant c) l h ℓ k = refl
 labels-unused (abstraction A M) l h ℓ k = labels-unused M l h ℓ k
 labels-unused (application M N) l h ℓ k =
@@ -127,6 +129,7 @@ pub variables-unused : (M : Term) (b : ℕ) → IsTrue (closedUnder b M) → (n 
 variables-unused (variable x) b h n k = not-used n x b (ltb→lt x b h) k
 variables-unused (label x) b h n k = refl
 variables-unused (gate x) b h n k = refl
+variables-unused unit-value b h n k = refl
 variables-unused (constant c) b h n k = refl
 variables-unused (abstraction A M) b h n k = variables-unused M (b + 1) h (suc n) (omega arith)
 variables-unused (application M N) b h n k =

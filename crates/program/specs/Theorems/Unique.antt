@@ -5,14 +5,16 @@ use mathlib.Core.List.{List, [], _∷_}
 use mathlib.Core.Option.{some}
 use native.Mathlib.Omega.{arith}
 use lib.ListN.{length}
-use Rattle.rules.specs.Types.{Wire, Bit, Qubit, Ty, wire, _⊗_, _⊸_, !_, Circ}
+use Rattle.rules.specs.Types.{Wire, Bit, Qubit, Ty, wire, unit, _⊗_, _⊸_, !_, Circ}
 use Rattle.rules.specs.Gates.{nth}
-use Rattle.rules.specs.Terms.{Term, variable, label, gate, abstraction, application, pair, let-in, lift, force, box, apply}
+use Rattle.rules.specs.Terms.{Term, variable, label, gate, unit-value, abstraction, application, pair, let-in, lift, force}
+use Rattle.rules.specs.Terms.{box, apply}
 use Rattle.rules.specs.Laws.TypeCodes.{same-wire}
 use Rattle.program.specs.Format.{kindAt, argumentAt}
-use Rattle.program.specs.Trees.{TypeAt, bit-at, qubit-at, tensor-at, function-at, reusable-at, circ-at, TypeAtPosition}
+use Rattle.program.specs.Trees.{TypeAt, bit-at, qubit-at, unit-at, tensor-at, function-at, reusable-at, circ-at}
+use Rattle.program.specs.Trees.{TypeAtPosition}
 use Rattle.program.specs.Trees.{at-position, AcceptedFile, TermAt, variable-at, label-at, abstraction-at}
-use Rattle.program.specs.Trees.{application-at, pair-at, let-at, lift-at, force-at, box-at, apply-at, gate-at}
+use Rattle.program.specs.Trees.{application-at, pair-at, let-at, lift-at, force-at, box-at, apply-at, gate-at, unit-value-at}
 
 -- The type that stands at e, by the kind of e.
 data TypeCase (f : List ℕ) (e : ℕ) : ℕ → Ty → ℕ → Type 0 where
@@ -22,10 +24,12 @@ data TypeCase (f : List ℕ) (e : ℕ) : ℕ → Ty → ℕ → Type 0 where
   function-case : {m n : ℕ} {A B : Ty} → TypeAt f (suc e) A m → TypeAt f m B n → TypeCase f e 3 (A ⊸ B) n
   reusable-case : {n : ℕ} {A : Ty} → TypeAt f (suc e) A n → TypeCase f e 4 (! A) n
   circ-case : {m n : ℕ} {A B : Ty} → TypeAt f (suc e) A m → TypeAt f m B n → TypeCase f e 5 (Circ A B) n
+  unit-case : TypeCase f e 6 unit (suc e)
 
 type-case : {f : List ℕ} {e n : ℕ} {A : Ty} → TypeAt f e A n → TypeCase f e (kindAt f e) A n
 type-case {f} (bit-at {e = e} k) = subst (λ i. TypeCase f e i (wire Bit) (suc e)) (sym k) bit-case
 type-case {f} (qubit-at {e = e} k) = subst (λ i. TypeCase f e i (wire Qubit) (suc e)) (sym k) qubit-case
+type-case {f} (unit-at {e = e} k) = subst (λ i. TypeCase f e i unit (suc e)) (sym k) unit-case
 type-case {f} (tensor-at {e = e} {n = n} {A = A} {B = B} k s t) =
     subst (λ i. TypeCase f e i (A ⊗ B) n) (sym k) (tensor-case s t)
 type-case {f} (function-at {e = e} {n = n} {A = A} {B = B} k s t) =
@@ -58,6 +62,9 @@ bit-unique bit-case = (refl, refl)
 qubit-unique : {f : List ℕ} {e m : ℕ} {B : Ty} → TypeCase f e 1 B m → (wire Qubit ≡ B) × (suc e ≡ m)
 qubit-unique qubit-case = (refl, refl)
 
+unit-unique : {f : List ℕ} {e m : ℕ} {B : Ty} → TypeCase f e 6 B m → (unit ≡ B) × (suc e ≡ m)
+unit-unique unit-case = (refl, refl)
+
 tensor-unique : {f : List ℕ} {e m n k : ℕ} {A B D : Ty}
     → OnlyType f (suc e) A m → OnlyType f m B n → TypeCase f e 2 D k
     → (A ⊗ B ≡ D) × (n ≡ k)
@@ -85,6 +92,7 @@ pub type-unique : {f : List ℕ} {e n : ℕ} {A : Ty}
     → (A ≡ B) × (n ≡ m)
 type-unique (bit-at k) D j u = bit-unique (type-case-at 0 k u)
 type-unique (qubit-at k) D j u = qubit-unique (type-case-at 1 k u)
+type-unique (unit-at k) D j u = unit-unique (type-case-at 6 k u)
 type-unique (tensor-at k s t) D j u = tensor-unique (type-unique s) (type-unique t) (type-case-at 2 k u)
 type-unique (function-at k s t) D j u = function-unique (type-unique s) (type-unique t) (type-case-at 3 k u)
 type-unique (reusable-at k s) D j u = reusable-unique (type-unique s) (type-case-at 4 k u)
@@ -113,6 +121,7 @@ data TermCase (f : List ℕ) (e : ℕ) : ℕ → Term → ℕ → Type 0 where
       → TermCase f e 24 (box T M) n
   apply-case : {m n : ℕ} {M N : Term} → TermAt f (suc e) M m → TermAt f m N n → TermCase f e 25 (apply M N) n
   gate-case : TermCase f e 26 (gate (argumentAt f e)) (suc e)
+  unit-value-case : TermCase f e 27 unit-value (suc e)
 
 term-case : {f : List ℕ} {e n : ℕ} {M : Term} → TermAt f e M n → TermCase f e (kindAt f e) M n
 term-case {f} (variable-at {e = e} k a) =
@@ -140,6 +149,7 @@ term-case {f} (apply-at {e = e} {n = n} {M = M} {N = N} k a s t) =
 term-case {f} (gate-at {e = e} k a) =
     subst (λ x. TermCase f e (kindAt f e) (gate x) (suc e)) a
     (subst (λ i. TermCase f e i (gate (argumentAt f e)) (suc e)) (sym k) gate-case)
+term-case {f} (unit-value-at {e = e} k a) = subst (λ i. TermCase f e i unit-value (suc e)) (sym k) unit-value-case
 
 term-case-at : {f : List ℕ} {e n : ℕ} {M : Term} (k : ℕ) → kindAt f e ≡ k → TermAt f e M n → TermCase f e k M n
 term-case-at {f} {e} {n} {M} k q s = subst (λ i. TermCase f e i M n) q (term-case s)
@@ -171,6 +181,9 @@ gate-unique : {f : List ℕ} {e x k : ℕ} {D : Term}
     → argumentAt f e ≡ x → TermCase f e 26 D k
     → (gate x ≡ D) × (suc e ≡ k)
 gate-unique a gate-case = (ap gate (sym a), refl)
+
+unit-value-unique : {f : List ℕ} {e k : ℕ} {D : Term} → TermCase f e 27 D k → (unit-value ≡ D) × (suc e ≡ k)
+unit-value-unique unit-value-case = (refl, refl)
 
 abstraction-unique : {f : List ℕ} {e n k : ℕ} {A : Ty} {M D : Term}
     → TypeAtPosition f (argumentAt f e) A → OnlyTerm f (suc e) M n → TermCase f e 18 D k
@@ -230,6 +243,7 @@ term-unique (force-at k a s) D j u = force-unique (term-unique s) (term-case-at 
 term-unique (box-at k a s) D j u = box-unique a (term-unique s) (term-case-at 24 k u)
 term-unique (apply-at k a s t) D j u = apply-unique (term-unique s) (term-unique t) (term-case-at 25 k u)
 term-unique (gate-at k a) D j u = gate-unique a (term-case-at 26 k u)
+term-unique (unit-value-at k a) D j u = unit-value-unique (term-case-at 27 k u)
 
 -- Two lists of one length that have the same at each place.
 same-lists : (l m : List Wire)
