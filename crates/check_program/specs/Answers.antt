@@ -6,9 +6,10 @@ use lib.Dec.{eqb}
 use lib.ListN.{drop}
 use Rattle.rules.specs.Kinds.{qubit-kind, pair-type-kind, function-kind, reusable-kind, circuit-kind, variable-kind}
 use Rattle.rules.specs.Kinds.{label-kind, abstraction-kind, application-kind, pair-kind, let-kind, lift-kind}
-use Rattle.rules.specs.Kinds.{force-kind, box-kind, apply-kind}
-use Rattle.rules.specs.Types.{Wire, Bit, Qubit, Ty, wire, _⊗_, _⊸_, !_, Circ, entries, typeCodes}
-use Rattle.rules.specs.Terms.{Term, variable, label, gate, abstraction, application, pair, let-in, lift, force, box, apply}
+use Rattle.rules.specs.Kinds.{force-kind, box-kind, apply-kind, unit-kind, unit-value-kind}
+use Rattle.rules.specs.Types.{Wire, Bit, Qubit, Ty, wire, unit, _⊗_, _⊸_, !_, Circ, entries, typeCodes}
+use Rattle.rules.specs.Terms.{Term, variable, label, gate, unit-value, abstraction, application, pair, let-in, lift, force}
+use Rattle.rules.specs.Terms.{box, apply}
 use Rattle.rules.specs.Sizes.{nodes, most-types}
 use Rattle.lent.specs.Lent.{tooShort, bytesLeft}
 use Rattle.program.specs.Format.{labelCount, termCount, firstTerm, kindAt, argumentAt}
@@ -49,13 +50,15 @@ built size part e (no-part x) = x
 built size part e (one-part c) = c (part (suc e))
 built size part e (two-parts c) = let x = part (suc e) in c x (part (suc e + size x))
 
--- 01, type section: "0 Bit, 1 Qubit (no parts); 2 pair, 3 function, 5 circuit (two parts); 4 reusable (one)".
+-- 01, type section: "0 Bit, 1 Qubit (no parts); 2 pair, 3 function, 5 circuit (two parts); 4 reusable (one)". 02, ticket 5: "a
+-- unit type (type kind 6)".
 abbrev pub typeNode : ℕ → Node Ty
 typeNode k =
     cond (eqb k qubit-kind) (no-part (wire Qubit))
     (cond (eqb k pair-type-kind) (two-parts _⊗_)
     (cond (eqb k function-kind) (two-parts _⊸_)
-    (cond (eqb k reusable-kind) (one-part !_) (cond (eqb k circuit-kind) (two-parts Circ) (no-part (wire Bit))))))
+    (cond (eqb k reusable-kind) (one-part !_)
+    (cond (eqb k circuit-kind) (two-parts Circ) (cond (eqb k unit-kind) (no-part unit) (no-part (wire Bit)))))))
 
 -- The type whose preorder starts at entry e, of at most so many entries.
 unfoldable pub typeFrom : ℕ → List ℕ → ℕ → Ty
@@ -67,7 +70,7 @@ abbrev pub namedType : List ℕ → ℕ → Ty
 namedType f e = typeFrom most-types f (labelCount f + argumentAt f e)
 
 -- 01, term section: "16 variable, 17 label, 26 gate (no parts); 18 abstraction, 22 lift, 23 force, 24 box (one);
--- 19 application, 20 pair, 21 let, 25 apply (two)."
+-- 19 application, 20 pair, 21 let, 25 apply (two)." 02, ticket 5: unit's "value (term kind 27)".
 abbrev pub termNode : List ℕ → ℕ → ℕ → Node Term
 termNode f e k =
     cond (eqb k variable-kind) (no-part (variable (argumentAt f e)))
@@ -79,7 +82,8 @@ termNode f e k =
     (cond (eqb k lift-kind) (one-part lift)
     (cond (eqb k force-kind) (one-part force)
     (cond (eqb k box-kind) (one-part λ M. box (namedType f e) M)
-    (cond (eqb k apply-kind) (two-parts apply) (no-part (gate (argumentAt f e))))))))))))
+    (cond (eqb k apply-kind) (two-parts apply)
+    (cond (eqb k unit-value-kind) (no-part unit-value) (no-part (gate (argumentAt f e)))))))))))))
 
 -- The term whose preorder starts at entry e, of at most so many nodes.
 unfoldable pub termFrom : ℕ → List ℕ → ℕ → Term

@@ -5,10 +5,10 @@ use mathlib.Core.List.{List, [], _∷_}
 use mathlib.Core.Option.{Option, none, some, Option·map}
 use lib.Dec.{eqb, ltb}
 use lib.ListN.{length}
-use Rattle.rules.specs.Types.{Wire, Ty, wire, copyable}
+use Rattle.rules.specs.Types.{Wire, Ty, wire, unit, copyable}
 use Rattle.rules.specs.Gates.{nth, gateType}
 use Rattle.rules.specs.Terms.{Term, variable, label, gate, constant, abstraction, application, pair, let-in, lift, force}
-use Rattle.rules.specs.Terms.{box, apply}
+use Rattle.rules.specs.Terms.{box, apply, unit-value}
 use Rattle.rules.specs.Sizes.{nodes}
 use Rattle.rules.specs.Inference.{uses, labelUses, asPair, asReusable, gateNodeType, abstractionType, applicationType}
 use Rattle.rules.specs.Inference.{pairType, liftType, boxType, applyType}
@@ -78,6 +78,7 @@ abbrev pub checkTerm : List Wire → List Binder → ℕ → ℕ → Term → Ch
 checkTerm L Γ lifts e (variable n) = variableFound e lifts (nth Γ n)
 checkTerm L Γ lifts e (label ℓ) = labelFound e lifts (nth L ℓ)
 checkTerm L Γ lifts e (gate n) = ruled e (Option·map gateNodeType (gateType n)) none none
+checkTerm L Γ lifts e unit-value = typed unit none none
 checkTerm L Γ lifts e (constant b) = fault e
 checkTerm L Γ lifts e (abstraction A M) =
     followed (checkTerm L (A under lifts ∷ Γ) lifts (suc e) M) λ B u v.

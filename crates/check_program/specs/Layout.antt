@@ -10,7 +10,7 @@ use lib.ListN.{length}
 use Rattle.rules.specs.Types.{Wire, wire}
 use Rattle.rules.specs.Gates.{nth}
 use Rattle.rules.specs.Terms.{Term, variable, label, gate, constant, abstraction, application, pair, let-in, lift, force}
-use Rattle.rules.specs.Terms.{box, apply}
+use Rattle.rules.specs.Terms.{box, apply, unit-value}
 use Rattle.rules.specs.Circuits.{one-if}
 use Rattle.program.specs.Format.{typeCount}
 use Rattle.check_types.specs.Cells.{cellKind, cellFirst, cellSecond}
@@ -18,7 +18,8 @@ use Rattle.check_types.specs.GateCells.{gateCells}
 use Rattle.check_program.specs.Checking.{Binder, _under_}
 use Rattle.rules.specs.Sizes.{most-labels, most-terms}
 
--- The first quadword of the scope: there are never as many cells (41 of the gates, 512 of the file's types, 2,048 of nodes).
+-- The first quadword of the scope: there are never as many cells (48 of Bit, Qubit, unit and the gates, 512 of the file's types,
+-- 2,048 of nodes).
 abbrev pub most-cells : ℕ
 most-cells = 2700
 
@@ -55,6 +56,7 @@ abbrev pub counted : ℕ → ℕ → Term → ℕ
 counted d i (variable x) = one-if (eqb i (variableBinding d x))
 counted d i (label ℓ) = one-if (eqb i ℓ)
 counted d i (gate x) = 0
+counted d i unit-value = 0
 counted d i (constant c) = 0
 counted d i (abstraction A M) = counted (suc d) i M
 counted d i (application M N) = counted d i M + counted d i N

@@ -10,7 +10,7 @@ use lib.ListN.{length}
 use Rattle.rules.specs.Types.{Wire, Ty, _⊗_}
 use Rattle.rules.specs.Gates.{nth}
 use Rattle.rules.specs.Terms.{Term, variable, label, gate, constant, abstraction, application, pair, let-in, lift, force}
-use Rattle.rules.specs.Terms.{box, apply}
+use Rattle.rules.specs.Terms.{box, apply, unit-value}
 use Rattle.rules.specs.Sizes.{nodes}
 use Rattle.rules.specs.Inference.{uses, labelUses, Linear, asPair, infer}
 use Rattle.check_program.specs.Checking.{Binder, _under_}
@@ -72,6 +72,7 @@ abbrev pub PartsHaveTypes : List Wire → List Binder → ℕ → Term → Type 
 PartsHaveTypes L Γ lifts (variable n) = Unit
 PartsHaveTypes L Γ lifts (label ℓ) = Unit
 PartsHaveTypes L Γ lifts (gate n) = Unit
+PartsHaveTypes L Γ lifts unit-value = Unit
 PartsHaveTypes L Γ lifts (constant b) = Unit
 PartsHaveTypes L Γ lifts (abstraction A M) = HasType L (A under lifts ∷ Γ) M
 PartsHaveTypes L Γ lifts (application M N) = HasType L Γ M × HasType L Γ N

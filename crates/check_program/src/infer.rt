@@ -10,17 +10,19 @@ use crate::node::finish_one;
 use crate::node::finish_two;
 use crate::node::lifts_inside;
 use crate::node::part_count;
+use check_types::CELL_OF_UNIT;
 use check_types::gate_cell;
 use program::format::argument_at;
 use program::format::kind_at;
 use rules::kinds::GATE;
+use rules::kinds::UNIT_VALUE;
 ghost use mathlib.Core.Path.{_≡_};
 ghost use Rattle.words.specs.Words.{words};
 ghost use Rattle.program.specs.Format.{kindAt};
 ghost use Rattle.check_program.specs.Heads.{partCount};
 ghost use Rattle.check_program.specs.Inferring.{Possible, Meets};
 
-// A variable, a label or a gate at entry e.
+// A variable, a label, a gate or unit's value at entry e.
 pub(crate) fn leaf(
     file: &[u8],
     work: &mut [u8],
@@ -32,9 +34,19 @@ pub(crate) fn leaf(
     requires { ⌜ Possible (now file) (words (now work)) e binders lifts cells × (partCount (kindAt (now file) e) ≡ 0) ⌝ }
     ensures { λ r. ⌜ Meets (now (file .entry)) (words (now (work .entry))) (words (now (work .exit))) e binders lifts cells r ⌝ }
 {
-    if kind_at(file, e) == GATE {
+    let kind = kind_at(file, e);
+    if kind == GATE {
         return Inferred::Typed {
             cell: gate_cell(argument_at(file, e)),
+            next: e + 1,
+            cells,
+            unused: 0,
+            crossing: 0,
+        };
+    }
+    if kind == UNIT_VALUE {
+        return Inferred::Typed {
+            cell: CELL_OF_UNIT,
             next: e + 1,
             cells,
             unused: 0,

@@ -7,7 +7,7 @@ use mathlib.Core.Bool.{Bool, true, false}
 use lib.Dec.{T as IsTrue, eqb, ltb→lt}
 use borrow.Author.Tests.{eq-eqb, ne-eqb, eqb-true, eqb-false}
 use Rattle.rules.specs.Terms.{Term, variable, label, gate, constant, abstraction, application, pair, let-in, lift, force}
-use Rattle.rules.specs.Terms.{box, apply}
+use Rattle.rules.specs.Terms.{box, apply, unit-value}
 use Rattle.rules.specs.Circuits.{one-if}
 use Rattle.rules.specs.Sizes.{nodes}
 use Rattle.rules.specs.Inference.{uses, labelUses}
@@ -25,6 +25,7 @@ pub counted-least : (d i : ℕ) (M : Term) → counted d i M ≤ nodes M
 counted-least d i (variable x) = one-at-most (eqb i (variableBinding d x))
 counted-least d i (label ℓ) = one-at-most (eqb i ℓ)
 counted-least d i (gate x) = omega arith
+counted-least d i unit-value = omega arith
 counted-least d i (constant c) = omega arith
 counted-least d i (abstraction A M) = omega (arith, counted-least (suc d) i M)
 counted-least d i (application M N) = omega (arith, counted-least d i M, counted-least d i N)
@@ -39,6 +40,7 @@ pub some-node : (M : Term) → 1 ≤ nodes M
 some-node (variable x) = omega arith
 some-node (label ℓ) = omega arith
 some-node (gate x) = omega arith
+some-node unit-value = omega arith
 some-node (constant c) = omega arith
 some-node (abstraction A M) = omega arith
 some-node (application M N) = omega arith
@@ -54,6 +56,7 @@ pub counted-label : (d ℓ : ℕ) (M : Term) → ℓ < most-labels → counted d
 counted-label d ℓ (variable x) h = ap one-if (ne-eqb ℓ (variableBinding d x) (λ q. omega arith))
 counted-label d ℓ (label k) h = refl
 counted-label d ℓ (gate x) h = refl
+counted-label d ℓ unit-value h = refl
 counted-label d ℓ (constant c) h = refl
 counted-label d ℓ (abstraction A M) h = counted-label (suc d) ℓ M h
 counted-label d ℓ (application M N) h = ap₂ _+_ (counted-label d ℓ M h) (counted-label d ℓ N h)
@@ -81,6 +84,7 @@ counted-variable d l n (label ℓ) h f c b =
     let below : ℓ < l = ltb→lt ℓ l b in
     ap one-if (ne-eqb (variableBinding d n) ℓ (λ q. omega arith))
 counted-variable d l n (gate x) h f c b = refl
+counted-variable d l n unit-value h f c b = refl
 counted-variable d l n (constant k) h f c b = refl
 counted-variable d l n (abstraction A M) h f c b =
     let same : variableBinding d n ≡ variableBinding (suc d) (suc n) = omega arith in

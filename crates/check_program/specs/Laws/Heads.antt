@@ -10,9 +10,10 @@ use mathlib.Core.Option.{Option, none, some, Option·some-ne-none}
 use lib.Dec.{T as IsTrue, eqb}
 use lib.ListN.{length}
 use Rattle.rules.specs.Kinds.{variable-kind, label-kind, abstraction-kind, application-kind, let-kind, lift-kind}
-use Rattle.rules.specs.Kinds.{force-kind, box-kind, apply-kind, gate-kind}
+use Rattle.rules.specs.Kinds.{force-kind, box-kind, apply-kind, gate-kind, unit-value-kind}
 use Rattle.rules.specs.Types.{Wire, Ty}
-use Rattle.rules.specs.Terms.{Term, variable, label, gate, abstraction, application, pair, let-in, lift, force, box, apply}
+use Rattle.rules.specs.Terms.{Term, variable, label, gate, unit-value, abstraction, application, pair, let-in, lift, force}
+use Rattle.rules.specs.Terms.{box, apply}
 use Rattle.rules.specs.Sizes.{nodes}
 use Rattle.rules.specs.Inference.{uses, asPair, applicationType, pairType, applyType}
 use Rattle.rules.specs.Laws.Booleans.{and-left, and-right}
@@ -20,7 +21,7 @@ use Rattle.program.specs.Format.{kindAt, argumentAt, termShape, within}
 use Rattle.program.specs.declared.format.Argument.the-variants.{Zero, LabelNumber, GateNumber, TypePosition, BinderCount}
 use Rattle.program.specs.declared.format.Shape.the-variants.{Node, Unknown}
 use Rattle.program.specs.Trees.{TypeAtPosition, TermAt, variable-at, label-at, abstraction-at, application-at, pair-at}
-use Rattle.program.specs.Trees.{let-at, lift-at, force-at, box-at, apply-at, gate-at, closedUnder, labelsBelow, gatesKnown}
+use Rattle.program.specs.Trees.{let-at, lift-at, force-at, box-at, apply-at, gate-at, unit-value-at, closedUnder, labelsBelow, gatesKnown}
 use Rattle.check_program.specs.Checking.{Binder, _under_, Checked, typed, fault, earlier, if-so, usedWrongly, followed}
 use Rattle.check_program.specs.Checking.{ruled, twoRuled, checkTerm}
 use Rattle.check_program.specs.Layout.{counted}
@@ -164,21 +165,25 @@ check-two of-apply L Γ lifts e M N =
 -- A node without parts.
 pub data Leaf : Type 0 where
   of-variable of-label of-gate : ℕ → Leaf
+  of-unit : Leaf
 
 abbrev pub leaf : Leaf → Term
 leaf (of-variable x) = variable x
 leaf (of-label ℓ) = label ℓ
 leaf (of-gate g) = gate g
+leaf of-unit = unit-value
 
 abbrev pub leafKind : Leaf → ℕ
-leafKind (of-variable x) = 16
-leafKind (of-label ℓ) = 17
-leafKind (of-gate g) = 26
+leafKind (of-variable x) = variable-kind
+leafKind (of-label ℓ) = label-kind
+leafKind (of-gate g) = gate-kind
+leafKind of-unit = unit-value-kind
 
 abbrev pub leafNumber : Leaf → ℕ
 leafNumber (of-variable x) = x
 leafNumber (of-label ℓ) = ℓ
 leafNumber (of-gate g) = g
+leafNumber of-unit = 0
 
 -- A term that stands at an entry, by the number of its parts.
 pub data Shaped (f : List ℕ) (e : ℕ) : Term → ℕ → Type 0 where
@@ -202,14 +207,16 @@ shaped (force-at k a d) = shaped-one of-force k tt d
 shaped (box-at {T = T} k t d) = shaped-one (of-box T) k t d
 shaped (apply-at k a d e) = shaped-two of-apply k d e
 shaped (gate-at {x = x} k a) = shaped-leaf (of-gate x) k a
+shaped (unit-value-at k a) = shaped-leaf of-unit k a
 
 -- At most two.
 pub partCount-most : (k : ℕ) → partCount k ≤ 2
 unfolding partCount termShape
 partCount-most k =
-    rest (eqb k variable-kind) (eqb k label-kind) (eqb k abstraction-kind) (within application-kind let-kind k) (within lift-kind force-kind k) (eqb k box-kind) (eqb k apply-kind) (eqb k gate-kind)
+    rest (eqb k variable-kind) (eqb k label-kind) (eqb k abstraction-kind) (within application-kind let-kind k) (within lift-kind force-kind k) (eqb k box-kind) (eqb k apply-kind)
+    (eqb k gate-kind) (eqb k unit-value-kind)
   where
-    rest : (a b c d e f g h : Bool)
+    rest : (a b c d e f g h i : Bool)
         → partsOf
         (cond a (Node 0 BinderCount)
         (cond b (Node 0 LabelNumber)
@@ -217,23 +224,25 @@ partCount-most k =
         (cond d (Node 2 Zero)
         (cond e (Node 1 Zero)
         (cond f (Node 1 TypePosition)
-        (cond g (Node 2 Zero) (cond h (Node 0 GateNumber) Unknown))))))))
+        (cond g (Node 2 Zero) (cond h (Node 0 GateNumber) (cond i (Node 0 Zero) Unknown)))))))))
         ≤ 2
-    rest true b c d e f g h = omega arith
-    rest false true c d e f g h = omega arith
-    rest false false true d e f g h = omega arith
-    rest false false false true e f g h = omega arith
-    rest false false false false true f g h = omega arith
-    rest false false false false false true g h = omega arith
-    rest false false false false false false true h = omega arith
-    rest false false false false false false false true = omega arith
-    rest false false false false false false false false = omega arith
+    rest true b c d e f g h i = omega arith
+    rest false true c d e f g h i = omega arith
+    rest false false true d e f g h i = omega arith
+    rest false false false true e f g h i = omega arith
+    rest false false false false true f g h i = omega arith
+    rest false false false false false true g h i = omega arith
+    rest false false false false false false true h i = omega arith
+    rest false false false false false false false true i = omega arith
+    rest false false false false false false false false true = omega arith
+    rest false false false false false false false false false = omega arith
 
 pub no-parts : (k : ℕ) (l : Leaf) → k ≡ leafKind l → partCount k ≡ 0
 unfolding partCount termShape
 no-parts k (of-variable x) h = rw h
 no-parts k (of-label ℓ) h = rw h
 no-parts k (of-gate g) h = rw h
+no-parts k of-unit h = rw h
 
 pub one-part : (k : ℕ) (h : OnePart) → k ≡ oneKind h → partCount k ≡ 1
 unfolding partCount termShape

@@ -1,4 +1,4 @@
--- The arm of the inference for variables, labels and gates.
+-- The arm of the inference for nodes without parts.
 use Prim.Native.Nat.{ℕ, suc, _+_, _*_, _≤_, _<_}
 use native.Mathlib.Numerals.{add-one}
 use native.Mathlib.Omega.{arith}
@@ -10,7 +10,7 @@ use lib.Dec.{T as IsTrue, eqb, ltb→lt}
 use lib.ListN.{length, length-set}
 use lib.Seq.{getD-set-same, getD-set-other}
 use borrow.Author.Tests.{eqb-true, eqb-false}
-use Rattle.rules.specs.Kinds.{variable-kind, label-kind, gate-kind}
+use Rattle.rules.specs.Kinds.{variable-kind, label-kind, gate-kind, unit-value-kind}
 use Rattle.rules.specs.Types.{Wire, wire}
 use Rattle.rules.specs.Gates.{GateType, _to_, nth, gateType, isGate, isSome}
 use Rattle.rules.specs.Terms.{Term, variable, label, gate}
@@ -18,7 +18,7 @@ use Rattle.rules.specs.Circuits.{one-if}
 use Rattle.rules.specs.Inference.{gateNodeType}
 use Rattle.program.specs.Format.{kindAt, argumentAt}
 use Rattle.check_types.specs.Laws.Cells.{denotes-kept}
-use Rattle.check_types.specs.GateCells.{gateCell}
+use Rattle.check_types.specs.GateCells.{cell-of-unit, gateCell}
 use Rattle.check_program.specs.declared.Inferred.{Inferred}
 use Rattle.check_program.specs.declared.Inferred.the-variants.{Typed}
 use Rattle.check_program.specs.Checking.{Binder, _under_, checkTerm, crosses, if-so, ruled, variableFound, labelFound}
@@ -27,7 +27,7 @@ use Rattle.rules.specs.Sizes.{most-labels}
 use Rattle.rules.specs.Laws.Wires.{nth-within}
 use Rattle.check_program.specs.Scope.{Binding, typeOf, liftsOf, Kept}
 use Rattle.check_program.specs.Laws.Scope.{kept-less, kept-refl, held-variable, held-label, held-below}
-use Rattle.check_program.specs.Laws.Heads.{of-variable, of-label, of-gate, Shaped, shaped-leaf, shaped-one, shaped-two}
+use Rattle.check_program.specs.Laws.Heads.{of-variable, of-label, of-gate, of-unit, Shaped, shaped-leaf, shaped-one, shaped-two}
 use Rattle.check_program.specs.Laws.Heads.{shaped, no-parts, one-part, two-parts}
 use Rattle.check_program.specs.Heads.{partCount}
 use Rattle.check_program.specs.Inferring.{Ready, Gets, Answered, Possible, Meets, bindingAt, usedOnce, SaysUsed}
@@ -95,7 +95,7 @@ binding-answers {f} {w} {w′} {e} {binders} {lifts} {cells} {L} {Γ} {r = r} M 
       kept = kept;
     })
 
--- The binding of a leaf that is no gate.
+-- The binding of a variable or label.
 binding-of-variable : (f : List ℕ) (e binders x : ℕ)
     → kindAt f e ≡ variable-kind → argumentAt f e ≡ x → bindingAt f e binders ≡ variableBinding binders x
 unfolding bindingAt
@@ -158,7 +158,7 @@ gate-answers {f} {w} {e} {binders} {lifts} {cells} {L} {Γ} x ready = go (found 
           kept = kept-refl w cells (most-labels + length Γ);
         })
 
--- A leaf answers what the check finds: a gate, a variable or label.
+-- A leaf answers what the check finds: a gate, unit's value, a variable or label.
 pub gate-meets : (f w : List ℕ) (e binders lifts cells : ℕ)
     → kindAt f e ≡ gate-kind
     → Meets f w w e binders lifts cells (Typed (gateCell (argumentAt f e)) (e + 1) cells 0 0)
@@ -174,12 +174,39 @@ gate-meets f w e binders lifts cells kind L Γ M n ready = go (shaped (ready .te
         (gate-answers x ready)
     go (shaped-leaf (of-variable x) k a) ready = absurd (omega arith)
     go (shaped-leaf (of-label x) k a) ready = absurd (omega arith)
+    go (shaped-leaf of-unit k a) ready = absurd (omega arith)
     go (shaped-one h k named d) ready =
         absurd (omega (arith, no-parts (kindAt f e) (of-gate 0) kind, one-part (kindAt f e) h k))
     go (shaped-two h k d d′) ready =
         absurd (omega (arith, no-parts (kindAt f e) (of-gate 0) kind, two-parts (kindAt f e) h k))
 
-module _ (f w : List ℕ) (e binders lifts cells : ℕ) (parts : partCount (kindAt f e) ≡ 0) (other : kindAt f e ≡ gate-kind → ⊥) where
+pub unit-meets : (f w : List ℕ) (e binders lifts cells : ℕ)
+    → kindAt f e ≡ unit-value-kind
+    → Meets f w w e binders lifts cells (Typed cell-of-unit (e + 1) cells 0 0)
+unit-meets f w e binders lifts cells kind L Γ M n ready = go (shaped (ready .term-at)) ready
+  where
+    go : {M′ : Term} {n′ : ℕ} → Shaped f e M′ n′ → Ready f w e binders lifts cells L Γ M′ n′
+        → Answered w w cells Γ M′ n′ (checkTerm L Γ lifts e M′) (Typed cell-of-unit (e + 1) cells 0 0)
+    go (shaped-leaf of-unit k a) ready =
+        record {
+          cell = cell-of-unit;
+          cells′ = cells;
+          answer = ap (λ y. Typed cell-of-unit y cells 0 0) (add-one e);
+          at-least = omega arith;
+          at-most = omega arith;
+          denotes = ready .environment .loaded .gates .unit-type;
+          kept = kept-refl w cells (most-labels + length Γ);
+        }
+    go (shaped-leaf (of-variable x) k a) ready = absurd (omega arith)
+    go (shaped-leaf (of-label x) k a) ready = absurd (omega arith)
+    go (shaped-leaf (of-gate x) k a) ready = absurd (omega arith)
+    go (shaped-one h k named d) ready =
+        absurd (omega (arith, no-parts (kindAt f e) of-unit kind, one-part (kindAt f e) h k))
+    go (shaped-two h k d d′) ready =
+        absurd (omega (arith, no-parts (kindAt f e) of-unit kind, two-parts (kindAt f e) h k))
+
+module _ (f w : List ℕ) (e binders lifts cells : ℕ) (parts : partCount (kindAt f e) ≡ 0)
+    (no-gate : kindAt f e ≡ gate-kind → ⊥) (no-unit : kindAt f e ≡ unit-value-kind → ⊥) where
   pub binding-meets : (w′ : List ℕ) (r : Inferred)
       → SaysUsed w w′ (bindingAt f e binders) e lifts cells r
       → Meets f w w′ e binders lifts cells r
@@ -190,7 +217,8 @@ module _ (f w : List ℕ) (e binders lifts cells : ℕ) (parts : partCount (kind
 
       go : {M′ : Term} {n′ : ℕ} → Shaped f e M′ n′ → Ready f w e binders lifts cells L Γ M′ n′
           → Answered w w′ cells Γ M′ n′ (checkTerm L Γ lifts e M′) r
-      go (shaped-leaf (of-gate x) k a) ready = absurd (other k)
+      go (shaped-leaf (of-gate x) k a) ready = absurd (no-gate k)
+      go (shaped-leaf of-unit k a) ready = absurd (no-unit k)
       go (shaped-leaf (of-variable x) k a) ready =
           variable-answers x ready
           (at-slot (variableBinding (length Γ) x)
@@ -214,7 +242,8 @@ module _ (f w : List ℕ) (e binders lifts cells : ℕ) (parts : partCount (kind
 
       go : {M′ : Term} {n′ : ℕ} → Shaped f e M′ n′ → Ready f w e binders lifts cells (p .0) (p .1) M′ n′
           → (bindingAt f e binders < most-labels + binders) × (bindingUses w (bindingAt f e binders) ≤ e)
-      go (shaped-leaf (of-gate x) k a) ready = absurd (other k)
+      go (shaped-leaf (of-gate x) k a) ready = absurd (no-gate k)
+      go (shaped-leaf of-unit k a) ready = absurd (no-unit k)
       go (shaped-leaf (of-variable x) k a) ready =
           let below : x < length (p .1) = ltb→lt x (length (p .1)) (ready .closed) in
           let b = ready .binders-are in

@@ -15,14 +15,14 @@ use Rattle.rules.specs.Gates.{nth}
 use Rattle.rules.specs.Terms.{Term}
 use Rattle.program.specs.Format.{labelCount, typeCount, firstTerm, entryCount, kindAt}
 use Rattle.program.specs.Trees.{TypeAt, bit-at, qubit-at, tensor-at, function-at, reusable-at, circ-at, TypeAtPosition}
-use Rattle.program.specs.Trees.{at-position, AcceptedFile, labelsBelow}
+use Rattle.program.specs.Trees.{at-position, AcceptedFile, labelsBelow, unit-at}
 use Rattle.program.specs.Laws.TreeTraversal.{term-end, type-end}
 use Rattle.check_types.specs.Cells.{Denotes, Agree, made-pair, made-function, made-circuit}
 use Rattle.check_types.specs.Laws.Cells.{agree-refl, agree-less, agree-trans, denotes-kept}
 use Rattle.check_types.specs.NewCell.{withCell}
 use Rattle.check_types.specs.Laws.NewCell.{length-withCell, agree-withCell, kind-written, first-written, second-written}
 use Rattle.check_types.specs.Laws.Load.{CodesAt, codes-wire, codes-one, codes-two, length-loadCodes, agree-loadCodes}
-use Rattle.check_types.specs.Laws.Load.{codes-denote}
+use Rattle.check_types.specs.Laws.Load.{codes-denote, codes-unit}
 use Rattle.check_types.specs.Load.{loadCodes, codesOf}
 use Rattle.check_types.specs.GateCells.{gateCells, GatesLoaded, loadAllGates}
 use Rattle.check_types.specs.Laws.GateCells.{gate-cells, gates-loaded}
@@ -121,6 +121,8 @@ module _ (f : List ℕ) (L P : ℕ) where
       codes-wire (code-is q (omega arith) ∙ ap (kindAt f) (sym at) ∙ k)
   occurs q at (qubit-at k) h =
       codes-wire (code-is q (omega arith) ∙ ap (kindAt f) (sym at) ∙ k)
+  occurs q at (unit-at k) h =
+      codes-unit (code-is q (omega arith) ∙ ap (kindAt f) (sym at) ∙ k)
   occurs q at (reusable-at {A = A} k d) h =
       let end = type-end d in
       codes-one (code-is q (omega arith) ∙ ap (kindAt f) (sym at) ∙ k) (occurs (suc q) (omega arith) d h)
@@ -203,6 +205,7 @@ module _ {f : List ℕ} {labels : List Wire} {M : Term} (file : AcceptedFile f l
             record {
               bit = gate-kept (gates-first .bit);
               qubit = gate-kept (gates-first .qubit);
+              unit-type = gate-kept (gates-first .unit-type);
               gate = λ g T U q. gate-kept (gates-first .gate g T U q);
             };
       }

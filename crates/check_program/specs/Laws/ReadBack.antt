@@ -13,7 +13,7 @@ use Rattle.rules.specs.Laws.TypeCodes.{entries-positive}
 use Rattle.program.specs.Format.{typeCount, termCount, kindAt, argumentAt}
 use Rattle.program.specs.Trees.{TypeAt, bit-at, qubit-at, tensor-at, function-at, reusable-at, circ-at, TypeAtPosition}
 use Rattle.program.specs.Trees.{at-position, TermAt, variable-at, label-at, abstraction-at, application-at, pair-at, let-at}
-use Rattle.program.specs.Trees.{lift-at, force-at, box-at, apply-at, gate-at, AcceptedFile}
+use Rattle.program.specs.Trees.{lift-at, force-at, box-at, apply-at, gate-at, AcceptedFile, unit-at, unit-value-at}
 use Rattle.program.specs.Laws.TreeTraversal.{term-end, type-end}
 use Rattle.check_program.specs.Answers.{wireOf, labelsFrom, labelsOf, one-part, two-parts, built, typeNode, typeFrom}
 use Rattle.check_program.specs.Answers.{namedType, termNode, termFrom, termOf}
@@ -41,6 +41,7 @@ pub type-read : {f : List ℕ} {e n : ℕ} {A : Ty} (most : ℕ) → TypeAt f e 
 type-read {A = A} zero d h = absurd (omega (arith, entries-positive A))
 type-read {f} (suc most) (bit-at {e = e} k) h = at-kind f most e 0 k
 type-read {f} (suc most) (qubit-at {e = e} k) h = at-kind f most e 1 k
+type-read {f} (suc most) (unit-at {e = e} k) h = at-kind f most e 6 k
 type-read {f} (suc most) (tensor-at {e = e} {m = m} {A = A} {B = B} k d d′) h =
     let a = entries-positive A in
     let b = entries-positive B in
@@ -80,6 +81,7 @@ term-read {M = M} zero t d h = absurd (omega (arith, some-node M))
 term-read {f} (suc most) t (variable-at {e = e} k a) h = at-term f most e 16 k ∙ ap variable a
 term-read {f} (suc most) t (label-at {e = e} k a) h = at-term f most e 17 k ∙ ap label a
 term-read {f} (suc most) t (gate-at {e = e} k a) h = at-term f most e 26 k ∙ ap gate a
+term-read {f} (suc most) t (unit-value-at {e = e} k a) h = at-term f most e 27 k
 term-read {f} (suc most) t (abstraction-at {e = e} {A = A} {M = M} k p d) h =
     at-term f most e 18 k
     ∙ built-one nodes (λ i. termFrom most f i) e (λ M. abstraction (namedType f e) M) M (term-read most t d (omega arith))

@@ -64,6 +64,7 @@ loaded-kept a h l =
           record {
             bit = denotes-kept a h (l .gates .bit);
             qubit = denotes-kept a h (l .gates .qubit);
+            unit-type = denotes-kept a h (l .gates .unit-type);
             gate = λ g T U t. denotes-kept a h (l .gates .gate g T U t);
           };
     }

@@ -11,10 +11,10 @@ use native.Mathlib.Omega.{arith}
 use native.Mathlib.Decide.{ℕ-discrete}
 use lib.Dec.{T as IsTrue, eqb, eqb→eq, eqb-refl, ltb, ltb→lt, lt→ltb, not-T}
 use lib.ListN.{length}
-use Rattle.rules.specs.Types.{Wire, Ty, wire, _⊗_}
+use Rattle.rules.specs.Types.{Wire, Ty, wire, _⊗_, unit}
 use Rattle.rules.specs.Gates.{nth, gateType}
 use Rattle.rules.specs.Terms.{Term, variable, label, gate, constant, abstraction, application, pair, let-in, lift, force}
-use Rattle.rules.specs.Terms.{box, apply}
+use Rattle.rules.specs.Terms.{box, apply, unit-value}
 use Rattle.rules.specs.Sizes.{nodes}
 use Rattle.rules.specs.Circuits.{one-if}
 use Rattle.rules.specs.Typing.{_∣_⊢_∶_}
@@ -22,7 +22,7 @@ use Rattle.rules.specs.Inference.{uses, labelUses, Linear, asPair, asReusable, 
 use Rattle.rules.specs.Inference.{applicationType, pairType, liftType, boxType, applyType, infer}
 use Rattle.rules.specs.Laws.Counting.{Plain, plain-var, plain-label, plain-gate, plain-circ, plain-abs, plain-app}
 use Rattle.rules.specs.Laws.Counting.{plain-tuple, plain-let, plain-lift, plain-force, plain-box, plain-apply, BoundOnce}
-use Rattle.rules.specs.Laws.Counting.{NoneCrosses, Counted}
+use Rattle.rules.specs.Laws.Counting.{NoneCrosses, Counted, plain-unit}
 use Rattle.rules.specs.Counting.{source}
 use Rattle.rules.specs.Theorems.Counting.{plain-unique, has→counted, counted→has}
 use Rattle.rules.specs.Theorems.Inferring.{infer→plain, plain→infer}
@@ -109,6 +109,7 @@ pub check-type : (L : List Wire) (Γ : List Binder) (lifts e : ℕ) (M : Term)
 check-type L Γ lifts e (variable n) = variable-found e lifts Γ n
 check-type L Γ lifts e (label ℓ) = label-found e lifts (nth L ℓ)
 check-type L Γ lifts e (gate n) = ruled-type e (Option·map gateNodeType (gateType n)) none none
+check-type L Γ lifts e unit-value = refl
 check-type L Γ lifts e (constant b) = refl
 check-type L Γ lifts e (abstraction A M) =
     one-type e (checkTerm L (A under lifts ∷ Γ) lifts (suc e) M) (abstractionType A)
@@ -493,6 +494,9 @@ agrees L Γ lifts e w (plain-label {ℓ = ℓ} k) B u v h =
     ((λ y. x .0, λ y. tt), (λ y. x .1 .0 (y .1), λ y. (tt, x .1 .1 y)))
 agrees L Γ lifts e w (plain-gate {n = n} k) B u v h =
     let x = ruled-typed e (Option·map gateNodeType (gateType n)) B none none u v h in
+    ((λ y. sym (x .0), λ y. tt), (λ y. sym (x .1), λ y. (tt, (λ n A bound f l b. refl, λ p ℓ. refl))))
+agrees L Γ lifts e w plain-unit B u v h =
+    let x = ruled-typed e (some unit) B none none u v h in
     ((λ y. sym (x .0), λ y. tt), (λ y. sym (x .1), λ y. (tt, (λ n A bound f l b. refl, λ p ℓ. refl))))
 agrees L Γ lifts e w (plain-circ t b s d) B u v h = let z : _≡_ {A = ℕ} 0 1 = cc in absurd (omega arith)
 agrees L Γ lifts e w (plain-abs {A = A} {M = M} b d) B u v h =

@@ -10,10 +10,10 @@ use native.Mathlib.Omega.{arith}
 use native.Mathlib.Decide.{ℕ-discrete}
 use lib.Dec.{T as IsTrue, eqb, eqb→eq}
 use lib.ListN.{length}
-use Rattle.rules.specs.Types.{Wire, Ty, wire, _⊗_, _⊸_, !_, Circ}
+use Rattle.rules.specs.Types.{Wire, Ty, wire, _⊗_, _⊸_, !_, Circ, unit}
 use Rattle.rules.specs.Gates.{nth, gateType}
 use Rattle.rules.specs.Terms.{Term, variable, label, gate, constant, abstraction, application, pair, let-in, lift, force}
-use Rattle.rules.specs.Terms.{box, apply}
+use Rattle.rules.specs.Terms.{box, apply, unit-value}
 use Rattle.rules.specs.Sizes.{nodes}
 use Rattle.rules.specs.Inference.{uses, labelUses, asPair, asReusable, given, gateNodeType, Linear, abstractionType}
 use Rattle.rules.specs.Inference.{applicationType, pairType, liftType, boxType, applyType, infer}
@@ -33,6 +33,7 @@ nodes-positive : (M : Term) → 0 < nodes M
 nodes-positive (variable n) = omega arith
 nodes-positive (label ℓ) = omega arith
 nodes-positive (gate n) = omega arith
+nodes-positive unit-value = omega arith
 nodes-positive (constant b) = omega arith
 nodes-positive (abstraction A M) = omega arith
 nodes-positive (application M N) = omega arith
@@ -76,6 +77,7 @@ abbrev InParts : List Wire → Property → List Binder → ℕ → ℕ → Term
 InParts L P Γ lifts e (variable n) p = ⊥
 InParts L P Γ lifts e (label ℓ) p = ⊥
 InParts L P Γ lifts e (gate n) p = ⊥
+InParts L P Γ lifts e unit-value p = ⊥
 InParts L P Γ lifts e (constant b) p = ⊥
 InParts L P Γ lifts e (abstraction A M) p = At L P (A under lifts ∷ Γ) lifts (suc e) M p
 InParts L P Γ lifts e (application M N) p = At L P Γ lifts (suc e) M p ⊎ At L P Γ lifts (suc e + nodes M) N p
@@ -119,6 +121,7 @@ at-parts : (L : List Wire) (P : Property) (Γ : List Binder) (lifts e : ℕ) (M 
 at-parts L P Γ lifts e (variable n) p a = absurd a
 at-parts L P Γ lifts e (label ℓ) p a = absurd a
 at-parts L P Γ lifts e (gate n) p a = absurd a
+at-parts L P Γ lifts e unit-value p a = absurd a
 at-parts L P Γ lifts e (constant b) p a = absurd a
 at-parts L P Γ lifts e (abstraction A M) p a = (a .0, a .1, a .2, in-abstraction (a .3), a .4)
 at-parts L P Γ lifts e (application M N) p (inl a) = (a .0, a .1, a .2, in-application-first (a .3), a .4)
@@ -508,6 +511,8 @@ let-described L Γ lifts e M N second (fault p) x y = (
     go q l (inr (inr b)) = Option·some-ne-none (b .0 ⊗ b .1) (sym (b .2) ∙ x .0)
 let-described L Γ lifts e M N second (typed (wire α) u v) x y =
     own-fault L Γ lifts e (let-in M N) (no-pair {A = wire α} (x .0) refl)
+let-described L Γ lifts e M N second (typed unit u v) x y =
+    own-fault L Γ lifts e (let-in M N) (no-pair {A = unit} (x .0) refl)
 let-described L Γ lifts e M N second (typed (A ⊗ B) u v) x y = let-pair L Γ lifts e M N A B u v x (second A B) (y A B)
 let-described L Γ lifts e M N second (typed (A ⊸ B) u v) x y =
     own-fault L Γ lifts e (let-in M N) (no-pair {A = A ⊸ B} (x .0) refl)
@@ -597,6 +602,8 @@ described : (L : List Wire) (Γ : List Binder) (lifts e : ℕ) (M : Term) → De
 described L Γ lifts e (variable n) = variable-described L Γ lifts e n
 described L Γ lifts e (label ℓ) = label-described L Γ lifts e ℓ
 described L Γ lifts e (gate n) = gate-described L Γ lifts e n
+described L Γ lifts e unit-value =
+    no-parts L Γ lifts e unit-value unit none (λ P p b. b) refl (λ b. elim b [ ]) (λ p x. elim (x .1) [ ])
 described L Γ lifts e (constant b) = own-fault L Γ lifts e (constant b) (rule-fails tt refl)
 described L Γ lifts e (abstraction A M) =
     one-part L Γ (A under lifts ∷ Γ) lifts lifts e (abstraction A M) M (abstractionType A) (usedWrongly A (uses 0 M))
