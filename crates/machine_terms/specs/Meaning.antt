@@ -6,10 +6,10 @@ use lib.Dec.{eqb}
 use lib.ListN.{length}
 use Rattle.rules.specs.Types.{Bit, Ty, wire}
 use Rattle.rules.specs.Terms.{single, Boxed, boxed, Term, variable, label, gate, constant, abstraction, application, pair}
-use Rattle.rules.specs.Terms.{let-in, lift, force, box, apply}
+use Rattle.rules.specs.Terms.{let-in, lift, force, box, apply, unit-value}
 use Rattle.machine_terms.specs.Trees.{kind, argument, Tree, leaf, one, two, LeafKind, a-variable, a-label, a-gate}
 use Rattle.machine_terms.specs.Trees.{a-constant, leafKind, OneKind, an-abstraction, a-lift, a-force, a-box, oneKind}
-use Rattle.machine_terms.specs.Trees.{TwoKind, an-application, a-pair, a-let, an-apply, twoKind}
+use Rattle.machine_terms.specs.Trees.{TwoKind, an-application, a-pair, a-let, an-apply, twoKind, a-unit-value}
 
 -- What arguments stand for: the type at a type position, the closed circuit with a number.
 pub record Environment : Type 0 where
@@ -30,6 +30,7 @@ abbrev pub leafTerm : LeafKind → ℕ → Boxed → Term
 leafTerm a-variable a b = variable a
 leafTerm a-label a b = label a
 leafTerm a-gate a b = gate a
+leafTerm a-unit-value a b = unit-value
 leafTerm a-constant a b = constant b
 
 -- The term of a node with one part: the type at its argument, and the term of its part.

@@ -6,8 +6,8 @@ use mathlib.Core.List.{List, [], _∷_, _++_}
 use mathlib.Core.Option.{Option, none, some}
 use lib.Dec.{eqb}
 use Rattle.rules.specs.Kinds.{variable-kind, label-kind, abstraction-kind, application-kind, pair-kind, let-kind}
-use Rattle.rules.specs.Kinds.{lift-kind, force-kind, box-kind, apply-kind, gate-kind, constant-kind}
-use Rattle.rules.specs.Terms.{Tuple, single, both}
+use Rattle.rules.specs.Kinds.{lift-kind, force-kind, box-kind, apply-kind, gate-kind, constant-kind, unit-value-kind}
+use Rattle.rules.specs.Terms.{Tuple, single, both, empty}
 use Rattle.rules.specs.Next.{joined}
 
 -- A node: its kind and its argument (01, "Program file").
@@ -34,15 +34,18 @@ preorder (leaf n) = n ∷ []
 preorder (one n t) = n ∷ preorder t
 preorder (two n t u) = n ∷ (preorder t ++ preorder u)
 
--- The kinds without parts: 16 variable, 17 label, 26 gate. Kind 32 is the machine's own, a circuit constant; its
--- argument is the number of the closed circuit, counted from the first closed.
+-- The kinds without parts: 16 variable, 17 label, 26 gate; 02, ticket 5: unit's "value (term kind 27)". Kind 32 is the
+-- machine's own, a circuit constant; its argument is the number of the closed circuit, counted from the first closed.
 pub data LeafKind : Type 0 where
-  a-variable a-label a-gate a-constant : LeafKind
+  a-variable a-label a-gate a-unit-value a-constant : LeafKind
 
 -- The kind without parts that a number is; a number that is none is read as a circuit constant (WellKinded excludes
 -- it).
 unfoldable pub leafKind : ℕ → LeafKind
-leafKind k = cond (eqb k variable-kind) a-variable (cond (eqb k label-kind) a-label (cond (eqb k gate-kind) a-gate a-constant))
+leafKind k =
+    cond (eqb k variable-kind) a-variable
+    (cond (eqb k label-kind) a-label
+    (cond (eqb k gate-kind) a-gate (cond (eqb k unit-value-kind) a-unit-value a-constant)))
 
 -- The kinds with one part: 18 abstraction, 22 lift, 23 force, 24 box.
 pub data OneKind : Type 0 where
@@ -63,7 +66,7 @@ twoKind k = cond (eqb k application-kind) an-application (cond (eqb k pair-kind)
 -- How many parts follow a kind; 3 for a number that is no kind.
 unfoldable pub parts : ℕ → ℕ
 parts k =
-    cond (eqb k variable-kind || eqb k label-kind || eqb k gate-kind || eqb k constant-kind) 0
+    cond (eqb k variable-kind || eqb k label-kind || eqb k gate-kind || eqb k unit-value-kind || eqb k constant-kind) 0
     (cond (eqb k abstraction-kind || eqb k lift-kind || eqb k force-kind || eqb k box-kind) 1
     (cond (eqb k application-kind || eqb k pair-kind || eqb k let-kind || eqb k apply-kind) 2 3))
 
@@ -72,6 +75,7 @@ abbrev pub ConstantFits : LeafKind → ℕ → ℕ → Type 0
 ConstantFits a-variable closed a = Unit {0}
 ConstantFits a-label closed a = Unit {0}
 ConstantFits a-gate closed a = Unit {0}
+ConstantFits a-unit-value closed a = Unit {0}
 ConstantFits a-constant closed a = a < closed
 
 -- The argument of an abstraction or a box is a type position.
@@ -105,6 +109,7 @@ abbrev pub leafValue : LeafKind → Bool
 leafValue a-variable = false
 leafValue a-label = true
 leafValue a-gate = true
+leafValue a-unit-value = true
 leafValue a-constant = true
 
 -- Nodes with one part that are values: abstraction and lift.
@@ -121,17 +126,18 @@ twoValue a-pair both-are = both-are
 twoValue a-let both-are = false
 twoValue an-apply both-are = false
 
--- The trees that are values (01: "abstraction, lift, label, gate, circuit constant, pair of values").
+-- The trees that are values (01: "abstraction, lift, label, gate, circuit constant, pair of values"; 02, ticket 5, adds unit's).
 abbrev pub valueTree : Tree → Bool
 valueTree (leaf n) = leafValue (leafKind (kind n))
 valueTree (one n t) = oneValue (oneKind (kind n))
 valueTree (two n t u) = twoValue (twoKind (kind n)) (valueTree t && valueTree u)
 
--- A label is a label tuple.
+-- A label is a label tuple. 02, ticket 5: unit's value "counts there as part of a label tuple".
 abbrev pub leafTuple : LeafKind → ℕ → Option Tuple
 leafTuple a-variable a = none
 leafTuple a-label a = some (single a)
 leafTuple a-gate a = none
+leafTuple a-unit-value a = some empty
 leafTuple a-constant a = none
 
 -- A pair is the label tuple of both parts.
@@ -150,6 +156,7 @@ tupleOfTree (two n t u) = twoTuple (twoKind (kind n)) (joined (tupleOfTree t) (t
 -- A label tuple as a tree.
 abbrev pub tupleTree : Tuple → Tree
 tupleTree (single ℓ) = leaf (node label-kind ℓ)
+tupleTree empty = leaf (node unit-value-kind 0)
 tupleTree (both k l) = two (node pair-kind 0) (tupleTree k) (tupleTree l)
 
 -- Tree a, counted from the first of the list; the given tree where the list ends before.
@@ -169,6 +176,7 @@ abbrev pub leafUnder : LeafKind → ℕ → List Tree → Node → Tree
 leafUnder a-variable k vs n = variableTree k vs (argument n) (leaf n)
 leafUnder a-label k vs n = leaf n
 leafUnder a-gate k vs n = leaf n
+leafUnder a-unit-value k vs n = leaf n
 leafUnder a-constant k vs n = leaf n
 
 -- The binders over the part of a node that stands under k binders.

@@ -8,7 +8,7 @@ use lib.ListN.{length}
 use Rattle.machine_terms.specs.Trees.{Node, kind, Tree, leaf, one, two, preorder, LeafKind, a-variable, a-label}
 use Rattle.machine_terms.specs.Trees.{a-gate, a-constant, leafKind, OneKind, an-abstraction, a-lift, a-force, a-box}
 use Rattle.machine_terms.specs.Trees.{oneKind, TwoKind, an-application, a-pair, a-let, an-apply, twoKind, WellKinded}
-use Rattle.machine_terms.specs.Trees.{valueTree}
+use Rattle.machine_terms.specs.Trees.{valueTree, a-unit-value}
 use Rattle.machine_terms.specs.Holes.{Hole, only, first, second, opened, before, after, HolesFit}
 
 -- A state of the walk: a tree to evaluate, or a value that is complete, with the holes around it.
@@ -31,6 +31,7 @@ abbrev pub moveLeaf : LeafKind → Node → List Hole → Move
 moveLeaf a-variable n hs = stops at-variable
 moveLeaf a-label n hs = goes-on (returning (leaf n) hs)
 moveLeaf a-gate n hs = goes-on (returning (leaf n) hs)
+moveLeaf a-unit-value n hs = goes-on (returning (leaf n) hs)
 moveLeaf a-constant n hs = goes-on (returning (leaf n) hs)
 
 -- An abstraction or a lift is a value and is returned whole; force and box wait for their part.

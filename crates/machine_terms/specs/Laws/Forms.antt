@@ -10,7 +10,7 @@ use Rattle.rules.specs.Circuits.{Circuit, circuit}
 use Rattle.machine_terms.specs.Trees.{Node, kind, argument, Tree, leaf, one, two, LeafKind, a-variable, a-label}
 use Rattle.machine_terms.specs.Trees.{a-gate, a-constant, leafKind, OneKind, an-abstraction, a-lift, a-force, a-box}
 use Rattle.machine_terms.specs.Trees.{oneKind, TwoKind, an-application, a-pair, a-let, an-apply, twoKind, tupleOfTree}
-use Rattle.machine_terms.specs.Trees.{substituteTree}
+use Rattle.machine_terms.specs.Trees.{substituteTree, a-unit-value}
 use Rattle.machine_terms.specs.Meaning.{circuitAt}
 use Rattle.machine_terms.specs.Holes.{Hole, only, first, second, opened}
 use Rattle.machine_terms.specs.Walks.{Walk, evaluating, returning}
@@ -127,6 +127,7 @@ module _ (types : ℕ → Ty) (C : Circuit) (Cs : List Circuit) (closed : List B
       of a-variable q = tt
       of a-label q = tt
       of a-gate q = gate-form n m v (gateType (argument m)) (tupleOfTree v) p q refl refl
+      of a-unit-value q = tt
       of a-constant q = constant-form n m v (tupleOfTree v) p q refl
   apply-form n (one m t) v p = tt
   apply-form n (two m t u) v p = tt

@@ -13,7 +13,7 @@ use Rattle.rules.specs.Circuits.{Circuit, circuit, returned, gateBoxed}
 use Rattle.machine_terms.specs.Trees.{Node, kind, argument, Tree, leaf, one, two, LeafKind, a-variable, a-label}
 use Rattle.machine_terms.specs.Trees.{a-gate, a-constant, leafKind, OneKind, an-abstraction, a-lift, a-force, a-box}
 use Rattle.machine_terms.specs.Trees.{oneKind, TwoKind, an-application, a-pair, a-let, an-apply, twoKind, parts}
-use Rattle.machine_terms.specs.Trees.{OneFits, WellKinded, tupleOfTree, substituteTree}
+use Rattle.machine_terms.specs.Trees.{OneFits, WellKinded, tupleOfTree, substituteTree, a-unit-value}
 use Rattle.machine_terms.specs.Meaning.{circuitAt}
 use Rattle.machine_terms.specs.Holes.{Hole, only, first, second, opened, openBoxes, isLift, isLiftKind, HolesFit}
 use Rattle.machine_terms.specs.Walks.{evaluating, returning}
@@ -119,6 +119,7 @@ module _ (types : ℕ → Ty) (positions : ℕ) (C : Circuit) (Cs : List Circuit
   leaf-apply-fits a-variable a k = tt
   leaf-apply-fits a-label a k = tt
   leaf-apply-fits a-gate a k = gate-fits a (gateType a) k
+  leaf-apply-fits a-unit-value a k = tt
   leaf-apply-fits a-constant a k = append-fits (circuitAt closed a) k
 
   apply-fits : (f v : Tree) → IfFits positions (contractApply types C Cs closed f v hs)

@@ -9,6 +9,7 @@ use lib.Dec.{T as IsTrue, eqb, eqb→eq, eqb-refl}
 use lib.ListN.{length, length-append}
 use Rattle.rules.specs.Types.{Ty}
 use Rattle.rules.specs.Terms.{Tuple, single, both, Boxed, Term, value, tuple, termAt, variableAt, under, substitute, pair}
+use Rattle.rules.specs.Terms.{empty}
 use Rattle.rules.specs.Next.{joined, tupleOf}
 use Rattle.rules.specs.Sizes.{nodes}
 use Rattle.machine_terms.specs.Trees.{Node, kind, argument, Tree, leaf, one, two, preorder, LeafKind, a-variable}
@@ -16,7 +17,7 @@ use Rattle.machine_terms.specs.Trees.{a-label, a-gate, a-constant, leafK
 use Rattle.machine_terms.specs.Trees.{a-box, oneKind, TwoKind, an-application, a-pair, a-let, an-apply, twoKind, parts}
 use Rattle.machine_terms.specs.Trees.{ConstantFits, LeafFits, WellKinded, leafValue, oneValue, twoValue, valueTree}
 use Rattle.machine_terms.specs.Trees.{leafTuple, twoTuple, tupleOfTree, tupleTree, treeAt, variableTree, leafUnder}
-use Rattle.machine_terms.specs.Trees.{bindersOne, bindersTwo, underTree, substituteTree}
+use Rattle.machine_terms.specs.Trees.{bindersOne, bindersTwo, underTree, substituteTree, a-unit-value}
 use Rattle.machine_terms.specs.Laws.Trees.{AllWellKinded}
 use Rattle.machine_terms.specs.Meaning.{Environment, circuitAt, environment, leafTerm, oneTerm, twoTerm, meaning}
 
@@ -24,6 +25,7 @@ leaf-value : (c : LeafKind) (a : ℕ) (b : Boxed) → value (leafTerm c a b) ≡
 leaf-value a-variable a b = refl
 leaf-value a-label a b = refl
 leaf-value a-gate a b = refl
+leaf-value a-unit-value a b = refl
 leaf-value a-constant a b = refl
 
 one-value : (c : OneKind) (A : Ty) (M : Term) → value (oneTerm c A M) ≡ oneValue c
@@ -54,6 +56,7 @@ leaf-nodes : (c : LeafKind) (a : ℕ) (b : Boxed) → nodes (leafTerm c a b) ≡
 leaf-nodes a-variable a b = refl
 leaf-nodes a-label a b = refl
 leaf-nodes a-gate a b = refl
+leaf-nodes a-unit-value a b = refl
 leaf-nodes a-constant a b = refl
 
 one-nodes : (c : OneKind) (A : Ty) (M : Term) → nodes (oneTerm c A M) ≡ 1 + nodes M
@@ -85,6 +88,7 @@ leaf-tuple : (c : LeafKind) (a : ℕ) (b : Boxed) → tupleOf (leafTerm c a b) �
 leaf-tuple a-variable a b = refl
 leaf-tuple a-label a b = refl
 leaf-tuple a-gate a b = refl
+leaf-tuple a-unit-value a b = refl
 leaf-tuple a-constant a b = refl
 
 one-tuple : (c : OneKind) (A : Ty) (M : Term) → tupleOf (oneTerm c A M) ≡ none
@@ -111,12 +115,14 @@ tupleOf-meaning e (two n t u) =
 pub meaning-tuple : (e : Environment) (k : Tuple) → meaning e (tupleTree k) ≡ tuple k
 unfolding leafKind twoKind
 meaning-tuple e (single ℓ) = refl
+meaning-tuple e empty = refl
 meaning-tuple e (both k l) = ap₂ pair (meaning-tuple e k) (meaning-tuple e l)
 
 -- The tree of a label tuple is well-kinded.
 pub well-kinded-tuple : (positions closed : ℕ) (k : Tuple) → WellKinded positions closed (tupleTree k)
 unfolding leafKind parts
 well-kinded-tuple positions closed (single ℓ) = (refl, tt)
+well-kinded-tuple positions closed empty = (refl, tt)
 well-kinded-tuple positions closed (both k l) =
     (refl, well-kinded-tuple positions closed k, well-kinded-tuple positions closed l)
 
@@ -156,6 +162,7 @@ leaf-under e k vs n a-variable p =
     p
 leaf-under e k vs n a-label p = ap (λ c. leafTerm c (argument n) (e .closedAt (argument n))) p
 leaf-under e k vs n a-gate p = ap (λ c. leafTerm c (argument n) (e .closedAt (argument n))) p
+leaf-under e k vs n a-unit-value p = ap (λ c. leafTerm c (argument n) (e .closedAt (argument n))) p
 leaf-under e k vs n a-constant p = ap (λ c. leafTerm c (argument n) (e .closedAt (argument n))) p
 
 under-meaning : (e : Environment) (k : ℕ) (vs : List Tree) (t : Tree)
@@ -198,6 +205,7 @@ leaf-kinded : (positions closed k : ℕ) (vs : List Tree) (n : Node) (c : LeafKi
 leaf-kinded positions closed k vs n a-variable w h = variable-kinded positions closed k vs (argument n) (leaf n) w h
 leaf-kinded positions closed k vs n a-label w h = h
 leaf-kinded positions closed k vs n a-gate w h = h
+leaf-kinded positions closed k vs n a-unit-value w h = h
 leaf-kinded positions closed k vs n a-constant w h = h
 
 under-kinded : (positions closed k : ℕ) (vs : List Tree) (t : Tree)
@@ -224,6 +232,7 @@ constant-more : (closed : ℕ) (c : LeafKind) (a : ℕ) → ConstantFits c close
 constant-more closed a-variable a h = tt
 constant-more closed a-label a h = tt
 constant-more closed a-gate a h = tt
+constant-more closed a-unit-value a h = tt
 constant-more closed a-constant a h = omega arith
 
 -- When one more circuit is closed, well-kinded trees stay well-kinded.
@@ -260,6 +269,7 @@ leaf-more : (b : Boxed) (bs : List Boxed) (c : LeafKind) (a : ℕ)
 leaf-more b bs a-variable a h = refl
 leaf-more b bs a-label a h = refl
 leaf-more b bs a-gate a h = refl
+leaf-more b bs a-unit-value a h = refl
 leaf-more b bs a-constant a h = ap (leafTerm a-constant a) (circuit-at-more b bs a h)
 
 -- When one more circuit is closed, well-kinded trees mean what they meant.

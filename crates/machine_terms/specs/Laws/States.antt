@@ -11,7 +11,7 @@ use Rattle.rules.specs.Circuits.{Circuit, circuit, appended, returned, gateBoxe
 use Rattle.machine_terms.specs.Trees.{Node, node, kind, argument, Tree, leaf, one, two, LeafKind, a-variable, a-label}
 use Rattle.machine_terms.specs.Trees.{a-gate, a-constant, leafKind, OneKind, an-abstraction, a-lift, a-force, a-box}
 use Rattle.machine_terms.specs.Trees.{oneKind, TwoKind, an-application, a-pair, a-let, an-apply, twoKind, tupleOfTree}
-use Rattle.machine_terms.specs.Trees.{tupleTree, substituteTree}
+use Rattle.machine_terms.specs.Trees.{tupleTree, substituteTree, a-unit-value}
 use Rattle.machine_terms.specs.Meaning.{circuitAt}
 use Rattle.machine_terms.specs.Holes.{Hole, only, first, second, opened}
 use Rattle.machine_terms.specs.Walks.{evaluating, returning, walk}
@@ -98,6 +98,7 @@ module _ (types : ℕ → Ty) (C : Circuit) (Cs : List Circuit) (closed : List B
   applyLeaf a-variable a k hs = none
   applyLeaf a-label a k hs = none
   applyLeaf a-gate a k hs = appendOneGate a (gateType a) k hs
+  applyLeaf a-unit-value a k hs = none
   applyLeaf a-constant a k hs = appendCircuit (circuitAt closed a) k hs
 
   -- Apply of f to the value v.

@@ -1,40 +1,55 @@
--- The trees that are label tuples: labels joined by pairs.
+-- The trees that are label tuples: labels and unit's values joined by pairs.
 use Prim.Native.Nat.{ℕ}
 use native.Mathlib.Omega.{arith}
-use mathlib.Core.Path.{_≡_, refl, subst}
+use mathlib.Core.Path.{_≡_, refl, sym, _∙_, ap, subst}
+use mathlib.Core.Logic.{_⊎_, inl, inr}
 use mathlib.Core.Bool.{Bool, true, false, cond}
 use mathlib.Core.Option.{Option, none, some, Option·some-injective, Option·none-ne-some}
 use lib.Dec.{eqb}
 use lib.ListN.{length, length-append}
 use borrow.Author.Tests.{eqb-true}
-use Rattle.rules.specs.Kinds.{variable-kind, label-kind, application-kind, pair-kind, let-kind, gate-kind}
-use Rattle.rules.specs.Terms.{Tuple, single, both}
+use Rattle.rules.specs.Kinds.{variable-kind, label-kind, application-kind, pair-kind, let-kind, gate-kind, unit-value-kind}
+use Rattle.rules.specs.Terms.{Tuple, single, both, empty}
 use Rattle.rules.specs.Next.{joined}
 use Rattle.machine_terms.specs.Trees.{Node, kind, argument, Tree, leaf, one, two, preorder, LeafKind, a-variable}
 use Rattle.machine_terms.specs.Trees.{a-label, a-gate, a-constant, leafKind, TwoKind, an-application, a-pair, a-let}
-use Rattle.machine_terms.specs.Trees.{an-apply, twoKind, leafTuple, twoTuple, tupleOfTree, tupleTree}
+use Rattle.machine_terms.specs.Trees.{an-apply, twoKind, leafTuple, twoTuple, tupleOfTree, tupleTree, a-unit-value}
+use Rattle.machine_terms.specs.Laws.Kinds.{leafNumber}
 
 -- A tree that is the label tuple k.
 pub data IsTuple : Tree → Tuple → Type 0 where
   is-label : {n : Node} → kind n ≡ label-kind → IsTuple (leaf n) (single (argument n))
+  is-unit-value : {n : Node} → kind n ≡ unit-value-kind → IsTuple (leaf n) empty
   is-pair : {n : Node} {t u : Tree} {k l : Tuple}
       → kind n ≡ pair-kind
       → IsTuple t k
       → IsTuple u l
       → IsTuple (two n t u) (both k l)
 
-kind-of-label : (k : ℕ) → leafKind k ≡ a-label → k ≡ label-kind
+-- A number that is not read as a circuit constant is that of the kind read.
+leaf-read : (k : ℕ) → (leafKind k ≡ a-constant) ⊎ (k ≡ leafNumber (leafKind k))
 unfolding leafKind
-kind-of-label k e = of (eqb k variable-kind) (eqb k label-kind) (eqb k gate-kind) refl e
+leaf-read k = of (eqb k variable-kind) (eqb k label-kind) (eqb k gate-kind) (eqb k unit-value-kind) refl refl refl refl
   where
-    of : (a b c : Bool)
+    of : (a b c d : Bool)
+        → eqb k variable-kind ≡ a
         → eqb k label-kind ≡ b
-        → cond a a-variable (cond b a-label (cond c a-gate a-constant)) ≡ a-label
-        → k ≡ label-kind
-    of true b c p e = cc
-    of false true c p e = eqb-true k 17 p
-    of false false true p e = cc
-    of false false false p e = cc
+        → eqb k gate-kind ≡ c
+        → eqb k unit-value-kind ≡ d
+        → (cond a a-variable (cond b a-label (cond c a-gate (cond d a-unit-value a-constant))) ≡ a-constant)
+        ⊎ (k ≡ leafNumber (cond a a-variable (cond b a-label (cond c a-gate (cond d a-unit-value a-constant)))))
+    of true b c d p q r s = inr (eqb-true k variable-kind p)
+    of false true c d p q r s = inr (eqb-true k label-kind q)
+    of false false true d p q r s = inr (eqb-true k gate-kind r)
+    of false false false true p q r s = inr (eqb-true k unit-value-kind s)
+    of false false false false p q r s = inl refl
+
+kind-of-leaf : (c : LeafKind) (k : ℕ) → (c ≡ a-constant → k ≡ leafNumber c) → leafKind k ≡ c → k ≡ leafNumber c
+kind-of-leaf c k h e = of (leaf-read k)
+  where
+    of : (leafKind k ≡ a-constant) ⊎ (k ≡ leafNumber (leafKind k)) → k ≡ leafNumber c
+    of (inl f) = h (sym e ∙ f)
+    of (inr f) = f ∙ ap leafNumber e
 
 kind-of-pair : (k : ℕ) → twoKind k ≡ a-pair → k ≡ pair-kind
 unfolding twoKind
@@ -55,8 +70,12 @@ leaf-is n k e = of (leafKind (kind n)) refl e
     of : (c : LeafKind) → leafKind (kind n) ≡ c → leafTuple c (argument n) ≡ some k → IsTuple (leaf n) k
     of a-variable p e = absurd (Option·none-ne-some k e)
     of a-label p e =
-        subst (IsTuple (leaf n)) (Option·some-injective (single (argument n)) k e) (is-label (kind-of-label (kind n) p))
+        subst (IsTuple (leaf n)) (Option·some-injective (single (argument n)) k e)
+        (is-label (kind-of-leaf a-label (kind n) (λ q. cc) p))
     of a-gate p e = absurd (Option·none-ne-some k e)
+    of a-unit-value p e =
+        subst (IsTuple (leaf n)) (Option·some-injective empty k e)
+        (is-unit-value (kind-of-leaf a-unit-value (kind n) (λ q. cc) p))
     of a-constant p e = absurd (Option·none-ne-some k e)
 
 both-is : (n : Node) (t u : Tree) (k : Tuple)
@@ -95,6 +114,7 @@ is-tuple (two n t u) k e = both-is n t u k (is-tuple t) (is-tuple u) e
 -- It has as many nodes as the tree of the tuple.
 pub tuple-nodes : {v : Tree} {k : Tuple} → IsTuple v k → length (preorder v) ≡ length (preorder (tupleTree k))
 tuple-nodes (is-label h) = refl
+tuple-nodes (is-unit-value h) = refl
 tuple-nodes (is-pair {t = t} {u = u} {k = k} {l = l} h i j) =
     omega (
       arith,

@@ -9,10 +9,10 @@ use lib.ListN.{length, length-append}
 use Rattle.rules.specs.Types.{Ty, !_, Circ, isWireType, wires, entries, most-entries}
 use Rattle.rules.specs.Gates.{_to_, gateType}
 use Rattle.rules.specs.Terms.{Tuple, single, both, labels, Gate, Boxed, boxed, Term, gate, constant, box, apply, value}
-use Rattle.rules.specs.Terms.{tuple}
+use Rattle.rules.specs.Terms.{tuple, empty}
 use Rattle.rules.specs.Circuits.{Circuit}
 use Rattle.rules.specs.Typing.{LabelContext, split-end, parameters-end, Bounded, _∣_⊢_∶_, by-var, by-label, by-gate, by-circ}
-use Rattle.rules.specs.Typing.{by-app, by-tuple, by-let, by-lift, by-force, by-box, by-apply}
+use Rattle.rules.specs.Typing.{by-app, by-tuple, by-let, by-lift, by-force, by-box, by-apply, by-unit}
 use Rattle.rules.specs.Steps.{Frame, frame, configuration}
 use Rattle.rules.specs.Demand3.{frame-has, outermost, opened as opened-box, ProgramHas, program-has}
 use Rattle.rules.specs.Theorems.Deterministic.{tupleOf-sound}
@@ -30,6 +30,7 @@ use Rattle.machine_terms.specs.Laws.Filling.{evaluationContext, frame-is
 -- A typed tuple has as many labels as its type has wires.
 pub labels-typed : (k : Tuple) {Q : LabelContext} {T : Ty} → [] ∣ Q ⊢ tuple k ∶ T → length (labels k) ≡ length (wires T)
 labels-typed (single ℓ) (by-label p o) = refl
+labels-typed empty (by-unit p n) = refl
 labels-typed (both k l) (by-tuple {A = A} {B = B} b split-end s d e) =
     length-append (labels k) (labels l)
     ∙ ap₂ _+_ (labels-typed k d) (labels-typed l e)
@@ -40,6 +41,7 @@ pub nodes-typed : (k : Tuple) {Q : LabelContext} {T : Ty}
     → [] ∣ Q ⊢ tuple k ∶ T
     → length (preorder (tupleTree k)) ≡ entries T
 nodes-typed (single ℓ) (by-label p o) = refl
+nodes-typed empty (by-unit p n) = refl
 nodes-typed (both k l) (by-tuple {A = A} {B = B} b split-end s d e) =
     omega (
       arith,
@@ -51,6 +53,7 @@ nodes-typed (both k l) (by-tuple {A = A} {B = B} b split-end s d e) =
 -- Its type is within the bound on types (01: "No type of a node may exceed 512 entries").
 bounded-typed : (k : Tuple) {Q : LabelContext} {T : Ty} → [] ∣ Q ⊢ tuple k ∶ T → entries T ≤ most-entries
 bounded-typed (single ℓ) (by-label p o) = omega arith
+bounded-typed empty (by-unit p n) = omega arith
 bounded-typed (both k l) (by-tuple b split-end s d e) = b
 
 -- A tree that is a label tuple means that label tuple.

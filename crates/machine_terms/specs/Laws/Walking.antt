@@ -11,7 +11,7 @@ use Rattle.rules.specs.Laws.Booleans.{and-both}
 use Rattle.machine_terms.specs.Trees.{Node, kind, Tree, leaf, one, two, preorder, LeafKind, a-variable, a-label}
 use Rattle.machine_terms.specs.Trees.{a-gate, a-constant, leafKind, OneKind, an-abstraction, a-lift, a-force, a-box}
 use Rattle.machine_terms.specs.Trees.{oneKind, TwoKind, an-application, a-pair, a-let, an-apply, twoKind, leafValue}
-use Rattle.machine_terms.specs.Trees.{oneValue, twoValue, valueTree}
+use Rattle.machine_terms.specs.Trees.{oneValue, twoValue, valueTree, a-unit-value}
 use Rattle.machine_terms.specs.Holes.{Hole, only, first, second, opened, after, frameTree}
 use Rattle.machine_terms.specs.Holes.{treesBelow, openBoxes, waits, goesRight}
 use Rattle.machine_terms.specs.Walks.{Walk, evaluating, returning, Stop, Move, goes-on, stops, moveLeaf, moveOne}
@@ -57,6 +57,8 @@ leaf-keeps a-variable n hs = tt
 leaf-keeps a-label n hs =
     kept-by (n ∷ []) refl refl refl refl refl
 leaf-keeps a-gate n hs =
+    kept-by (n ∷ []) refl refl refl refl refl
+leaf-keeps a-unit-value n hs =
     kept-by (n ∷ []) refl refl refl refl refl
 leaf-keeps a-constant n hs =
     kept-by (n ∷ []) refl refl refl refl refl
@@ -116,6 +118,7 @@ module _ (positions closed : ℕ) where
   leaf-fits n hs a-variable e h = tt
   leaf-fits n hs a-label e h = (h .0, subst (λ c. IsTrue (leafValue c)) (sym e) tt, h .1)
   leaf-fits n hs a-gate e h = (h .0, subst (λ c. IsTrue (leafValue c)) (sym e) tt, h .1)
+  leaf-fits n hs a-unit-value e h = (h .0, subst (λ c. IsTrue (leafValue c)) (sym e) tt, h .1)
   leaf-fits n hs a-constant e h = (h .0, subst (λ c. IsTrue (leafValue c)) (sym e) tt, h .1)
 
   one-fits : (n : Node) (t : Tree) (hs : List Hole) (c : OneKind)
@@ -175,6 +178,7 @@ leaf-fewer : (c : LeafKind) (n : Node) (hs : List Hole)
 leaf-fewer a-variable n hs = tt
 leaf-fewer a-label n hs = omega arith
 leaf-fewer a-gate n hs = omega arith
+leaf-fewer a-unit-value n hs = omega arith
 leaf-fewer a-constant n hs = omega arith
 
 one-fewer : (c : OneKind) (n : Node) (t : Tree) (hs : List Hole)
@@ -338,6 +342,7 @@ leaf-stopped : (n : Node) (hs : List Hole) (c : LeafKind)
 leaf-stopped n hs a-variable e = stopped-variable e
 leaf-stopped n hs a-label e = tt
 leaf-stopped n hs a-gate e = tt
+leaf-stopped n hs a-unit-value e = tt
 leaf-stopped n hs a-constant e = tt
 
 one-goes-on : (n : Node) (t : Tree) (hs : List Hole) (c : OneKind)

@@ -21,7 +21,7 @@ use Rattle.rules.specs.Theorems.Deterministic.{find-value, find-plug, no-exit}
 use Rattle.machine_terms.specs.Trees.{Node, node, kind, argument, Tree, leaf, one, two, LeafKind, a-variable, a-label}
 use Rattle.machine_terms.specs.Trees.{a-gate, a-constant, leafKind, OneKind, an-abstraction, a-lift, a-force, a-box}
 use Rattle.machine_terms.specs.Trees.{oneKind, TwoKind, an-application, a-pair, a-let, an-apply, twoKind, valueTree}
-use Rattle.machine_terms.specs.Trees.{tupleOfTree, tupleTree, substituteTree}
+use Rattle.machine_terms.specs.Trees.{tupleOfTree, tupleTree, substituteTree, a-unit-value}
 use Rattle.machine_terms.specs.Meaning.{Environment, circuitAt, environment, leafTerm, oneTerm, twoTerm, meaning}
 use Rattle.machine_terms.specs.Holes.{Hole, only, first, second, opened, frameTree, treesBelow, isLift, isLiftKind}
 use Rattle.machine_terms.specs.Holes.{HolesFit}
@@ -91,6 +91,7 @@ module _ (types : ℕ → Ty) (positions : ℕ) (C : Circuit) (Cs : List Circuit
   leaf-application a-variable a b N = refl
   leaf-application a-label a b N = refl
   leaf-application a-gate a b N = refl
+  leaf-application a-unit-value a b N = refl
   leaf-application a-constant a b N = refl
 
   one-application : (c : OneKind) (A : Ty) (t v : Tree)
@@ -122,6 +123,7 @@ module _ (types : ℕ → Ty) (positions : ℕ) (C : Circuit) (Cs : List Circuit
   leaf-let a-variable a b N = refl
   leaf-let a-label a b N = refl
   leaf-let a-gate a b N = refl
+  leaf-let a-unit-value a b N = refl
   leaf-let a-constant a b N = refl
 
   one-let : (c : OneKind) (A : Ty) (M N : Term) → stepLet C outer below closed (view (oneTerm c A M)) N ≡ none
@@ -150,6 +152,7 @@ module _ (types : ℕ → Ty) (positions : ℕ) (C : Circuit) (Cs : List Circuit
   leaf-force a-variable a b = refl
   leaf-force a-label a b = refl
   leaf-force a-gate a b = refl
+  leaf-force a-unit-value a b = refl
   leaf-force a-constant a b = refl
 
   one-force : (c : OneKind) (A : Ty) (t : Tree)
@@ -207,6 +210,7 @@ module _ (types : ℕ → Ty) (positions : ℕ) (C : Circuit) (Cs : List Circuit
   leaf-box a-variable a b T = refl
   leaf-box a-label a b T = refl
   leaf-box a-gate a b T = refl
+  leaf-box a-unit-value a b T = refl
   leaf-box a-constant a b T = refl
 
   one-box : (n m : Node) (t : Tree) (c : OneKind)
@@ -252,6 +256,7 @@ module _ (types : ℕ → Ty) (positions : ℕ) (C : Circuit) (Cs : List Circuit
   leaf-apply a-variable a k = refl
   leaf-apply a-label a k = refl
   leaf-apply a-gate a k = gate-contract a (gateType a) k
+  leaf-apply a-unit-value a k = refl
   leaf-apply a-constant a k = append-contract (circuitAt closed a) k
 
   one-apply : (c : OneKind) (A : Ty) (M : Term) (k : Option Tuple)
