@@ -13,6 +13,7 @@ use rules::kinds::LABEL;
 use rules::kinds::LET;
 use rules::kinds::LIFT;
 use rules::kinds::PAIR;
+use rules::kinds::UNIT_VALUE;
 use rules::kinds::VARIABLE;
 use words::word_at;
 ghost use Prim.Native.Nat.{_+_, _*_, _/_, _<_, _≤_};
@@ -73,6 +74,7 @@ pub fn parts_of(kind: usize) -> usize
         VARIABLE => 0,
         LABEL => 0,
         GATE => 0,
+        UNIT_VALUE => 0,
         CONSTANT => 0,
         ABSTRACTION => 1,
         LIFT => 1,

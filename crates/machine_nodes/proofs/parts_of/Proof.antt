@@ -55,10 +55,15 @@ unfolding parts
 returns-12 c = (sym (ap parts (c .match .keys12)), omega arith)
 
 returns-13 : tie.Need-returns-13
-returns-13 c =
+unfolding parts
+returns-13 c = (sym (ap parts (c .match .keys13)), omega arith)
+
+returns-14 : tie.Need-returns-14
+returns-14 c =
     let r = c .match .rest in (
       sym
           (parts-none (c .before .args .kind)
+          (r .0 .0 .0 .0 .0 .0 .0 .0 .0 .0 .0 .0 .1)
           (r .0 .0 .0 .0 .0 .0 .0 .0 .0 .0 .0 .1)
           (r .0 .0 .0 .0 .0 .0 .0 .0 .0 .0 .1)
           (r .0 .0 .0 .0 .0 .0 .0 .0 .0 .1)
@@ -90,4 +95,5 @@ parts-of-spec =
     returns-10
     returns-11
     returns-12
-    returns-13)
+    returns-13
+    returns-14)

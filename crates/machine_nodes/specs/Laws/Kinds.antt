@@ -5,7 +5,7 @@ use mathlib.Core.Bool.{Bool, true, false}
 use lib.Dec.{eqb}
 use borrow.Author.Tests.{eqb-true, eqb-false, ne-eqb}
 use Rattle.rules.specs.Kinds.{variable-kind, label-kind, abstraction-kind, application-kind, pair-kind, let-kind}
-use Rattle.rules.specs.Kinds.{lift-kind, force-kind, box-kind, apply-kind, gate-kind, constant-kind}
+use Rattle.rules.specs.Kinds.{lift-kind, force-kind, box-kind, apply-kind, gate-kind, constant-kind, unit-value-kind}
 use Rattle.machine_terms.specs.Trees.{parts}
 
 -- The kinds, each with its number of parts.
@@ -13,6 +13,7 @@ pub data KindIs : ℕ → ℕ → Type 0 where
   kind-variable : KindIs 16 0
   kind-label : KindIs 17 0
   kind-gate : KindIs 26 0
+  kind-unit-value : KindIs 27 0
   kind-constant : KindIs 32 0
   kind-abstraction : KindIs 18 1
   kind-lift : KindIs 22 1
@@ -26,16 +27,18 @@ pub data KindIs : ℕ → ℕ → Type 0 where
 
 -- No parts follow a number that is no kind: 3 stands for that.
 pub parts-none : (k : ℕ)
-    → (k ≡ variable-kind → ⊥) → (k ≡ label-kind → ⊥) → (k ≡ gate-kind → ⊥) → (k ≡ constant-kind → ⊥) → (k ≡ abstraction-kind → ⊥) → (k ≡ lift-kind → ⊥) → (k ≡ force-kind → ⊥)
-    → (k ≡ box-kind → ⊥) → (k ≡ application-kind → ⊥) → (k ≡ pair-kind → ⊥) → (k ≡ let-kind → ⊥) → (k ≡ apply-kind → ⊥)
+    → (k ≡ variable-kind → ⊥) → (k ≡ label-kind → ⊥) → (k ≡ gate-kind → ⊥) → (k ≡ unit-value-kind → ⊥) → (k ≡ constant-kind → ⊥)
+    → (k ≡ abstraction-kind → ⊥) → (k ≡ lift-kind → ⊥) → (k ≡ force-kind → ⊥) → (k ≡ box-kind → ⊥)
+    → (k ≡ application-kind → ⊥) → (k ≡ pair-kind → ⊥) → (k ≡ let-kind → ⊥) → (k ≡ apply-kind → ⊥)
     → parts k ≡ 3
 unfolding parts
-parts-none k h16 h17 h26 h32 h18 h22 h23 h24 h19 h20 h21 h25 =
+parts-none k h16 h17 h26 h27 h32 h18 h22 h23 h24 h19 h20 h21 h25 =
     simp (
       parts,
       ne-eqb k variable-kind h16,
       ne-eqb k label-kind h17,
       ne-eqb k gate-kind h26,
+      ne-eqb k unit-value-kind h27,
       ne-eqb k constant-kind h32,
       ne-eqb k abstraction-kind h18,
       ne-eqb k lift-kind h22,
@@ -62,6 +65,7 @@ kind-view k =
     try P k 16 kind-variable λ h16.
     try P k 17 kind-label λ h17.
     try P k 26 kind-gate λ h26.
+    try P k 27 kind-unit-value λ h27.
     try P k 32 kind-constant λ h32.
     try P k 18 kind-abstraction λ h18.
     try P k 22 kind-lift λ h22.
@@ -71,4 +75,4 @@ kind-view k =
     try P k 20 kind-pair λ h20.
     try P k 21 kind-let λ h21.
     try P k 25 kind-apply λ h25.
-    subst (KindIs k) (sym (parts-none k h16 h17 h26 h32 h18 h22 h23 h24 h19 h20 h21 h25)) no-kind
+    subst (KindIs k) (sym (parts-none k h16 h17 h26 h27 h32 h18 h22 h23 h24 h19 h20 h21 h25)) no-kind
