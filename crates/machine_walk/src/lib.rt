@@ -25,6 +25,7 @@ use rules::kinds::LABEL;
 use rules::kinds::LET;
 use rules::kinds::LIFT;
 use rules::kinds::PAIR;
+use rules::kinds::UNIT_VALUE;
 use words::quadwords::put_quadword;
 ghost use Prim.Native.Nat.{ℕ, _<_};
 ghost use mathlib.Core.Path.{_≡_};
@@ -105,6 +106,7 @@ fn head_of(kind: usize) -> Head
         BOX => Head::OnePart,
         APPLY => Head::TwoParts,
         GATE => Head::Value,
+        UNIT_VALUE => Head::Value,
         CONSTANT => Head::Value,
         _ => Head::Neither,
     }

@@ -50,10 +50,15 @@ unfolding headOf
 returns-11 c = sym (ap headOf (c .match .keys11))
 
 returns-12 : tie.Need-returns-12
-returns-12 c =
+unfolding headOf
+returns-12 c = sym (ap headOf (c .match .keys12))
+
+returns-13 : tie.Need-returns-13
+returns-13 c =
     let r = c .match .rest in
     sym
     (head-neither (c .before .args .kind)
+    (r .0 .0 .0 .0 .0 .0 .0 .0 .0 .0 .0 .1)
     (r .0 .0 .0 .0 .0 .0 .0 .0 .0 .0 .1)
     (r .0 .0 .0 .0 .0 .0 .0 .0 .0 .1)
     (r .0 .0 .0 .0 .0 .0 .0 .0 .1)
@@ -81,4 +86,5 @@ head-of-spec =
     returns-9
     returns-10
     returns-11
-    returns-12)
+    returns-12
+    returns-13)

@@ -4,24 +4,25 @@ use mathlib.Core.Path.{_≡_, refl, subst}
 use mathlib.Core.List.{List, _∷_}
 use borrow.Author.Tests.{ne-eqb}
 use Rattle.rules.specs.Kinds.{label-kind, abstraction-kind, application-kind, pair-kind, let-kind, lift-kind}
-use Rattle.rules.specs.Kinds.{force-kind, box-kind, apply-kind, gate-kind, constant-kind}
+use Rattle.rules.specs.Kinds.{force-kind, box-kind, apply-kind, gate-kind, constant-kind, unit-value-kind}
 use Rattle.machine_terms.specs.Trees.{Node, node, kind, Tree, leaf, one, two, leafKind, oneKind, WellKinded}
 use Rattle.machine_terms.specs.Holes.{Hole, only}
 use Rattle.machine_terms.specs.Walks.{evaluating, returning, goes-on, stops, at-variable, move}
 use Rattle.machine_nodes.specs.Laws.Kinds.{KindIs, kind-variable, kind-label, kind-gate, kind-constant, kind-abstraction}
 use Rattle.machine_nodes.specs.Laws.Kinds.{kind-lift, kind-force, kind-box, kind-application, kind-pair, kind-let}
-use Rattle.machine_nodes.specs.Laws.Kinds.{kind-apply, kind-view}
+use Rattle.machine_nodes.specs.Laws.Kinds.{kind-apply, kind-view, kind-unit-value}
 use Rattle.machine_walk.specs.declared.Head.{Head}
 use Rattle.machine_walk.specs.declared.Head.the-variants.{Value, OnePart, TwoParts, Neither}
 use Rattle.machine_walk.specs.Heads.{headOf}
 
 -- There is nothing to do with a number that is none of these.
 pub head-neither : (k : ℕ)
-    → (k ≡ label-kind → ⊥) → (k ≡ abstraction-kind → ⊥) → (k ≡ application-kind → ⊥) → (k ≡ pair-kind → ⊥) → (k ≡ let-kind → ⊥) → (k ≡ lift-kind → ⊥) → (k ≡ force-kind → ⊥)
-    → (k ≡ box-kind → ⊥) → (k ≡ apply-kind → ⊥) → (k ≡ gate-kind → ⊥) → (k ≡ constant-kind → ⊥)
+    → (k ≡ label-kind → ⊥) → (k ≡ abstraction-kind → ⊥) → (k ≡ application-kind → ⊥) → (k ≡ pair-kind → ⊥) → (k ≡ let-kind → ⊥)
+    → (k ≡ lift-kind → ⊥) → (k ≡ force-kind → ⊥) → (k ≡ box-kind → ⊥) → (k ≡ apply-kind → ⊥) → (k ≡ gate-kind → ⊥)
+    → (k ≡ unit-value-kind → ⊥) → (k ≡ constant-kind → ⊥)
     → headOf k ≡ Neither
 unfolding headOf
-head-neither k h17 h18 h19 h20 h21 h22 h23 h24 h25 h26 h32 =
+head-neither k h17 h18 h19 h20 h21 h22 h23 h24 h25 h26 h27 h32 =
     simp (
       headOf,
       ne-eqb k label-kind h17,
@@ -34,6 +35,7 @@ head-neither k h17 h18 h19 h20 h21 h22 h23 h24 h25 h26 h32 =
       ne-eqb k box-kind h24,
       ne-eqb k apply-kind h25,
       ne-eqb k gate-kind h26,
+      ne-eqb k unit-value-kind h27,
       ne-eqb k constant-kind h32,
     )
 
@@ -60,6 +62,7 @@ module _ (positions closed : ℕ) (hs : List Hole) where
   leaf-headed a kind-variable h = head-neither-one refl
   leaf-headed a kind-label h = head-value h refl
   leaf-headed a kind-gate h = head-value h refl
+  leaf-headed a kind-unit-value h = head-value h refl
   leaf-headed a kind-constant h = head-value h refl
 
   one-headed : {k : ℕ} (a : ℕ) (t : Tree) → KindIs k 1 → WellKinded positions closed (one (node k a) t)
