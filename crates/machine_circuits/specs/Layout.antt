@@ -5,7 +5,7 @@ use mathlib.Core.List.{List, [], _∷_, _++_}
 use lib.ListN.{length, getD, take}
 use Rattle.rules.specs.Types.{Ty, most-entries}
 use Rattle.rules.specs.Gates.{wiresIn}
-use Rattle.rules.specs.Terms.{Tuple, single, both, Gate, _on_, Boxed, boxed}
+use Rattle.rules.specs.Terms.{Tuple, single, both, Gate, _on_, Boxed, boxed, empty}
 use Rattle.rules.specs.Circuits.{Circuit, circuit}
 use Rattle.rules.specs.Sizes.{closedGates, most-types, most-gates, most-boxes}
 pub use Rattle.rules.specs.Slots.{no-wire, gate-slots}
@@ -30,9 +30,14 @@ abbrev pub gatesIn : List Quadword → ℕ → ℕ → List Gate
 gatesIn rs from zero = []
 gatesIn rs from (suc k) = gateOf (quadwordAt rs (from + k)) ∷ gatesIn rs from k
 
--- A result, one word a node of its tuple in preorder: `no-wire` for a pair, else the label.
+-- What stands for unit's value in a result, where a label could stand: labels are far below.
+abbrev pub no-label : ℕ
+no-label = 65534
+
+-- A result, one word a node of its tuple in preorder: `no-wire` for a pair, `no-label` for unit's value, else the label.
 abbrev pub tupleWords : Tuple → List ℕ
 tupleWords (single ℓ) = ℓ ∷ []
+tupleWords empty = no-label ∷ []
 tupleWords (both k l) = no-wire ∷ (tupleWords k ++ tupleWords l)
 
 -- The gates of the open circuits stand in the quadwords from 0 on, one stack over all frames, the outermost frame's oldest gate

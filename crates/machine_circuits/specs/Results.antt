@@ -8,7 +8,7 @@ use Rattle.rules.specs.Terms.{Tuple, labels, tupleFrom}
 use Rattle.rules.specs.Circuits.{renameTuple}
 use Rattle.machine_terms.specs.Trees.{Node, preorder, tupleTree}
 use Rattle.rules.specs.Slots.{no-wire}
-use Rattle.machine_circuits.specs.Layout.{tupleWords}
+use Rattle.machine_circuits.specs.Layout.{tupleWords, no-label}
 use Rattle.words.specs.Regions.{over, Stands}
 use Rattle.machine_circuits.specs.Copies.{AllBelow}
 
@@ -18,13 +18,15 @@ pub record LabelsCollected (k : Tuple) (ws : List ℕ) (found : ℕ) : Type 0 wh
   pub collected : take found ws ≡ labels k
 
 -- When a result k can be loaded, m being above every label in it: its words stand there, the nodes that are written end
--- before their buffer does, there are n labels, and the new numbers are 16-bit numbers.
+-- before their buffer does, there are n labels, no label of k is the word of a pair or of unit's value, and the new numbers are
+-- 16-bit numbers.
 pub record ResultFits (k : Tuple) (m : ℕ) (ws : List ℕ) (from count size to available n next : ℕ) : Type 0 where
   pub stands : Stands ws from (tupleWords k)
   pub whole : count ≡ length (tupleWords k)
   pub inside : to + count ≤ size
   pub enough : n ≤ available
   pub below : AllBelow m (labels k)
+  pub apart : m ≤ no-label
   pub room : next + m ≤ no-wire
 
 -- The nodes of a result, renamed.

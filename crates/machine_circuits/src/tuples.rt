@@ -6,6 +6,8 @@ use machine_nodes::put_node;
 use rules::kinds::LABEL;
 use rules::kinds::PAIR;
 use rules::kinds::PAIR_TYPE;
+use rules::kinds::UNIT;
+use rules::kinds::UNIT_VALUE;
 use rules::sizes::MOST_TYPES;
 use rules::slots::NO_WIRE;
 use words::runs_past;
@@ -30,6 +32,9 @@ ghost use Rattle.machine_circuits.specs.Results.{LabelsCollected, Result
 
 // The codes of the type section stand in the words of the types' buffer from 0 on, those of the labels' types from here on.
 pub const LABELS_FROM: usize = MOST_TYPES;
+
+// What stands for unit's value in a result, where a label could stand: labels are far below.
+const NO_LABEL: usize = 65534;
 
 // The size of a tuple.
 pub struct TupleSize {
@@ -74,8 +79,12 @@ fn result_word(nodes: &[u8], i: usize) -> usize
     ensures { λ r. ⌜ r ≡ wordOf (nodeAt (nodesIn (now (nodes .entry))) i) ⌝ }
     ensures { λ r. ⌜ r < 65536 ⌝ }
 {
-    if kind_at(nodes, i) == PAIR {
+    let kind = kind_at(nodes, i);
+    if kind == PAIR {
         return NO_WIRE;
+    }
+    if kind == UNIT_VALUE {
+        return NO_LABEL;
     }
     argument_at(nodes, i)
 }
@@ -108,6 +117,10 @@ fn load_node(word: usize, nodes: &mut [u8], to: usize, labels: &[u8], n: usize, 
 {
     if word == NO_WIRE {
         put_node(nodes, to, PAIR, 0);
+        return;
+    }
+    if word == NO_LABEL {
+        put_node(nodes, to, UNIT_VALUE, 0);
         return;
     }
     put_node(nodes, to, LABEL, renamed(labels, n, next, word));
@@ -194,6 +207,10 @@ fn put_code(nodes: &mut [u8], to: usize, code: usize, label: usize) -> usize
 {
     if code == PAIR_TYPE {
         put_node(nodes, to, PAIR, 0);
+        return label;
+    }
+    if code == UNIT {
+        put_node(nodes, to, UNIT_VALUE, 0);
         return label;
     }
     put_node(nodes, to, LABEL, label);

@@ -7,7 +7,7 @@ use mathlib.Core.List.{List, [], _∷_, _++_, map}
 use mathlib.Core.Option.{some}
 use lib.ListN.{length, set, take, length-map, length-append}
 use lib.Seq.{getD-set-same, getD-set-other}
-use Rattle.rules.specs.Types.{Wire, Ty, wire, _⊗_, _⊸_, !_, Circ, wires}
+use Rattle.rules.specs.Types.{Wire, Ty, wire, _⊗_, _⊸_, !_, Circ, wires, unit}
 use Rattle.rules.specs.Gates.{_to_, gateTable, gateType, gateOutputs, wiresIn, wiresOut, inputWires}
 use Rattle.rules.specs.Terms.{Tuple, single, both, labels, tupleFrom, Gate, _on_, Boxed, boxed}
 use Rattle.rules.specs.Circuits.{Circuit, circuit, wireCount, outputs, numbers, rename, renameGate, renameTuple, appended}
@@ -175,6 +175,7 @@ tuple-renamed : (ks : List ℕ) (next j i : ℕ) (U : Ty)
     → i ≡ length ks + j
     → renameTuple ks next (tupleFrom i U) ≡ tupleFrom (next + j) U
 tuple-renamed ks next j i (wire α) e = ap single (numbered-on ks next j i e)
+tuple-renamed ks next j i unit e = refl
 tuple-renamed ks next j i (A ⊗ B) e =
     ap₂
     both

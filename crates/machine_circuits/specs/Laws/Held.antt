@@ -18,7 +18,7 @@ use Rattle.machine_terms.specs.States.{openGates}
 use Rattle.machine_terms.specs.Meaning.{circuitAt}
 use Rattle.words.specs.Quadwords.{Quadword, quadword, quadwordAt, wordIn}
 use Rattle.machine_circuits.specs.Layout.{gatesIn, tupleWords, HoldsOpen, closed-from, most-result, results-each}
-use Rattle.machine_circuits.specs.Layout.{HoldsBoxed, HoldsCircuit, HoldsClosed, fourResults}
+use Rattle.machine_circuits.specs.Layout.{HoldsBoxed, HoldsCircuit, HoldsClosed, fourResults, no-label}
 use Rattle.rules.specs.Slots.{no-wire}
 use Rattle.words.specs.Regions.{over, Stands}
 use Rattle.words.specs.Laws.Regions.{stands-written, stands-before}
@@ -263,15 +263,17 @@ pub closed-result-fits : (types : ℕ → Ty) (positions : ℕ) (gs cs : List Qu
     → AllBelow m (labels k)
     → to + length (tupleWords k) ≤ size
     → n ≤ available
+    → m ≤ no-label
     → next + m ≤ no-wire
     → ResultFits k m (results (i / results-each)) (most-result * (i % results-each)) (wordIn (quadwordAt cs i) 3) size to available n
     next
-closed-result-fits types positions gs cs results i before T hs k m size to available n next h below inside enough room =
+closed-result-fits types positions gs cs results i before T hs k m size to available n next h below inside enough apart room =
     record {
       stands = h .result;
       whole = h .size;
       inside = omega (arith, h .size);
       enough = enough;
       below = below;
+      apart = apart;
       room = room;
     }

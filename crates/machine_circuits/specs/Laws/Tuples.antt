@@ -7,16 +7,16 @@ use mathlib.Core.List.{List, [], _∷_, _++_, map, append-assoc, append-nil}
 use lib.Dec.{T as IsTrue, eqb}
 use lib.ListN.{length, take, drop, length-append}
 use borrow.Author.Tests.{eq-eqb, ne-eqb}
-use Rattle.rules.specs.Kinds.{pair-type-kind, label-kind, pair-kind}
+use Rattle.rules.specs.Kinds.{pair-type-kind, label-kind, pair-kind, unit-value-kind}
 use Rattle.rules.specs.Types.{Wire, Bit, Qubit, Ty, wire, _⊗_, _⊸_, !_, Circ, isWireType, wires, entries, wireCode}
-use Rattle.rules.specs.Types.{typeCodes}
-use Rattle.rules.specs.Terms.{Tuple, single, both, labels, tupleFrom}
+use Rattle.rules.specs.Types.{typeCodes, unit}
+use Rattle.rules.specs.Terms.{Tuple, single, both, labels, tupleFrom, empty}
 use Rattle.rules.specs.Circuits.{rename, renameTuple}
 use Rattle.machine_terms.specs.Trees.{Node, node, kind, argument, Tree, preorder, tupleTree}
-use Rattle.machine_terms.specs.Laws.Tuples.{IsTuple, is-label, is-pair}
+use Rattle.machine_terms.specs.Laws.Tuples.{IsTuple, is-label, is-pair, is-unit-value}
 use Rattle.rules.specs.Slots.{no-wire}
 use Rattle.rules.specs.Laws.Booleans.{and-left, and-right}
-use Rattle.machine_circuits.specs.Layout.{tupleWords}
+use Rattle.machine_circuits.specs.Layout.{tupleWords, no-label}
 use Rattle.machine_nodes.specs.Nodes.{nodeAt, no-node}
 use Rattle.machine_circuits.specs.Laws.Prefixes.{prefix-next}
 use Rattle.machine_circuits.specs.Copies.{AllBelow}
@@ -24,9 +24,21 @@ use Rattle.machine_circuits.specs.Laws.Copies.{renamed-below}
 use Rattle.machine_circuits.specs.Tuples.{labelOf, labelNumbers, labelsPassed, wordOf, loadedNode, nodeOfCode}
 use Rattle.machine_circuits.specs.Tuples.{labelAfter, codeSpan}
 
+-- Two tests of a number, one after the other.
+module _ {A : Type 0} (k p q : ℕ) (a b c : A) where
+  pub first-passes : k ≡ p → cond (eqb k p) a (cond (eqb k q) b c) ≡ a
+  first-passes e = ap (λ t. cond t a (cond (eqb k q) b c)) (eq-eqb k p e)
+
+  pub second-passes : (k ≡ p → ⊥) → k ≡ q → cond (eqb k p) a (cond (eqb k q) b c) ≡ b
+  second-passes h e = ap₂ (λ t u. cond t a (cond u b c)) (ne-eqb k p h) (eq-eqb k q e)
+
+  pub none-passes : (k ≡ p → ⊥) → (k ≡ q → ⊥) → cond (eqb k p) a (cond (eqb k q) b c) ≡ c
+  none-passes h h′ = ap₂ (λ t u. cond t a (cond u b c)) (ne-eqb k p h) (ne-eqb k q h′)
+
 -- A tuple has as many nodes as words, and at least one.
 pub tuple-size : (k : Tuple) → length (preorder (tupleTree k)) ≡ length (tupleWords k)
 tuple-size (single ℓ) = refl
+tuple-size empty = refl
 tuple-size (both k l) =
     ap suc (
     length-append (preorder (tupleTree k)) (preorder (tupleTree l))
@@ -37,6 +49,7 @@ tuple-size (both k l) =
 -- The tuple of a wire type's wires has as many nodes as the type has entries.
 pub tuple-entries : (ℓ : ℕ) (T : Ty) → IsTrue (isWireType T) → length (preorder (tupleTree (tupleFrom ℓ T))) ≡ entries T
 tuple-entries ℓ (wire α) t = refl
+tuple-entries ℓ unit t = refl
 tuple-entries ℓ (A ⊗ B) t =
     let k = preorder (tupleTree (tupleFrom ℓ A)) in
     let l = preorder (tupleTree (tupleFrom (ℓ + length (wires A)) B)) in
@@ -53,6 +66,7 @@ tuple-entries ℓ (Circ T U) t = absurd t
 -- No type has more wires than entries.
 pub wires-few : (T : Ty) → length (wires T) ≤ entries T
 wires-few (wire α) = omega arith
+wires-few unit = omega arith
 wires-few (A ⊗ B) = omega (arith, length-append (wires A) (wires B), wires-few A, wires-few B)
 wires-few (A ⊸ B) = omega arith
 wires-few (! A) = omega arith
@@ -66,6 +80,8 @@ labels-append (n ∷ ns) ms =
 
 pub labels-tree : {v : Tree} {k : Tuple} → IsTuple v k → labelNumbers (preorder v) ≡ labels k
 labels-tree (is-label {n = n} e) = ap (λ b. cond b (argument n ∷ []) [] ++ []) (eq-eqb (kind n) label-kind e)
+labels-tree (is-unit-value {n = n} e) =
+    ap (λ b. cond b (argument n ∷ []) [] ++ []) (ne-eqb (kind n) label-kind (λ h. omega arith))
 labels-tree (is-pair {n = n} {t = t} {u = u} {k = k} {l = l} e i j) =
     ap (λ b. cond b (argument n ∷ []) [] ++ labelNumbers (preorder t ++ preorder u)) (ne-eqb (kind n) label-kind (λ h. omega arith))
     ∙ labels-append (preorder t) (preorder u)
@@ -106,11 +122,14 @@ map-append f (x ∷ xs) ys = ap (λ l. f x ∷ l) (map-append f xs ys)
 
 pub words-tree : {v : Tree} {k : Tuple} → IsTuple v k → map wordOf (preorder v) ≡ tupleWords k
 words-tree (is-label {n = n} e) =
-    ap (λ b. cond b no-wire (argument n) ∷ []) (ne-eqb (kind n) pair-kind (λ h. omega arith))
+    ap (λ w. w ∷ [])
+    (none-passes (kind n) pair-kind unit-value-kind no-wire no-label (argument n) (λ h. omega arith) (λ h. omega arith))
+words-tree (is-unit-value {n = n} e) =
+    ap (λ w. w ∷ [])
+    (second-passes (kind n) pair-kind unit-value-kind no-wire no-label (argument n) (λ h. omega arith) e)
 words-tree (is-pair {n = n} {t = t} {u = u} e i j) =
-    ap₂
-    (λ b l. cond b no-wire (argument n) ∷ l)
-    (eq-eqb (kind n) pair-kind e)
+    ap₂ _∷_
+    (first-passes (kind n) pair-kind unit-value-kind no-wire no-label (argument n) e)
     (map-append wordOf (preorder t) (preorder u) ∙ ap₂ _++_ (words-tree i) (words-tree j))
 
 all-below-left : (m : ℕ) (xs ys : List ℕ) → AllBelow m (xs ++ ys) → AllBelow m xs
@@ -123,31 +142,34 @@ all-below-right m (x ∷ xs) ys h = all-below-right m xs ys (h .1)
 
 loaded-label : (ks : List ℕ) (next m ℓ : ℕ)
     → AllBelow 65536 ks
+    → m ≤ no-label
     → next + m ≤ no-wire
     → ℓ < m
     → loadedNode ks next ℓ ≡ node label-kind (rename ks next ℓ)
-loaded-label ks next m ℓ low room below =
+loaded-label ks next m ℓ low apart room below =
     let small : rename ks next ℓ < 65536 = renamed-below ks next m ℓ low room below in
     let e : rename ks next ℓ % 65536 ≡ rename ks next ℓ = omega arith in
-    ap
-    (λ b. cond b (node pair-kind 0) (node label-kind (rename ks next ℓ % 65536)))
-    (ne-eqb ℓ no-wire (λ p. omega arith))
+    none-passes ℓ no-wire no-label (node pair-kind 0) (node unit-value-kind 0) (node label-kind (rename ks next ℓ % 65536))
+    (λ p. omega arith) (λ p. omega arith)
     ∙ ap (node label-kind) e
 
 pub loaded-tuple : (ks : List ℕ) (next m : ℕ) (k : Tuple)
     → AllBelow 65536 ks
+    → m ≤ no-label
     → next + m ≤ no-wire
     → AllBelow m (labels k)
     → map (loadedNode ks next) (tupleWords k) ≡ preorder (tupleTree (renameTuple ks next k))
-loaded-tuple ks next m (single ℓ) low room below = ap (λ n. n ∷ []) (loaded-label ks next m ℓ low room (below .0))
-loaded-tuple ks next m (both k l) low room below =
+loaded-tuple ks next m (single ℓ) low apart room below =
+    ap (λ n. n ∷ []) (loaded-label ks next m ℓ low apart room (below .0))
+loaded-tuple ks next m empty low apart room below = refl
+loaded-tuple ks next m (both k l) low apart room below =
     ap
     (λ t. node pair-kind 0 ∷ t)
     (map-append (loadedNode ks next) (tupleWords k) (tupleWords l)
     ∙ ap₂
     _++_
-    (loaded-tuple ks next m k low room (all-below-left m (labels k) (labels l) below))
-    (loaded-tuple ks next m l low room (all-below-right m (labels k) (labels l) below)))
+    (loaded-tuple ks next m k low apart room (all-below-left m (labels k) (labels l) below))
+    (loaded-tuple ks next m l low apart room (all-below-right m (labels k) (labels l) below)))
 
 abbrev pub nodesOfCodes : ℕ → List ℕ → List Node
 nodesOfCodes ℓ [] = []
@@ -170,7 +192,7 @@ pub length-nodesOfCodes : (ℓ : ℕ) (cs : List ℕ) → length (nodesOfCodes �
 length-nodesOfCodes ℓ [] = refl
 length-nodesOfCodes ℓ (c ∷ cs) = ap suc (length-nodesOfCodes (labelAfter ℓ c) cs)
 
--- A wire type has no code 2 at a wire.
+-- The code of a wire is neither that of a pair nor that of unit.
 wire-code : (ℓ : ℕ) (α : Wire) → nodeOfCode ℓ (wireCode α) ≡ node label-kind (ℓ % 65536)
 wire-code ℓ Bit = refl
 wire-code ℓ Qubit = refl
@@ -182,6 +204,7 @@ wire-after ℓ Qubit = refl
 -- Behind the tuple of a wire type, as many labels are used as it has wires.
 pub behind-type : (ℓ : ℕ) (T : Ty) → IsTrue (isWireType T) → labelBehind ℓ (typeCodes T) ≡ ℓ + length (wires T)
 behind-type ℓ (wire α) t = wire-after ℓ α
+behind-type ℓ unit t = omega arith
 behind-type ℓ (A ⊗ B) t =
     behind-append ℓ (typeCodes A) (typeCodes B)
     ∙ ap (λ j. labelBehind j (typeCodes B)) (behind-type ℓ A (and-left (isWireType A) (isWireType B) t))
@@ -199,6 +222,7 @@ pub nodes-type : (ℓ : ℕ) (T : Ty)
 nodes-type ℓ (wire α) t room =
     let e : ℓ % 65536 ≡ ℓ = omega arith in
     ap (λ n. n ∷ []) (wire-code ℓ α ∙ ap (node label-kind) e)
+nodes-type ℓ unit t room = refl
 nodes-type ℓ (A ⊗ B) t room =
     let long : length (wires A ++ wires B) ≡ length (wires A) + length (wires B) = length-append (wires A) (wires B) in
     ap
@@ -234,6 +258,7 @@ pub span-type : (T : Ty) (cs : List ℕ) (waiting : ℕ)
 unfolding codeSpan
 span-type (wire α) cs waiting t =
     ap (λ w. suc (codeSpan cs w)) (wire-waits waiting α) ∙ omega arith
+span-type unit cs waiting t = omega arith
 span-type (A ⊗ B) cs waiting t =
     rw (append-assoc (typeCodes A) (typeCodes B) cs)
     (omega (

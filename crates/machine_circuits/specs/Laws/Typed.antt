@@ -7,11 +7,11 @@ use mathlib.Core.Option.{some}
 use lib.ListN.{length, length-append}
 use Rattle.rules.specs.Types.{Wire, Ty, Circ, wires, entries, most-entries}
 use Rattle.rules.specs.Gates.{nth, gateOutputs, wiresOut}
-use Rattle.rules.specs.Terms.{Tuple, single, both, labels, Gate, _on_, boxed, constant, tuple}
+use Rattle.rules.specs.Terms.{Tuple, single, both, labels, Gate, _on_, boxed, constant, tuple, empty}
 use Rattle.rules.specs.Circuits.{outputs, count, taken, OfTypes, wires-end, next-wire, TakesEarlier, no-gate, next-gate}
 use Rattle.rules.specs.Circuits.{if-none, loose}
 use Rattle.rules.specs.Typing.{LabelContext, split-end, _∣_⊢_∶_, by-label}
-use Rattle.rules.specs.Typing.{by-circ, by-tuple}
+use Rattle.rules.specs.Typing.{by-circ, by-tuple, by-unit}
 use Rattle.rules.specs.Laws.Wires.{nth-some-within}
 use Rattle.machine_terms.specs.Trees.{preorder, tupleTree}
 use Rattle.machine_terms.specs.Laws.Typed.{nodes-typed}
@@ -75,6 +75,7 @@ pub labels-below : (k : Tuple) {Q : LabelContext} {T : Ty} (m : ℕ)
     → [] ∣ Q ⊢ tuple k ∶ T
     → AllBelow m (labels k)
 labels-below (single ℓ) m known (by-label {α = α} p o) = (known ℓ α (o .0), tt)
+labels-below empty m known (by-unit p n) = tt
 labels-below (both k l) m known (by-tuple b split-end s d e) =
     all-below-append m (labels k) (labels l)
     (labels-below k m (λ ℓ α p. known ℓ α (shares-some-left (s ℓ) p)) d)

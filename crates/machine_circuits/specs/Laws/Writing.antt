@@ -9,14 +9,14 @@ use lib.ListN.{length, getD, set, take, drop, length-drop, length-map}
 use lib.Seq.{take-suc-set, drop-cons}
 use borrow.Author.Tests.{eq-eqb, ne-eqb}
 use mathlib.Core.Option.{some}
-use Rattle.rules.specs.Kinds.{pair-type-kind}
+use Rattle.rules.specs.Kinds.{pair-type-kind, unit-kind}
 use Rattle.rules.specs.Types.{Ty, isWireType, wires, entries, typeCodes}
 use Rattle.rules.specs.Laws.TypeCodes.{typeCodes-entries}
-use Rattle.rules.specs.Terms.{Tuple, single, both, labels}
+use Rattle.rules.specs.Terms.{Tuple, single, both, labels, empty}
 use Rattle.machine_terms.specs.Trees.{Node, Tree, leaf, one, two, preorder, tupleOfTree}
 use Rattle.machine_terms.specs.Laws.Tuples.{is-tuple}
 use Rattle.rules.specs.Slots.{no-wire}
-use Rattle.machine_circuits.specs.Layout.{tupleWords}
+use Rattle.machine_circuits.specs.Layout.{tupleWords, no-label}
 use Rattle.words.specs.Regions.{over, Stands}
 use Rattle.words.specs.Laws.Regions.{stands-rest}
 use Rattle.machine_circuits.specs.Laws.Prefixes.{over-next, prefix-next, length-prefix, prefix-whole, stands-inside}
@@ -40,6 +40,7 @@ pub result-inside : (k : Tuple) (ws : List ℕ) (from : ℕ)
     → Stands ws from (tupleWords k)
     → from + length (tupleWords k) ≤ length ws
 result-inside (single ℓ) ws from h = stands-inside ws from ℓ [] h
+result-inside empty ws from h = stands-inside ws from no-label [] h
 result-inside (both k l) ws from h = stands-inside ws from no-wire (tupleWords k ++ tupleWords l) h
 
 -- One more word is written behind others.
@@ -114,7 +115,7 @@ all-loaded k m ws ns ns′ ks from count size to available n next fits low writt
     ∙ ap
     (over ns to)
     (ap (map (loadedNode ks next)) (prefix-whole ws from count (tupleWords k) (fits .stands) (fits .whole))
-    ∙ loaded-tuple ks next m k low (fits .room) (fits .below))
+    ∙ loaded-tuple ks next m k low (fits .apart) (fits .room) (fits .below))
 
 pub ne-zero : (n : ℕ) → (n ≡ 0 → ⊥) → 0 < n
 ne-zero zero h = absurd (h refl)
@@ -161,11 +162,12 @@ span-whole T cs at t stands =
 
 -- The next label, and the nodes with one more.
 pub after-bounds : (ℓ c : ℕ) → (ℓ ≤ labelAfter ℓ c) × (labelAfter ℓ c ≤ ℓ + 1)
-after-bounds ℓ c = by-test (eqb c pair-type-kind)
+after-bounds ℓ c = by-test (eqb c pair-type-kind) (eqb c unit-kind)
   where
-    by-test : (b : Bool) → (ℓ ≤ cond b ℓ (ℓ + 1)) × (cond b ℓ (ℓ + 1) ≤ ℓ + 1)
-    by-test true = (omega arith, omega arith)
-    by-test false = (omega arith, omega arith)
+    by-test : (b d : Bool) → (ℓ ≤ cond b ℓ (cond d ℓ (ℓ + 1))) × (cond b ℓ (cond d ℓ (ℓ + 1)) ≤ ℓ + 1)
+    by-test true d = (omega arith, omega arith)
+    by-test false true = (omega arith, omega arith)
+    by-test false false = (omega arith, omega arith)
 
 pub behind-next : (ℓ : ℕ) (cs : List ℕ) (at i : ℕ)
     → at + i < length cs

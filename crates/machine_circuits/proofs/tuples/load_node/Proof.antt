@@ -2,17 +2,17 @@
 use Prim.Native.Nat.{_%_}
 use native.Mathlib.Omega.{arith}
 use mathlib.Core.Path.{sym, _∙_, ap}
-use mathlib.Core.Bool.{cond}
 use lib.ListN.{set, take}
-use borrow.Author.Tests.{eq-eqb, ne-eqb}
 use borrow.Author.Needs.{needs}
-use Rattle.rules.specs.Kinds.{label-kind, pair-kind}
+use Rattle.rules.specs.Kinds.{label-kind, pair-kind, unit-value-kind}
 use Rattle.rules.specs.Circuits.{rename}
 use Rattle.machine_terms.specs.Trees.{node}
 use Rattle.words.specs.Words.{words}
 use Rattle.rules.specs.Slots.{no-wire}
 use Rattle.machine_nodes.specs.Nodes.{nodesIn}
 use Rattle.machine_nodes.specs.Laws.Nodes.{node-put}
+use Rattle.machine_circuits.specs.Layout.{no-label}
+use Rattle.machine_circuits.specs.Laws.Tuples.{first-passes, second-passes, none-passes}
 use Rattle.machine_circuits.proofs.tuples.load_node.Statement.{statement}
 use Rattle.machine_circuits.proofs.tuples.load_node.Tie as tie
 
@@ -25,14 +25,10 @@ same-length c = search needs
 returns : tie.Need-returns
 returns c = λ h.
     let a = c .before .before .before .before .before .before .before .args in
-    let ks = take (a .n) (words (a .labels .now)) in
+    let label = node label-kind (rename (take (a .n) (words (a .labels .now))) (a .next) (a .word) % 65536) in
     node-put _ _ _ _ _ (c .before .before .put-node .ensures)
-    ∙ ap
-    (λ b. set (nodesIn (a .nodes .now)) (a .to) (cond b (node pair-kind 0) (node label-kind (rename ks (a .next) (a .word) % 65536))))
-    (sym (eq-eqb (a .word) no-wire (c .before .before .before .before .if1 .taken)))
-
-renamed-requires : tie.Need-renamed-requires
-renamed-requires c κs = search needs
+    ∙ ap (set (nodesIn (a .nodes .now)) (a .to))
+    (sym (first-passes (a .word) no-wire no-label (node pair-kind 0) (node unit-value-kind 0) label (c .before .before .before .before .if1 .taken)))
 
 put-node-requires-2 : tie.Need-put-node-requires-2
 put-node-requires-2 c κs = search needs
@@ -43,12 +39,28 @@ same-length-2 c = search needs
 returns-2 : tie.Need-returns-2
 returns-2 c = λ h.
     let a = c .before .before .before .before .before .before .before .before .args in
-    let ks = take (a .n) (words (a .labels .now)) in
+    let label = node label-kind (rename (take (a .n) (words (a .labels .now))) (a .next) (a .word) % 65536) in
     node-put _ _ _ _ _ (c .before .before .put-node2 .ensures)
+    ∙ ap (set (nodesIn (a .nodes .now)) (a .to))
+    (sym (second-passes (a .word) no-wire no-label (node pair-kind 0) (node unit-value-kind 0) label (c .before .before .before .before .before .if1 .left) (c .before .before .before .before .if2 .taken)))
+
+renamed-requires : tie.Need-renamed-requires
+renamed-requires c κs = search needs
+
+put-node-requires-3 : tie.Need-put-node-requires-3
+put-node-requires-3 c κs = search needs
+
+same-length-3 : tie.Need-same-length-3
+same-length-3 c = search needs
+
+returns-3 : tie.Need-returns-3
+returns-3 c = λ h.
+    let a = c .before .before .before .before .before .before .before .before .before .args in
+    let label = node label-kind (rename (take (a .n) (words (a .labels .now))) (a .next) (a .word) % 65536) in
+    node-put _ _ _ _ _ (c .before .before .put-node3 .ensures)
     ∙ ap (λ w. set (nodesIn (a .nodes .now)) (a .to) (node label-kind (w % 65536))) (c .before .before .before .renamed .ensures (omega arith))
-    ∙ ap
-    (λ b. set (nodesIn (a .nodes .now)) (a .to) (cond b (node pair-kind 0) (node label-kind (rename ks (a .next) (a .word) % 65536))))
-    (sym (ne-eqb (a .word) no-wire (c .before .before .before .before .before .if1 .left)))
+    ∙ ap (set (nodesIn (a .nodes .now)) (a .to))
+    (sym (none-passes (a .word) no-wire no-label (node pair-kind 0) (node unit-value-kind 0) label (c .before .before .before .before .before .before .if1 .left) (c .before .before .before .before .before .if2 .left)))
 
 pub load-node-spec : {M : Type 1} → statement M
 load-node-spec =
@@ -57,7 +69,10 @@ load-node-spec =
     put-node-requires
     same-length
     returns
-    renamed-requires
     put-node-requires-2
     same-length-2
-    returns-2)
+    returns-2
+    renamed-requires
+    put-node-requires-3
+    same-length-3
+    returns-3)
