@@ -28,7 +28,8 @@ returns c = λ h.
     let label = node label-kind (rename (take (a .n) (words (a .labels .now))) (a .next) (a .word) % 65536) in
     node-put _ _ _ _ _ (c .before .before .put-node .ensures)
     ∙ ap (set (nodesIn (a .nodes .now)) (a .to))
-    (sym (first-passes (a .word) no-wire no-label (node pair-kind 0) (node unit-value-kind 0) label (c .before .before .before .before .if1 .taken)))
+    (sym (first-passes (a .word) no-wire no-label (node pair-kind 0) (node unit-value-kind 0) label
+    (c .before .before .before .before .if1 .taken)))
 
 put-node-requires-2 : tie.Need-put-node-requires-2
 put-node-requires-2 c κs = search needs
@@ -42,7 +43,8 @@ returns-2 c = λ h.
     let label = node label-kind (rename (take (a .n) (words (a .labels .now))) (a .next) (a .word) % 65536) in
     node-put _ _ _ _ _ (c .before .before .put-node2 .ensures)
     ∙ ap (set (nodesIn (a .nodes .now)) (a .to))
-    (sym (second-passes (a .word) no-wire no-label (node pair-kind 0) (node unit-value-kind 0) label (c .before .before .before .before .before .if1 .left) (c .before .before .before .before .if2 .taken)))
+    (sym (second-passes (a .word) no-wire no-label (node pair-kind 0) (node unit-value-kind 0) label
+    (c .before .before .before .before .before .if1 .left) (c .before .before .before .before .if2 .taken)))
 
 renamed-requires : tie.Need-renamed-requires
 renamed-requires c κs = search needs
@@ -58,9 +60,11 @@ returns-3 c = λ h.
     let a = c .before .before .before .before .before .before .before .before .before .args in
     let label = node label-kind (rename (take (a .n) (words (a .labels .now))) (a .next) (a .word) % 65536) in
     node-put _ _ _ _ _ (c .before .before .put-node3 .ensures)
-    ∙ ap (λ w. set (nodesIn (a .nodes .now)) (a .to) (node label-kind (w % 65536))) (c .before .before .before .renamed .ensures (omega arith))
+    ∙ ap (λ w. set (nodesIn (a .nodes .now)) (a .to) (node label-kind (w % 65536)))
+    (c .before .before .before .renamed .ensures (omega arith))
     ∙ ap (set (nodesIn (a .nodes .now)) (a .to))
-    (sym (none-passes (a .word) no-wire no-label (node pair-kind 0) (node unit-value-kind 0) label (c .before .before .before .before .before .before .if1 .left) (c .before .before .before .before .before .if2 .left)))
+    (sym (none-passes (a .word) no-wire no-label (node pair-kind 0) (node unit-value-kind 0) label
+    (c .before .before .before .before .before .before .if1 .left) (c .before .before .before .before .before .if2 .left)))
 
 pub load-node-spec : {M : Type 1} → statement M
 load-node-spec =
