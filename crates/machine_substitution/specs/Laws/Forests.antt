@@ -7,7 +7,7 @@ use Rattle.machine_terms.specs.Trees.{Node, node, kind, Tree, leaf, one, two, p
 use Rattle.machine_terms.specs.Trees.{bindersOne, bindersTwo, treeAt, variableTree, underTree, substituteTree, WellKinded}
 use Rattle.machine_nodes.specs.Laws.Kinds.{KindIs, kind-variable, kind-label, kind-gate, kind-constant, kind-abstraction}
 use Rattle.machine_nodes.specs.Laws.Kinds.{kind-lift, kind-force, kind-box, kind-application, kind-pair, kind-let}
-use Rattle.machine_nodes.specs.Laws.Kinds.{kind-apply, kind-view}
+use Rattle.machine_nodes.specs.Laws.Kinds.{kind-apply, kind-view, kind-unit-value}
 use Rattle.machine_substitution.specs.Substituted.{valueAt, variableNodes, pieceFor, partsWaiting, waitingAfter}
 use Rattle.machine_substitution.specs.Substituted.{substituted}
 
@@ -34,6 +34,7 @@ unfolding pieceFor leafKind
 leaf-piece trees b a kind-variable = variable-nodes b trees a (leaf (node variable-kind a))
 leaf-piece trees b a kind-label = refl
 leaf-piece trees b a kind-gate = refl
+leaf-piece trees b a kind-unit-value = refl
 leaf-piece trees b a kind-constant = refl
 
 -- A node with parts stays.

@@ -11,7 +11,7 @@ use Rattle.rules.specs.Kinds.{abstraction-kind, let-kind}
 use Rattle.machine_terms.specs.Trees.{parts, oneKind, twoKind, bindersOne, bindersTwo}
 use Rattle.machine_nodes.specs.Laws.Kinds.{KindIs, kind-abstraction, kind-lift, kind-force, kind-box, kind-application}
 use Rattle.machine_nodes.specs.Laws.Kinds.{kind-pair, kind-let, kind-apply, kind-variable, kind-label, kind-gate}
-use Rattle.machine_nodes.specs.Laws.Kinds.{kind-constant, no-kind, kind-view}
+use Rattle.machine_nodes.specs.Laws.Kinds.{kind-constant, no-kind, kind-view, kind-unit-value}
 use Rattle.machine_substitution.specs.Substituted.{partsWaiting, waitingAfter}
 use Rattle.machine_substitution.specs.Waiting.{stackOf, bindersOf}
 
@@ -108,6 +108,7 @@ unfolding oneKind twoKind
 parts-at-most m b k p waiting kind-variable h a = a
 parts-at-most m b k p waiting kind-label h a = a
 parts-at-most m b k p waiting kind-gate h a = a
+parts-at-most m b k p waiting kind-unit-value h a = a
 parts-at-most m b k p waiting kind-constant h a = a
 parts-at-most m b k p waiting kind-abstraction h a = (omega arith, a)
 parts-at-most m b k p waiting kind-lift h a = (omega arith, a)

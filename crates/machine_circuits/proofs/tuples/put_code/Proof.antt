@@ -23,7 +23,8 @@ returns c =
     let ℓ = a .label in (
       node-put _ _ _ _ _ (c .before .before .put-node .ensures)
           ∙ ap (set (nodesIn (a .nodes .now)) (a .to))
-          (sym (first-passes (a .code) pair-type-kind unit-kind (node pair-kind 0) (node unit-value-kind 0) (node label-kind (ℓ % 65536))
+          (sym (first-passes (a .code) pair-type-kind unit-kind (node pair-kind 0) (node unit-value-kind 0)
+          (node label-kind (ℓ % 65536))
           (c .before .before .before .before .if1 .taken))),
       sym (first-passes (a .code) pair-type-kind unit-kind ℓ ℓ (ℓ + 1) (c .before .before .before .before .if1 .taken)),
     )
@@ -40,7 +41,8 @@ returns-2 c =
     let ℓ = a .label in (
       node-put _ _ _ _ _ (c .before .before .put-node2 .ensures)
           ∙ ap (set (nodesIn (a .nodes .now)) (a .to))
-          (sym (second-passes (a .code) pair-type-kind unit-kind (node pair-kind 0) (node unit-value-kind 0) (node label-kind (ℓ % 65536))
+          (sym (second-passes (a .code) pair-type-kind unit-kind (node pair-kind 0) (node unit-value-kind 0)
+          (node label-kind (ℓ % 65536))
           (c .before .before .before .before .before .if1 .left) (c .before .before .before .before .if2 .taken))),
       sym (second-passes (a .code) pair-type-kind unit-kind ℓ ℓ (ℓ + 1)
           (c .before .before .before .before .before .if1 .left) (c .before .before .before .before .if2 .taken)),
@@ -61,7 +63,8 @@ returns-3 c =
     let ℓ = a .label in (
       node-put _ _ _ _ _ (c .before .before .put-node3 .ensures)
           ∙ ap (set (nodesIn (a .nodes .now)) (a .to))
-          (sym (none-passes (a .code) pair-type-kind unit-kind (node pair-kind 0) (node unit-value-kind 0) (node label-kind (ℓ % 65536))
+          (sym (none-passes (a .code) pair-type-kind unit-kind (node pair-kind 0) (node unit-value-kind 0)
+          (node label-kind (ℓ % 65536))
           (c .before .before .before .before .before .if1 .left) (c .before .before .before .before .if2 .left))),
       sym (none-passes (a .code) pair-type-kind unit-kind ℓ ℓ (ℓ + 1)
           (c .before .before .before .before .before .if1 .left) (c .before .before .before .before .if2 .left)),

@@ -44,7 +44,8 @@ returns-3 c =
     let k : kind n ≡ c .before .before .before .kind-at .result = sym (c .before .before .before .kind-at .ensures .0) in (
       c .argument-at .ensures .0
           ∙ sym
-          (none-passes (kind n) pair-kind unit-value-kind no-wire no-label (argument n) (λ e. c .before .before .if1 .left (sym k ∙ e))
+          (none-passes (kind n) pair-kind unit-value-kind no-wire no-label (argument n)
+          (λ e. c .before .before .if1 .left (sym k ∙ e))
           (λ e. c .before .if2 .left (sym k ∙ e))),
       c .argument-at .ensures .1,
     )
