@@ -55,8 +55,8 @@ kinds I gs = map inputKind I ++ map gateKind (oldestFirst gs)
 abbrev pub allSlots : List Wire → List Gate → List ℕ
 allSlots I gs = flatMap inputSlots I ++ flatMap gateSlots (oldestFirst gs)
 
--- The whole listing of inputs, gates and output wires; at its end "the O output wires, left to right, 16 bits each". A listing
--- that was made elsewhere (02, ticket 3) may have no output, and no type says how its outputs are paired.
+-- The whole listing of inputs, gates and output wires; at its end "the O output wires, left to right, 16 bits each". It is of wires
+-- and not of a tuple: of a listing that was made elsewhere (02, ticket 3) no type says how its outputs are paired.
 unfoldable pub listingBytes : List Wire → List Gate → List ℕ → List ℕ
 listingBytes I gs outs =
     flatMap bytesOf (sizes I gs outs)

@@ -11,7 +11,7 @@ use Rattle.rules.specs.Terms.{Gate, _on_}
 use Rattle.rules.specs.Circuits.{outputs, taken, count, Sound, GoneOnce}
 
 -- "goes exactly once to a gate or an output": the circuit is sound, as 01 says, each output has been made, and each wire has gone
--- exactly once, to a gate or to an output.
+-- exactly once, to a gate or to an output. 02, ticket 5: "A discarded wire counts as gone to a gate."
 pub record GoesOnce (I : List Wire) (gs : List Gate) (outs : List ℕ) : Type 0 where
   pub sound : Sound I gs
   pub outputs-made : (w : ℕ) → 1 ≤ count w outs → w < length (I ++ outputs gs)

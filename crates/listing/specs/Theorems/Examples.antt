@@ -1,8 +1,9 @@
--- Listings by computation: of c1 to c3 and c10, as these cases end in crate rules, and of a circuit with a Bit.
+-- Listings by computation: of c1 to c3 and c10, as these cases end in crate rules, of a circuit with a Bit, and of one whose wires
+-- come and go.
 use mathlib.Core.Path.{_≡_, refl}
 use mathlib.Core.List.{[], _∷_, flatMap}
 use Rattle.rules.specs.Types.{Bit, Qubit}
-use Rattle.rules.specs.Terms.{single, both, _on_}
+use Rattle.rules.specs.Terms.{single, both, empty, _on_}
 use Rattle.rules.specs.Circuits.{circuit}
 use Rattle.rules.specs.CaseTerms.{one-label, two-labels, H, CNOT, Meas}
 use Rattle.listing.specs.Listing.{listing, listingBytes, most-bytes}
@@ -46,6 +47,15 @@ pub bit-listing
     ∷ 2 ∷ 0 ∷ 4 ∷ 0 ∷ []
 unfolding listingBytes flatMap
 bit-listing = refl
+
+-- 02, ticket 5: "L = 0 can run". No input and no output: Init, gate 9, makes wire 0, Meas takes it, and Discard, gate 10, takes the
+-- Bit that Meas makes.
+pub init-listing : listing (circuit [] ((10 on 1 ∷ []) ∷ (Meas on 0 ∷ []) ∷ (9 on []) ∷ [])) empty
+    ≡ 0 ∷ 0 ∷ 3 ∷ 0 ∷ 0 ∷ 0
+    ∷ 9 ∷ 6 ∷ 10
+    ∷ 255 ∷ 255 ∷ 255 ∷ 255 ∷ 0 ∷ 0 ∷ 255 ∷ 255 ∷ 1 ∷ 0 ∷ 255 ∷ 255 ∷ []
+unfolding listingBytes flatMap
+init-listing = refl
 
 -- "Length: 6 + 5(L+G) + 2O, at most 11,078."
 pub longest-listing : most-bytes ≡ 11078
