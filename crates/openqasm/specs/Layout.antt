@@ -1,8 +1,10 @@
 -- The text of a listing in OpenQASM 2.0 (02, ticket 4), to the byte.
 use Prim.Native.Nat.{ℕ, suc, _+_, _*_}
 use Prim.Native.String.{String}
+use mathlib.Core.Bool.{Bool, true, false}
 use mathlib.Core.List.{List, [], _∷_, _++_, map}
 use mathlib.Core.Option.{Option, none, some}
+use lib.Dec.{T as IsTrue}
 use lib.ListN.{length, getD}
 use Rattle.rules.specs.Types.{Wire, Bit, Qubit}
 use Rattle.rules.specs.Gates.{nth}
@@ -26,14 +28,17 @@ declaration k Bit = bitRegister k
 declaration k Qubit = joined (ascii "qreg q" ∷ decimal k ∷ ascii "[1];\n" ∷ bitRegister k ∷ [])
 
 -- How a gate is written: a gate of qelib1.inc on one qubit, such as `h q0[0];`, or on two, `cx q0[0],q1[0];`; a measurement,
--- `measure q0[0] -> c0[0];`; a gate on a qubit under a bit, `if(c0==1) x q1[0];`.
+-- `measure q0[0] -> c0[0];`; a gate on a qubit under a bit, `if(c0==1) x q1[0];`. Or it is a gate for which the exchange format has no
+-- word.
 pub data Statement : Type 0 where
   on-one : String → Statement
   on-two : String → Statement
   measurement : Statement
   under-bit : String → Statement
+  unwritten : Statement
 
--- "gates use the names of qelib1.inc, Meas `measure`, BX and BZ an `if` on that bit": H, X, Z, S, T, CNOT, Meas, BX, BZ.
+-- "gates use the names of qelib1.inc, Meas `measure`, BX and BZ an `if` on that bit": H, X, Z, S, T, CNOT, Meas, BX, BZ. 02, ticket 5:
+-- "The exchange format has no word for a dropped bit, so export refuses both gates": Init, Discard.
 abbrev pub statements : List Statement
 statements =
     on-one "h"
@@ -45,7 +50,27 @@ statements =
     ∷ measurement
     ∷ under-bit "x"
     ∷ under-bit "z"
+    ∷ unwritten
+    ∷ unwritten
     ∷ []
+
+-- Is there a statement that is written?
+abbrev pub isWritten : Option Statement → Bool
+isWritten none = false
+isWritten (some (on-one name)) = true
+isWritten (some (on-two name)) = true
+isWritten (some measurement) = true
+isWritten (some (under-bit name)) = true
+isWritten (some unwritten) = false
+
+-- Has the gate with this number a statement? Init and Discard have none, and what is no gate has none.
+unfoldable pub hasStatement : ℕ → Bool
+hasStatement n = isWritten (nth statements n)
+
+-- Each of these gates has a statement.
+abbrev pub AllWritten : List Gate → Type 0
+AllWritten [] = Unit {0}
+AllWritten ((n on ws) ∷ gs) = IsTrue (hasStatement n) × AllWritten gs
 
 -- The line of a gate whose wires are in register r and, if there is a second one, in register s.
 abbrev pub statementLine : Option Statement → ℕ → ℕ → List ℕ
@@ -57,6 +82,7 @@ statementLine (some measurement) r s =
     joined (ascii "measure q" ∷ decimal r ∷ ascii "[0] -> c" ∷ decimal r ∷ ascii "[0];\n" ∷ [])
 statementLine (some (under-bit name)) r s =
     joined (ascii "if(c" ∷ decimal r ∷ ascii "==1) " ∷ ascii name ∷ ascii " q" ∷ decimal s ∷ ascii "[0];\n" ∷ [])
+statementLine (some unwritten) r s = []
 
 -- A gate's line, by its number and the registers of the wires that it takes.
 unfoldable pub gateLine : ℕ → List ℕ → List ℕ
@@ -106,7 +132,7 @@ declaration-bytes = 26
 abbrev pub statement-bytes : ℕ
 statement-bytes = 26
 
--- No text of an accepted listing is longer: 55,211 bytes. Every gate that is written makes as many wires as it takes, so there are as
--- many outputs as inputs.
+-- No text of an accepted listing whose gates all have statements is longer: 55,211 bytes. Every gate that is written makes as many
+-- wires as it takes, so there are as many outputs as inputs.
 abbrev pub most-text : ℕ
 most-text = 36 + declaration-bytes * most-labels + statement-bytes * most-gates + (7 + 4 * most-labels)

@@ -16,7 +16,7 @@ ghost use Rattle.listing.specs.Reading.{inputType};
 ghost use Rattle.text.specs.Text.{ascii, decimal, spaced};
 ghost use Rattle.text.specs.Writing.{Puts};
 ghost use mathlib.Core.Path.{_≡_};
-ghost use Rattle.openqasm.specs.Layout.{header, bitRegister, declaration, gateLine, registerName};
+ghost use Rattle.openqasm.specs.Layout.{header, bitRegister, declaration, hasStatement, gateLine, registerName};
 ghost use Rattle.openqasm.specs.Lines.{letters, oneLine, twoLine};
 
 // What an export or an import answers: how many bytes it wrote, or a refusal.
@@ -133,7 +133,14 @@ fn write_under_bit(text: &mut [u8], at: usize, gate: usize, r: usize, s: usize) 
     write_last(text, named, s)
 }
 
-// The line of a gate whose wires are in these registers; nothing where there is no such gate.
+// Has the gate a statement? Init and Discard, and what is no gate, have none.
+pub fn has_statement(gate: usize) -> bool
+    ensures { λ r. ⌜ r ≡ hasStatement gate ⌝ }
+{
+    gate < 9
+}
+
+// The line of a gate whose wires are in these registers; nothing where the gate has no statement.
 pub fn write_gate(text: &mut [u8], at: usize, gate: usize, r: usize, s: usize) -> usize
     ensures { λ last. ⌜ Puts (now (text .entry)) at (gateLine gate (r ∷ s ∷ [])) (now (text .exit)) last ⌝ }
 {

@@ -2,15 +2,21 @@
 use Prim.Native.Nat.{ℕ, zero, suc, _+_, _≤_, _<_}
 use native.Mathlib.Omega.{arith}
 use mathlib.Core.Path.{_≡_, refl, sym, _∙_, ap}
+use mathlib.Core.Bool.{false, true≢false}
 use mathlib.Core.List.{List, [], _∷_, _++_, append-assoc, append-nil}
+use mathlib.Core.Option.{Option, none, some}
+use lib.Dec.{ltb}
 use lib.ListN.{getD}
+use borrow.Author.Tests.{le-ltb}
 use Rattle.rules.specs.Types.{Wire, Qubit}
+use Rattle.rules.specs.Gates.{nth}
 use Rattle.listing.specs.Reading.{inputType}
 use Rattle.text.specs.Text.{ascii, decimal}
 use Rattle.text.specs.Writing.{Puts}
 use Rattle.text.specs.Laws.Writing.{puts-both, puts-same}
 use Rattle.openqasm.specs.Lines.{letters, oneLine, twoLine}
-use Rattle.openqasm.specs.Layout.{bitRegister, declaration, gateLine}
+use Rattle.openqasm.specs.Layout.{bitRegister, declaration, Statement, on-one, on-two, measurement, under-bit, unwritten}
+use Rattle.openqasm.specs.Layout.{statements, isWritten, hasStatement, statementLine, gateLine}
 
 -- The lines of the gates.
 pub gate-on-one : (n r s : ℕ) → n < 5 → oneLine (getD letters n 0) r ≡ gateLine n (r ∷ s ∷ [])
@@ -38,19 +44,34 @@ pub gate-bz : (r s : ℕ) → twoLine (ascii "if(c") r (ascii "==1) z q") s ≡ 
 unfolding gateLine
 gate-bz r s = refl
 
--- A number that is no gate has no line.
-pub no-gate : (n : ℕ) (rs : List ℕ) → 9 ≤ n → gateLine n rs ≡ []
-unfolding gateLine
-no-gate zero rs h = absurd (omega arith)
-no-gate (suc zero) rs h = absurd (omega arith)
-no-gate (suc (suc zero)) rs h = absurd (omega arith)
-no-gate (suc (suc (suc zero))) rs h = absurd (omega arith)
-no-gate (suc (suc (suc (suc zero)))) rs h = absurd (omega arith)
-no-gate (suc (suc (suc (suc (suc zero))))) rs h = absurd (omega arith)
-no-gate (suc (suc (suc (suc (suc (suc zero)))))) rs h = absurd (omega arith)
-no-gate (suc (suc (suc (suc (suc (suc (suc zero))))))) rs h = absurd (omega arith)
-no-gate (suc (suc (suc (suc (suc (suc (suc (suc zero)))))))) rs h = absurd (omega arith)
-no-gate (suc (suc (suc (suc (suc (suc (suc (suc (suc n))))))))) rs h = refl
+-- Which gates have a statement, by their numbers.
+pub statement-told : (n : ℕ) → hasStatement n ≡ ltb n 9
+unfolding hasStatement
+statement-told zero = refl
+statement-told (suc zero) = refl
+statement-told (suc (suc zero)) = refl
+statement-told (suc (suc (suc zero))) = refl
+statement-told (suc (suc (suc (suc zero)))) = refl
+statement-told (suc (suc (suc (suc (suc zero))))) = refl
+statement-told (suc (suc (suc (suc (suc (suc zero)))))) = refl
+statement-told (suc (suc (suc (suc (suc (suc (suc zero))))))) = refl
+statement-told (suc (suc (suc (suc (suc (suc (suc (suc zero)))))))) = refl
+statement-told (suc (suc (suc (suc (suc (suc (suc (suc (suc zero))))))))) = refl
+statement-told (suc (suc (suc (suc (suc (suc (suc (suc (suc (suc zero)))))))))) = refl
+statement-told (suc (suc (suc (suc (suc (suc (suc (suc (suc (suc (suc n))))))))))) = sym (le-ltb (suc (suc (suc (suc (suc (suc (suc (suc (suc (suc (suc n))))))))))) 9 (omega arith))
+
+-- A gate that has no statement has no line.
+pub no-line : (n : ℕ) (rs : List ℕ) → hasStatement n ≡ false → gateLine n rs ≡ []
+unfolding hasStatement gateLine
+no-line n rs = of (nth statements n)
+  where
+    of : (s : Option Statement) → isWritten s ≡ false → statementLine s (getD rs 0 0) (getD rs 1 0) ≡ []
+    of none e = refl
+    of (some (on-one name)) e = absurd (true≢false e)
+    of (some (on-two name)) e = absurd (true≢false e)
+    of (some measurement) e = absurd (true≢false e)
+    of (some (under-bit name)) e = absurd (true≢false e)
+    of (some unwritten) e = refl
 
 -- The declarations of a Qubit are written.
 pub puts-qubit : (k : ℕ) {t₀ t₁ t₂ t₃ : List ℕ} {at₀ at₁ at₂ at₃ : ℕ}

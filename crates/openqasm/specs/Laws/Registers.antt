@@ -2,34 +2,34 @@
 use Prim.Native.Nat.{ℕ, zero, suc, _+_, _≤_, _<_}
 use native.Mathlib.Omega.{arith}
 use mathlib.Core.Path.{_≡_, refl, sym, _∙_, ap}
-use mathlib.Core.Bool.{Bool}
 use mathlib.Core.List.{List, [], _∷_, _++_, map, append-nil}
-use mathlib.Core.Option.{Option, none, some}
-use lib.Dec.{eqb, eqb→eq}
+use lib.Dec.{T as IsTrue}
 use lib.ListN.{length, getD, length-append, length-map}
-use Rattle.rules.specs.Types.{Wire, wires}
-use Rattle.rules.specs.Gates.{GateType, _to_, gateTable, gateType, gateOutputs, outputWires, inputWires, wiresIn}
+use Rattle.rules.specs.Types.{Wire}
+use Rattle.rules.specs.Gates.{gateOutputs, wiresIn}
 use Rattle.rules.specs.Terms.{Gate, _on_}
 use Rattle.rules.specs.Circuits.{numbers, outputs}
 use Rattle.rules.specs.Sizes.{most-labels}
-use Rattle.rules.specs.Laws.Wires.{every-nth}
 use Rattle.rules.specs.Laws.KnownGates.{KnownGates}
 use Rattle.listing.specs.Reading.{inputCount, kindAt, slotsFrom, firstGates}
 use Rattle.listing.specs.Laws.Decoding.{length-words}
-use Rattle.openqasm.specs.Layout.{registersOf}
+use Rattle.openqasm.specs.Layout.{hasStatement, AllWritten, registersOf}
 
--- Does a gate make as many wires as it takes?
-abbrev evenly : GateType → Bool
-evenly (T to U) = eqb (length (wires U)) (length (wires T))
-
--- Every gate makes as many wires as it takes; a number that is no gate takes and makes none.
-pub as-many : (n : ℕ) → length (gateOutputs n) ≡ wiresIn n
-unfolding wiresIn
-as-many n = of (gateType n) refl
-  where
-    of : (g : Option GateType) → gateType n ≡ g → length (outputWires g) ≡ length (inputWires g)
-    of none e = refl
-    of (some (T to U)) e = eqb→eq (length (wires U)) (length (wires T)) (every-nth evenly gateTable n e tt)
+-- A gate that has a statement makes as many wires as it takes.
+pub as-many : (n : ℕ) → IsTrue (hasStatement n) → length (gateOutputs n) ≡ wiresIn n
+unfolding hasStatement wiresIn
+as-many zero written = refl
+as-many (suc zero) written = refl
+as-many (suc (suc zero)) written = refl
+as-many (suc (suc (suc zero))) written = refl
+as-many (suc (suc (suc (suc zero)))) written = refl
+as-many (suc (suc (suc (suc (suc zero))))) written = refl
+as-many (suc (suc (suc (suc (suc (suc zero)))))) written = refl
+as-many (suc (suc (suc (suc (suc (suc (suc zero))))))) written = refl
+as-many (suc (suc (suc (suc (suc (suc (suc (suc zero)))))))) written = refl
+as-many (suc (suc (suc (suc (suc (suc (suc (suc (suc zero))))))))) written = absurd written
+as-many (suc (suc (suc (suc (suc (suc (suc (suc (suc (suc zero)))))))))) written = absurd written
+as-many (suc (suc (suc (suc (suc (suc (suc (suc (suc (suc (suc n))))))))))) written = absurd written
 
 -- Each gate has as many wires as its number says.
 abbrev pub AllCounted : List Gate → Type 0
@@ -59,21 +59,24 @@ numbers-more n (suc k) =
     let e : suc n + k ≡ n + suc k = omega arith in
     ap (λ l. n ∷ l) (numbers-more (suc n) k ∙ ap (λ m. numbers (suc n) k ++ (m ∷ [])) e)
 
--- Each wire that is made has a register.
-pub length-registers : (I : List Wire) (gs : List Gate) → AllCounted gs → length (registersOf I gs) ≡ length (I ++ outputs gs)
-length-registers I [] counted = length-numbers 0 (length I) ∙ ap length (sym (append-nil I))
-length-registers I ((n on ws) ∷ gs) counted =
+-- Each wire that is made has a register, if every gate has a statement.
+pub length-registers : (I : List Wire) (gs : List Gate)
+    → AllCounted gs
+    → AllWritten gs
+    → length (registersOf I gs) ≡ length (I ++ outputs gs)
+length-registers I [] counted written = length-numbers 0 (length I) ∙ ap length (sym (append-nil I))
+length-registers I ((n on ws) ∷ gs) counted written =
     let rs = registersOf I gs in
     let f : ℕ → ℕ = λ w. getD rs w 0 in
     omega (
       arith,
       length-append rs (map f ws),
       length-map ws f,
-      length-registers I gs (counted .1),
+      length-registers I gs (counted .1) (written .1),
       length-append I (outputs gs),
       length-append I (outputs gs ++ gateOutputs n),
       length-append (outputs gs) (gateOutputs n),
-      as-many n,
+      as-many n (written .0),
       counted .0,
     )
 

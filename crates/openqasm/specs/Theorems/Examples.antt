@@ -1,11 +1,12 @@
 -- Texts by computation: of no wire, of a gate on one qubit, of a CNOT whose outputs are exchanged, and of a measured Qubit whose Bit
--- decides over another.
+-- decides over another; and the gates that have none.
 use mathlib.Core.Path.{_≡_, refl}
+use mathlib.Core.Bool.{false}
 use mathlib.Core.List.{[], _∷_}
 use Rattle.rules.specs.Types.{Bit, Qubit}
 use Rattle.rules.specs.Terms.{_on_}
 use Rattle.text.specs.Text.{ascii, decimal}
-use Rattle.openqasm.specs.Layout.{gateLine, exportText, most-text}
+use Rattle.openqasm.specs.Layout.{hasStatement, gateLine, exportText, most-text}
 
 pub nothing-exported : exportText [] [] [] ≡ ascii "OPENQASM 2.0;\ninclude \"qelib1.inc\";\n// out\n"
 unfolding exportText
@@ -25,6 +26,14 @@ pub bit-exported : exportText (Qubit ∷ Bit ∷ Qubit ∷ []) ((8 on 1 ∷ 5 �
     ≡ ascii "OPENQASM 2.0;\ninclude \"qelib1.inc\";\nqreg q0[1];\ncreg c0[1];\ncreg c1[1];\nqreg q2[1];\ncreg c2[1];\nmeasure q0[0] -> c0[0];\nif(c0==1) x q2[0];\nif(c1==1) z q2[0];\n// out q2 c0 c1\n"
 unfolding exportText gateLine decimal
 bit-exported = refl
+
+pub init-unwritten : hasStatement 9 ≡ false
+unfolding hasStatement
+init-unwritten = refl
+
+pub discard-unwritten : hasStatement 10 ≡ false
+unfolding hasStatement
+discard-unwritten = refl
 
 pub longest-text : most-text ≡ 55211
 longest-text = refl
