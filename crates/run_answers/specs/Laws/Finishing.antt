@@ -5,10 +5,10 @@ use mathlib.Core.Path.{_≡_, refl, sym, _∙_, ap, subst}
 use mathlib.Core.List.{List, []}
 use lib.Dec.{T as IsTrue}
 use lib.ListN.{length, length-append}
-use Rattle.rules.specs.Types.{Wire, Ty, wire, _⊗_, _⊸_, !_, Circ, isWireType, wires, entries}
-use Rattle.rules.specs.Terms.{Tuple, single, both, labels, Gate, Boxed, Term, tuple}
+use Rattle.rules.specs.Types.{Wire, Ty, wire, _⊗_, _⊸_, !_, Circ, isWireType, wires, entries, unit}
+use Rattle.rules.specs.Terms.{Tuple, single, both, labels, Gate, Boxed, Term, tuple, empty}
 use Rattle.rules.specs.Circuits.{circuit, TakesEarlier, Sound, loose, GoneOnce}
-use Rattle.rules.specs.Typing.{LabelContext, split-end, _∣_⊢_∶_, by-label, by-tuple}
+use Rattle.rules.specs.Typing.{LabelContext, split-end, _∣_⊢_∶_, by-label, by-tuple, by-unit}
 use Rattle.rules.specs.Steps.{frame, Configuration, configuration, start}
 use Rattle.rules.specs.Sizes.{totalGates, most-gates, Row, no-step, one-more, most-labels}
 use Rattle.rules.specs.Demand3.{frame-has, outermost, ProgramHas, program-has, Finished, finished, ClosedSound}
@@ -48,6 +48,7 @@ pub record FinishedRun (L : List Wire) (A : Ty) (c : Configuration) : Type 0 whe
 -- A type has an entry for each of its wires, and one for each pair that joins them.
 pub wires-entries : (A : Ty) → 2 * length (wires A) ≤ entries A + 1
 wires-entries (wire α) = omega arith
+wires-entries unit = omega arith
 wires-entries (A ⊗ B) = omega (arith, length-append (wires A) (wires B), wires-entries A, wires-entries B)
 wires-entries (A ⊸ B) = omega arith
 wires-entries (! A) = omega arith
@@ -56,6 +57,7 @@ wires-entries (Circ T U) = omega arith
 -- A typed label tuple has at most 256 labels, since its type has at most 512 entries.
 pub outputs-few : (r : Tuple) {Q : LabelContext} {A : Ty} → [] ∣ Q ⊢ tuple r ∶ A → length (labels r) ≤ most-outputs
 outputs-few (single ℓ) (by-label p o) = omega arith
+outputs-few empty (by-unit p n) = omega arith
 outputs-few (both r t) (by-tuple {A = A} {B = B} b split-end s d e) =
     omega (arith, labels-typed (both r t) (by-tuple b split-end s d e), wires-entries (A ⊗ B), b)
 

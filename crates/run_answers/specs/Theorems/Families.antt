@@ -15,7 +15,7 @@ use Rattle.rules.specs.Terms.{Term}
 use Rattle.rules.specs.Sizes.{nodes, most-labels, most-types, most-terms}
 use Rattle.rules.specs.Typing.{LabelContext, Bounded}
 use Rattle.rules.specs.Laws.Counting.{Plain, plain-var, plain-label, plain-gate, plain-circ, plain-abs, plain-app}
-use Rattle.rules.specs.Laws.Counting.{plain-tuple, plain-let, plain-lift, plain-force, plain-box, plain-apply}
+use Rattle.rules.specs.Laws.Counting.{plain-tuple, plain-let, plain-lift, plain-force, plain-box, plain-apply, plain-unit}
 use Rattle.rules.specs.Theorems.Counting.{closed→plain}
 use Rattle.rules.specs.Laws.Booleans.{and-left, and-right}
 use Rattle.refusals.specs.Refusals.{refusalPlace}
@@ -233,6 +233,7 @@ plain-bounded : {Γ : List Ty} {Q : LabelContext} {M : Term} {A : Ty} → AllBou
 plain-bounded {Γ} {A = A} all (plain-var {n = n} p) = nth-bounded Γ n A all p
 plain-bounded all (plain-label p) = omega arith
 plain-bounded all (plain-gate {n = n} {T = T} {U = U} p) = nth-gate-bounded gateTable n T U tt p
+plain-bounded all plain-unit = omega arith
 plain-bounded all (plain-circ w b s d) = b
 plain-bounded all (plain-abs b d) = b
 plain-bounded all (plain-app d e) = let b = plain-bounded all d in omega (arith, b)
