@@ -2,6 +2,7 @@ pub mod Case
 pub mod BaseCases
 pub mod FirstFaults
 pub mod CopiedPairs
+pub mod UnitCases
 pub mod Table
 pub mod Listings
 pub mod Answers

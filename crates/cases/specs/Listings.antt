@@ -3,7 +3,7 @@
 use Prim.Native.Nat.{ℕ, _*_}
 use mathlib.Core.Path.{_≡_}
 use mathlib.Core.List.{List, [], _∷_, _++_, map, flatMap}
-use lib.ListN.{take, replicate}
+use lib.ListN.{length, take, replicate}
 use Rattle.rules.specs.Circuits.{numbers}
 use Rattle.refusals.specs.declared.Refusal.the-variants.{Run}
 use Rattle.listing.specs.Listing.{bytesOf}
@@ -150,7 +150,7 @@ with-slots input-first input-second gate-first gate-second =
 abbrev pub slot-then-kind : List ℕ
 slot-then-kind =
     listed (1 ∷ 1 ∷ 1 ∷ [])
-    (129 ∷ 9 ∷ [])
+    (129 ∷ 11 ∷ [])
     (65535 ∷ 0 ∷ 0 ∷ 65535 ∷ [])
     (1 ∷ [])
 
@@ -170,7 +170,7 @@ wrong-entries =
     ∷ with-kinds 127 0 gives Refused (Run 25 0)
     ∷ with-kinds 130 0 gives Refused (Run 25 0)
     ∷ with-kinds 255 0 gives Refused (Run 25 0)
-    ∷ with-kinds 129 9 gives Refused (Run 25 1)
+    ∷ with-kinds 129 11 gives Refused (Run 25 1)
     ∷ with-kinds 129 127 gives Refused (Run 25 1)
     ∷ with-kinds 129 128 gives Refused (Run 25 1)
     ∷ with-kinds 129 129 gives Refused (Run 25 1)
@@ -182,7 +182,7 @@ wrong-entries =
     ∷ with-slots 65535 65535 0 65534 gives Refused (Run 25 1)
     ∷ with-slots 65535 65535 0 255 gives Refused (Run 25 1)
     ∷ with-slots 65535 65535 0 65280 gives Refused (Run 25 1)
-    ∷ with-kinds 9 9 gives Refused (Run 25 0)
+    ∷ with-kinds 11 11 gives Refused (Run 25 0)
     ∷ slot-then-kind gives Refused (Run 25 0)
     ∷ kind-then-slot gives Refused (Run 25 0)
     ∷ []
@@ -383,6 +383,52 @@ two-faults =
     ∷ one-left 2 3 gives Refused (Run 26 1)
     ∷ []
 
+-- INIT AND DISCARD
+-- 02, ticket 5: kinds 9 and 10. Init takes no wire, Discard makes none; "A discarded wire counts as gone to a gate."
+
+-- Init, with these slots and outputs.
+abbrev pub init-with : ℕ → ℕ → List ℕ → List ℕ
+init-with first second outs = listed (0 ∷ 1 ∷ length outs ∷ []) (9 ∷ []) (first ∷ second ∷ []) outs
+
+-- An input of this kind, which Discard takes, with this in its second slot, and these outputs.
+abbrev pub discard-with : ℕ → ℕ → List ℕ → List ℕ
+discard-with kind second outs =
+    listed (1 ∷ 1 ∷ length outs ∷ []) (kind ∷ 10 ∷ []) (65535 ∷ 65535 ∷ 0 ∷ second ∷ []) outs
+
+-- A helper qubit: Init makes 1, CNOT takes 0 and 1 and makes 2 and 3, Meas takes 3 and makes 4, Discard takes 4.
+abbrev pub helper : List ℕ
+helper =
+    listed (1 ∷ 4 ∷ 1 ∷ [])
+    (129 ∷ 9 ∷ 5 ∷ 6 ∷ 10 ∷ [])
+    (65535 ∷ 65535 ∷ 65535 ∷ 65535 ∷ 0 ∷ 1 ∷ 3 ∷ 65535 ∷ 4 ∷ 65535 ∷ [])
+    (2 ∷ [])
+
+-- Two Discards of one wire, the input.
+abbrev pub discarded-twice : List ℕ
+discarded-twice =
+    listed (1 ∷ 2 ∷ 0 ∷ [])
+    (128 ∷ 10 ∷ 10 ∷ [])
+    (65535 ∷ 65535 ∷ 0 ∷ 65535 ∷ 0 ∷ 65535 ∷ [])
+    []
+
+-- Accepted; a slot that is not used; a Qubit discarded; a wire discarded and put out, or discarded twice; what Init makes left
+-- over.
+abbrev pub init-and-discard : List ListingCase
+init-and-discard =
+    init-with 65535 65535 (0 ∷ []) gives Accepted 0 1 1
+    ∷ discard-with 128 65535 [] gives Accepted 1 1 0
+    ∷ helper gives Accepted 1 4 1
+    ∷ init-with 0 65535 (0 ∷ []) gives Refused (Run 25 0)
+    ∷ init-with 65535 0 (0 ∷ []) gives Refused (Run 25 0)
+    ∷ discard-with 128 0 [] gives Refused (Run 25 1)
+    ∷ discard-with 129 65535 [] gives Refused (Run 26 1)
+    ∷ discard-with 128 65535 (0 ∷ []) gives Refused (Run 26 2)
+    ∷ discarded-twice gives Refused (Run 26 2)
+    ∷ init-with 65535 65535 [] gives Refused (Run 26 0)
+    ∷ []
+
 -- All of them.
 abbrev pub listing-cases : List ListingCase
-listing-cases = accepted-listings ++ (wrong-sizes ++ (most-sizes ++ (wrong-entries ++ (wrong-gates ++ (wrong-ends ++ two-faults)))))
+listing-cases =
+    accepted-listings
+    ++ (wrong-sizes ++ (most-sizes ++ (wrong-entries ++ (wrong-gates ++ (wrong-ends ++ (two-faults ++ init-and-discard))))))

@@ -4,6 +4,7 @@ use Rattle.cases.specs.Case.{Case}
 use Rattle.cases.specs.BaseCases.{base-cases}
 use Rattle.cases.specs.FirstFaults.{first-fault-cases}
 use Rattle.cases.specs.CopiedPairs.{pair-cases}
+use Rattle.cases.specs.UnitCases.{unit-cases}
 
 abbrev pub table : List Case
-table = base-cases ++ (first-fault-cases ++ pair-cases)
+table = base-cases ++ (first-fault-cases ++ (pair-cases ++ unit-cases))
