@@ -32,6 +32,6 @@ steps-bytes = 5 + (1 + 10) + 1
 abbrev pub refusal-bytes : ℕ
 refusal-bytes = 7 + (1 + 20) + (1 + 20) + 1
 
--- The least length of the buffer: 88,213 bytes.
+-- The least length of the buffer: 94,357 bytes.
 abbrev pub least-text : ℕ
 least-text = most-labels * input-bytes + most-gates * gate-bytes + out-bytes + steps-bytes

@@ -10,14 +10,25 @@ use Rattle.rules.specs.Terms.{Tuple, labels, Gate, _on_}
 use Rattle.rules.specs.Circuits.{Circuit, circuit, outputs, numbers}
 use Rattle.text.specs.Text.{ascii, decimal, line, joined}
 
--- 01, "Gates": "0 H, 1 X, 2 Z, 3 S, 4 T", "5 CNOT", "6 Meas", "7 BX, 8 BZ".
+-- 01, "Gates": "0 H, 1 X, 2 Z, 3 S, 4 T", "5 CNOT", "6 Meas", "7 BX, 8 BZ". 02, ticket 5: "9 Init", "10 Discard".
 abbrev pub gateNames : List (List ℕ)
 gateNames =
-    ascii "H" ∷ ascii "X" ∷ ascii "Z" ∷ ascii "S" ∷ ascii "T" ∷ ascii "CNOT" ∷ ascii "Meas" ∷ ascii "BX" ∷ ascii "BZ" ∷ []
+    ascii "H"
+    ∷ ascii "X"
+    ∷ ascii "Z"
+    ∷ ascii "S"
+    ∷ ascii "T"
+    ∷ ascii "CNOT"
+    ∷ ascii "Meas"
+    ∷ ascii "BX"
+    ∷ ascii "BZ"
+    ∷ ascii "Init"
+    ∷ ascii "Discard"
+    ∷ []
 
 -- The most letters of a name.
 abbrev pub longest-name : ℕ
-longest-name = 4
+longest-name = 7
 
 -- The name of a gate; a number that is no gate has none.
 unfoldable pub gateName : ℕ → List ℕ
@@ -32,7 +43,7 @@ wireName Qubit = ascii "Qubit"
 abbrev pub inputLine : ℕ → Wire → List ℕ
 inputLine w α = line (ascii "in") (decimal w ∷ wireName α ∷ [])
 
--- `gate`, name, wires taken, colon, wires made.
+-- `gate`, name, wires taken, colon, wires made. 02, ticket 5: "Where there is no wire, `wirelist` prints none".
 abbrev pub gateLine : ℕ → List ℕ → List ℕ → List ℕ
 gateLine n taken made = line (ascii "gate") (gateName n ∷ (map decimal taken ++ (ascii ":" ∷ map decimal made)))
 

@@ -1,6 +1,7 @@
 // The lines that wirelist prints for a listing or a refusal (01, "Listing").
 // Believe: specs/Lines and specs/Least.
-// Main theorem: in-order (specs/Theorems/Lines), of a circuit's listing these are the circuit's lines.
+// Main theorem: in-order (specs/Theorems/Lines), of a circuit's listing these are the circuit's lines; no line ends in a space
+// (lines-solid in specs/Theorems/Spaces).
 // Called by wirelist_io.
 pub mod names;
 pub mod numbers;
@@ -32,7 +33,7 @@ ghost use Rattle.listing.specs.Reading.{inputCount, gateCount, slotsFrom};
 ghost use Rattle.wirelist_lines.specs.LinesAt.{inputLineAt, gateLineAt, outLineAt, textAt, takenPart};
 
 // The least length of a buffer that holds every text, and of one that holds the line of every refusal.
-pub const LEAST_TEXT: usize = 88213;
+pub const LEAST_TEXT: usize = 94357;
 
 pub const REFUSAL_BYTES: usize = 50;
 

@@ -1,4 +1,4 @@
-// The names of the gates (01, "Gates").
+// The names of the gates (01, "Gates"; 02, ticket 5).
 use text::put_byte;
 ghost use Prim.Native.Nat.{_+_, _<_};
 ghost use mathlib.Core.Path.{_≡_};
@@ -8,7 +8,7 @@ ghost use Rattle.wirelist_lines.specs.Names.{nameRow};
 ghost use Rattle.text.specs.Writing.{Puts};
 
 // The most letters of a name, and what fills up a shorter one.
-const LONGEST_NAME: usize = 4;
+const LONGEST_NAME: usize = 7;
 
 const NONE: u8 = 255;
 
@@ -16,15 +16,17 @@ const NONE: u8 = 255;
 const COLUMNS: usize = 1 + LONGEST_NAME;
 
 const NAMES: [[u8; COLUMNS]; rules::GATES] = [
-    [1, b'H', NONE, NONE, NONE],
-    [1, b'X', NONE, NONE, NONE],
-    [1, b'Z', NONE, NONE, NONE],
-    [1, b'S', NONE, NONE, NONE],
-    [1, b'T', NONE, NONE, NONE],
-    [4, b'C', b'N', b'O', b'T'],
-    [4, b'M', b'e', b'a', b's'],
-    [2, b'B', b'X', NONE, NONE],
-    [2, b'B', b'Z', NONE, NONE],
+    [1, b'H', NONE, NONE, NONE, NONE, NONE, NONE],
+    [1, b'X', NONE, NONE, NONE, NONE, NONE, NONE],
+    [1, b'Z', NONE, NONE, NONE, NONE, NONE, NONE],
+    [1, b'S', NONE, NONE, NONE, NONE, NONE, NONE],
+    [1, b'T', NONE, NONE, NONE, NONE, NONE, NONE],
+    [4, b'C', b'N', b'O', b'T', NONE, NONE, NONE],
+    [4, b'M', b'e', b'a', b's', NONE, NONE, NONE],
+    [2, b'B', b'X', NONE, NONE, NONE, NONE, NONE],
+    [2, b'B', b'Z', NONE, NONE, NONE, NONE, NONE],
+    [4, b'I', b'n', b'i', b't', NONE, NONE, NONE],
+    [7, b'D', b'i', b's', b'c', b'a', b'r', b'd'],
 ];
 
 // What stands in a column of a gate's row.

@@ -2,11 +2,11 @@
 use mathlib.Core.Path.{_≡_, refl}
 use mathlib.Core.List.{[], _∷_}
 use Rattle.rules.specs.Types.{Bit, Qubit}
-use Rattle.rules.specs.Terms.{single, both, _on_}
+use Rattle.rules.specs.Terms.{single, empty, both, _on_}
 use Rattle.rules.specs.Circuits.{circuit}
 use Rattle.rules.specs.CaseTerms.{one-label, two-labels, H, CNOT, Meas}
 use Rattle.text.specs.Text.{ascii, decimal}
-use Rattle.wirelist_lines.specs.Lines.{gateName, gateLine, outLine, refusedLine, lines}
+use Rattle.wirelist_lines.specs.Lines.{gateName, refusedLine, lines}
 
 -- 01: "For case c3, whole". Its circuit and outputs are those of `c3-run` in crate rules.
 pub c3-lines
@@ -38,17 +38,13 @@ pub million : decimal 1000000 ≡ ascii "1000000"
 unfolding decimal
 million = refl
 
--- A gate that takes no wire, one that makes none, and no output.
-pub nothing-taken : gateLine H [] (7 ∷ []) ≡ ascii "gate H : 7\n"
+-- 02, ticket 5: "Where there is no wire, `wirelist` prints none". Init, gate 9, takes no wire, Discard, gate 10, makes none, and
+-- there is no output.
+pub helper-lines
+    : lines (circuit [] ((10 on 1 ∷ []) ∷ (Meas on 0 ∷ []) ∷ (9 on []) ∷ [])) empty 3
+    ≡ ascii "gate Init : 0\ngate Meas 0 : 1\ngate Discard 1 :\nout\nsteps 3\n"
 unfolding decimal gateName
-nothing-taken = refl
-
-pub nothing-made : gateLine H (7 ∷ []) [] ≡ ascii "gate H 7 :\n"
-unfolding decimal gateName
-nothing-made = refl
-
-pub nothing-out : outLine [] ≡ ascii "out\n"
-nothing-out = refl
+helper-lines = refl
 
 -- The empty file: 1, place 0. c7: 18, place 2.
 pub c7-line : refusedLine 18 2 ≡ ascii "refused 18 2\n"
