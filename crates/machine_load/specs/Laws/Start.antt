@@ -9,7 +9,7 @@ use lib.Seq.{drop-at}
 use Rattle.rules.specs.Types.{Wire, Bit, Ty, wire, entries, wireCode, typeCodes, most-entries}
 use Rattle.rules.specs.Gates.{nth}
 use Rattle.rules.specs.Terms.{single, boxed, Term, variable, label, gate, abstraction, application, pair, let-in, lift}
-use Rattle.rules.specs.Terms.{force, box, apply}
+use Rattle.rules.specs.Terms.{force, box, apply, unit-value}
 use Rattle.rules.specs.Sizes.{nodes, most-types}
 use Rattle.rules.specs.Steps.{start}
 use Rattle.rules.specs.Laws.TypeCodes.{entries-positive}
@@ -17,14 +17,14 @@ use Rattle.program.specs.Format.{labelCount, typeCount, termCount, firstTerm, k
 use Rattle.program.specs.Reading.{readOf}
 use Rattle.program.specs.Trees.{TypeAt, bit-at, qubit-at, tensor-at, function-at, reusable-at, circ-at, TypeAtPosition}
 use Rattle.program.specs.Trees.{at-position, TermAt, variable-at, label-at, abstraction-at, application-at, pair-at, let-at}
-use Rattle.program.specs.Trees.{lift-at, force-at, box-at, apply-at, gate-at, AcceptedFile}
+use Rattle.program.specs.Trees.{lift-at, force-at, box-at, apply-at, gate-at, AcceptedFile, unit-at, unit-value-at}
 use Rattle.program.specs.Theorems.Accepting.{read-sound}
 use Rattle.program.specs.Theorems.Programs.{accepted-nodes}
 use Rattle.program.specs.declared.ReadAnswer.the-variants.{Accepted}
 use Rattle.program.specs.Laws.TreeTraversal.{term-end, type-end}
 use Rattle.machine_terms.specs.Trees.{Tree, two, preorder, LeafKind, a-variable, a-label, a-gate, leafKind, OneKind}
 use Rattle.machine_terms.specs.Trees.{an-abstraction, a-lift, a-force, a-box, oneKind, TwoKind, an-application, a-pair}
-use Rattle.machine_terms.specs.Trees.{a-let, an-apply, twoKind, parts, ConstantFits, PositionFits, WellKinded}
+use Rattle.machine_terms.specs.Trees.{a-let, an-apply, twoKind, parts, ConstantFits, PositionFits, WellKinded, a-unit-value}
 use Rattle.machine_terms.specs.Meaning.{environment, leafTerm, oneTerm, twoTerm, meaning}
 use Rattle.machine_terms.specs.States.{startState, decode}
 use Rattle.machine_terms.specs.Laws.Kinds.{leafNumber, oneNumber, twoNumber, leaf-number-read, one-number-read}
@@ -55,7 +55,7 @@ module _ (f : List ℕ) (e most : ℕ) where
   with-parts k q =
       ap (λ k. built (λ t. length (preorder t)) (λ i. treeFrom most f i) e (withParts k (nodeFrom f e))) q
 
-  -- No part: variable, label, gate.
+  -- No part: variable, label, gate, unit's value.
   leaf-at : (c : LeafKind) (M : Term)
       → kindAt f e ≡ leafNumber c
       → ConstantFits c 0 (argumentAt f e)
@@ -140,6 +140,7 @@ tree-at {M = M} zero t d h = absurd (omega (arith, some-node M))
 tree-at {f} (suc most) t (variable-at {e = e} {x = x} k a) h = leaf-at f e most a-variable (variable x) k tt (ap variable a) refl
 tree-at {f} (suc most) t (label-at {e = e} {x = x} k a) h = leaf-at f e most a-label (label x) k tt (ap label a) refl
 tree-at {f} (suc most) t (gate-at {e = e} {x = x} k a) h = leaf-at f e most a-gate (gate x) k tt (ap gate a) refl
+tree-at {f} (suc most) t (unit-value-at {e = e} k a) h = leaf-at f e most a-unit-value unit-value k tt refl refl
 tree-at {f} (suc most) t (abstraction-at {e = e} {A = A} {M = M} k p d) h =
     one-at f e most an-abstraction M (abstraction A M) k (position-inside f (argumentAt f e) A p)
     (tree-at most t d (omega arith)) (ap (λ A. abstraction A M) (named-read e t p)) (omega arith)
@@ -186,6 +187,7 @@ both-kinds f e m A B at a b =
 type-kinds : {f : List ℕ} {e n : ℕ} {A : Ty} → TypeAt f e A n → typeCodes A ≡ valuesFrom (kindAt f) e (entries A)
 type-kinds {f} (bit-at {e = e} k) = first-kind f e 0 0 [] k (sym (no-values (kindAt f) (suc e)))
 type-kinds {f} (qubit-at {e = e} k) = first-kind f e 1 0 [] k (sym (no-values (kindAt f) (suc e)))
+type-kinds {f} (unit-at {e = e} k) = first-kind f e 6 0 [] k (sym (no-values (kindAt f) (suc e)))
 type-kinds {f} (tensor-at {e = e} {m = m} {A = A} {B = B} k d d′) =
     first-kind f e 2 (entries A + entries B) (typeCodes A ++ typeCodes B) k
     (both-kinds f (suc e) m A B (type-end d) (type-kinds d) (type-kinds d′))
