@@ -14,7 +14,7 @@ use Rattle.rules.specs.Circuits.{Circuit, circuit, appended, returned}
 use Rattle.rules.specs.Sizes.{most-gates}
 use Rattle.rules.specs.Demand3.{ProgramHas}
 use Rattle.machine_terms.specs.Trees.{Node, kind, argument, Tree, leaf, tupleOfTree, tupleTree, LeafKind, a-variable}
-use Rattle.machine_terms.specs.Trees.{a-label, a-gate, a-constant, leafKind, an-apply, twoKind, ConstantFits}
+use Rattle.machine_terms.specs.Trees.{a-label, a-gate, a-constant, leafKind, an-apply, twoKind, ConstantFits, a-unit-value}
 use Rattle.machine_terms.specs.Holes.{Hole, second}
 use Rattle.machine_terms.specs.Walks.{Walk, evaluating, returning, at-apply, Stopped, stopped-apply}
 use Rattle.machine_terms.specs.States.{state, decode, StateFits}
@@ -64,6 +64,7 @@ number-below : (c : LeafKind) (closed a : ℕ) → ConstantFits c closed a → c
 number-below a-variable closed a f e = let z : _≡_ {A = ℕ} 0 1 = cc in absurd (omega arith)
 number-below a-label closed a f e = let z : _≡_ {A = ℕ} 0 1 = cc in absurd (omega arith)
 number-below a-gate closed a f e = let z : _≡_ {A = ℕ} 0 1 = cc in absurd (omega arith)
+number-below a-unit-value closed a f e = let z : _≡_ {A = ℕ} 0 1 = cc in absurd (omega arith)
 number-below a-constant closed a f e = f
 
 module _ (allowance : ℕ) (m m′ : Memory) (r : StateNumbers) (answer : Stepped) where

@@ -6,7 +6,7 @@ use mathlib.Core.List.{List, _∷_, _++_, map}
 use mathlib.Core.Option.{some}
 use lib.ListN.{length, set, take, drop, length-append, length-map, length-set}
 use Rattle.rules.specs.Types.{Wire, Ty, wires, most-entries}
-use Rattle.rules.specs.Terms.{Tuple, single, both, labels, Gate, Boxed, boxed}
+use Rattle.rules.specs.Terms.{Tuple, single, both, labels, Gate, Boxed, boxed, empty}
 use Rattle.rules.specs.Circuits.{Circuit, circuit, wireCount, outputs, renameGate, renameTuple, appended, returned}
 use Rattle.rules.specs.Sizes.{closedGates, most-gates, most-boxes}
 use Rattle.machine_terms.specs.Trees.{Node, argument, Tree, leaf, preorder, tupleOfTree, tupleTree}
@@ -20,7 +20,7 @@ use Rattle.machine_walk.specs.Places.{Holds}
 use Rattle.machine_walk.specs.Laws.Redexes.{SecondRedex, second-redex, first-leaf, gap-wide, reduct-written}
 use Rattle.words.specs.Quadwords.{Quadword, quadword, quadwordAt, wordIn}
 use Rattle.machine_circuits.specs.Layout.{gatesIn, tupleWords, closed-from, most-result, results-each, HoldsBoxed}
-use Rattle.rules.specs.Slots.{no-wire}
+use Rattle.rules.specs.Slots.{no-wire, gate-slots}
 use Rattle.machine_circuits.specs.Copies.{CopyFits, GatesCopied}
 use Rattle.machine_circuits.specs.Results.{LabelsCollected, ResultFits, resultNodes}
 use Rattle.machine_circuits.specs.Laws.Tuples.{wires-few}
@@ -40,6 +40,7 @@ use Rattle.machine_state.specs.Laws.Frames.{frames-top-set, frames-few}
 renamed-size : (ks : List ℕ) (next : ℕ) (y : Tuple)
     → length (preorder (tupleTree (renameTuple ks next y))) ≡ length (tupleWords y)
 renamed-size ks next (single ℓ) = refl
+renamed-size ks next empty = refl
 renamed-size ks next (both k l) =
     omega (
       arith,
@@ -203,19 +204,14 @@ module _ (types : ℕ → Ty) (positions : ℕ) (m : Memory) (x : Redex) (r : St
             w .labels-room,
           )
 
+      -- The closed circuit has few wires.
+      wires-low : length (wires T ++ outputs copied) ≤ most-entries + gate-slots * most-gates
+      wires-low =
+          omega (arith, few-wires (wires T) copied, wires-few T, typed .bounded, d .few-earlier, h .built .few-gates)
+
       -- The new numbers are 16-bit numbers.
       numbers-low : x .next + length (wires T ++ outputs copied) ≤ no-wire
-      numbers-low =
-          omega (
-            arith,
-            d .next-is,
-            d .few-next,
-            few-wires (wires T) copied,
-            wires-few T,
-            typed .bounded,
-            d .few-earlier,
-            h .built .few-gates,
-          )
+      numbers-low = omega (arith, d .next-is, d .few-next, wires-low)
 
       -- The gates are copied behind those of the innermost circuit, which is then the appended one.
       gates-copied : GatesCopied (m .gates) gs′ (wordIn (quadwordAt (m .circuits) (x .index)) 1)
@@ -266,6 +262,7 @@ module _ (types : ℕ → Ty) (positions : ℕ) (m : Memory) (x : Redex) (r : St
           (length (wires T ++ outputs copied)) (length (m .nodes)) to (length ls) found (x .next) (d .held) (typed .below)
           (omega (arith, d .nodes-are, room .gap, room .inside))
           labels-enough
+          (omega (arith, wires-low))
           numbers-low in
           w .loaded y (length (wires T ++ outputs copied))
           (subst

@@ -7,7 +7,7 @@ use mathlib.Core.List.{List, []}
 use lib.Dec.{ltb}
 use lib.ListN.{length}
 use borrow.Author.Tests.{ltb-true, ltb-false}
-use Rattle.rules.specs.Terms.{Tuple, single, both}
+use Rattle.rules.specs.Terms.{Tuple, single, both, empty}
 use Rattle.machine_circuits.specs.Layout.{tupleWords, fourResults}
 use Rattle.machine_circuits.specs.Results.{ResultFits}
 use Rattle.machine_circuits.specs.Laws.Writing.{result-inside}
@@ -41,6 +41,7 @@ fits-in results k m b b′ from from′ count size to available n next e e′ fi
 -- A result has at least one word.
 some-word : (k : Tuple) → 0 < length (tupleWords k)
 some-word (single ℓ) = omega arith
+some-word empty = omega arith
 some-word (both k l) = omega arith
 
 -- There is no other buffer, so no result can be loaded from one.
