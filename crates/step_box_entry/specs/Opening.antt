@@ -25,7 +25,7 @@ use Rattle.step_box_entry.specs.declared.Measured.{Measured}
 use Rattle.step_box_entry.specs.declared.Measured.the-variants.{Fits, Exceeds}
 
 -- The term of the new frame, the lift's body t applied to one label for each wire of T, left to right from 0 (01: "evaluates
--- M applied to that tuple").
+-- M applied to that tuple"), with unit's value where T has unit (02, ticket 5).
 abbrev pub applied : Ty → Tree → Tree
 applied T t = two (node application-kind 0) t (tupleTree (tupleFrom 0 T))
 
