@@ -54,16 +54,16 @@ statements =
     ∷ unwritten
     ∷ []
 
--- Is there a statement that is written?
+-- Is it written, as far as it is a gate? What is no gate is refused before this is asked.
 abbrev pub isWritten : Option Statement → Bool
-isWritten none = false
+isWritten none = true
 isWritten (some (on-one name)) = true
 isWritten (some (on-two name)) = true
 isWritten (some measurement) = true
 isWritten (some (under-bit name)) = true
 isWritten (some unwritten) = false
 
--- Has the gate with this number a statement? Init and Discard have none, and what is no gate has none.
+-- Has the gate with this number a statement? Init and Discard have none.
 unfoldable pub hasStatement : ℕ → Bool
 hasStatement n = isWritten (nth statements n)
 

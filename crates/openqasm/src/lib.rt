@@ -25,6 +25,11 @@ pub enum Conversion {
     Refused(Refusal),
 }
 
+// The gates for which OpenQASM has no word.
+const INIT: usize = 9;
+
+const DISCARD: usize = 10;
+
 // The names of the gates on one qubit: H, X, Z, S, T.
 const LETTERS: [u8; 5] = [b'h', b'x', b'z', b's', b't'];
 
@@ -133,14 +138,14 @@ fn write_under_bit(text: &mut [u8], at: usize, gate: usize, r: usize, s: usize) 
     write_last(text, named, s)
 }
 
-// Has the gate a statement? Init and Discard, and what is no gate, have none.
+// Has the gate a statement? Init and Discard have none.
 pub fn has_statement(gate: usize) -> bool
     ensures { λ r. ⌜ r ≡ hasStatement gate ⌝ }
 {
-    gate < 9
+    (gate != INIT) & (gate != DISCARD)
 }
 
-// The line of a gate whose wires are in these registers; nothing where the gate has no statement.
+// The line of a gate whose wires are in these registers; nothing where it has no statement or there is no such gate.
 pub fn write_gate(text: &mut [u8], at: usize, gate: usize, r: usize, s: usize) -> usize
     ensures { λ last. ⌜ Puts (now (text .entry)) at (gateLine gate (r ∷ s ∷ [])) (now (text .exit)) last ⌝ }
 {

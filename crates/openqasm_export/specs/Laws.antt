@@ -1,4 +1,5 @@
 pub mod Places
 pub mod Writing
 pub mod Longest
+pub mod Statements
 pub mod Answering

@@ -1,7 +1,8 @@
-// The export of a listing to OpenQASM 2.0 (02, ticket 4).
+// The export of a listing to OpenQASM 2.0 (02, ticket 4), with refusal 28 (ticket 5).
 // Believe: specs/Answers.
-// Main law: sound-fits (specs/Laws/Longest), that no text is longer than 55,211 bytes.
-// write_text is the core, for the import too. Called by cabinet and by qasmout.
+// Main theorem: twenty-eight (specs/Theorems/Exports), where 28 is the answer. Main law: sound-fits (specs/Laws/Longest), that no text
+// is longer than 55,211 bytes.
+// check_export and write_text are the core, for the import too. Called by cabinet and by qasmout.
 mod places;
 
 use listing::ENTRY_SLOTS;
@@ -15,6 +16,7 @@ use listing_check::LEAST_WORK;
 use listing_check::ListingAnswer;
 use listing_check::check_uncleared;
 use openqasm::Conversion;
+use openqasm::has_statement;
 use openqasm::write_declaration;
 use openqasm::write_gate;
 use openqasm::write_header;
@@ -42,15 +44,59 @@ ghost use Rattle.text.specs.Writing.{Puts};
 ghost use Rattle.text.specs.Written.{Written};
 ghost use Rattle.listing.specs.Reading.{inputsOf, gatesOf, outputsOf};
 ghost use Rattle.listing_check.specs.Wires.{Whole};
-ghost use Rattle.listing_check.specs.Answers.{listingCheckOf, most-wires};
-ghost use Rattle.openqasm.specs.Layout.{declarations, gateLines, outputName, outputLine, exportOf, most-text};
-ghost use Rattle.openqasm_export.specs.Answers.{exportedAs, outAfter, exportAnswer, exportBytes};
+ghost use Rattle.listing_check.specs.Answers.{most-wires};
+ghost use Rattle.wire_table.specs.Table.{oneMore};
+ghost use Rattle.openqasm.specs.Layout.{AllWritten, declarations, gateLines, outputName, outputLine, exportOf, most-text};
+ghost use Rattle.openqasm_export.specs.Answers.{firstUnwritten, exportCheckOf, exportedAs, outAfter, exportAnswer, exportBytes};
 ghost use Rattle.openqasm_export.specs.Places.{placesOf, Begins};
 
 // No text is longer.
 pub const MOST_TEXT: usize = 36 + 26 * MOST_LABELS + 26 * MOST_GATES + (7 + 4 * MOST_LABELS);
 
 const LINE_END: u8 = 10;
+
+// The first gate entry whose gate has no statement: one more than its number, or 0 where every gate has one.
+fn unwritten_entry(listing: &[u8]) -> usize
+    ensures { λ r. ⌜ r ≡ oneMore (firstUnwritten (now (listing .entry))) ⌝ }
+{
+    let inputs = input_count(listing);
+    let count = inputs + gate_count(listing);
+    let mut i = inputs;
+    while i < count {
+        if !has_statement(kind_at(listing, i)) {
+            return i + 1;
+        }
+        i += 1;
+    }
+    0
+}
+
+// The check of a listing that is to be exported, without clearing its working memory, which has to be long enough.
+pub fn check_export(listing: &[u8], work: &mut [u8]) -> ListingAnswer
+    ensures { λ r. ⌜ (most-wires ≤ length (now (work .entry)) → r ≡ exportCheckOf (now (listing .entry))) ⌝ }
+{
+    match check_uncleared(listing, work) {
+        ListingAnswer::Accepted {
+            inputs,
+            gates,
+            outputs,
+        } => {
+            let entry = unwritten_entry(listing);
+            if 0 < entry {
+                return ListingAnswer::Refused(Refusal::Run {
+                    number: 28,
+                    place: entry - 1,
+                });
+            }
+            ListingAnswer::Accepted {
+                inputs,
+                gates,
+                outputs,
+            }
+        }
+        ListingAnswer::Refused(refusal) => ListingAnswer::Refused(refusal),
+    }
+}
 
 // The declarations of the inputs; their places are put into a table of zeros.
 fn write_inputs(listing: &[u8], table: &mut [u8], text: &mut [u8], at: usize) -> usize
@@ -70,11 +116,13 @@ fn write_inputs(listing: &[u8], table: &mut [u8], text: &mut [u8], at: usize) ->
     here
 }
 
-// The lines of the gates. The table has the places of the inputs, and then those of all wires.
+// The lines of the gates, which have to have statements. The table has the places of the inputs, and then those of all wires.
 fn write_gates(listing: &[u8], table: &mut [u8], text: &mut [u8], at: usize) -> usize
     requires { ⌜ Begins (now table) (placesOf (inputsOf (now listing)) []) × Whole (now listing) (now table) ⌝ }
-    ensures { λ r. ⌜ Puts (now (text .entry)) at (gateLines (inputsOf (now (listing .entry))) (gatesOf (now (listing .entry)))) (now (text .exit)) r ⌝ }
-    ensures { λ r. ⌜ Begins (now (table .exit)) (placesOf (inputsOf (now (listing .entry))) (gatesOf (now (listing .entry)))) ⌝ }
+    ensures { λ r. ⌜ (AllWritten (gatesOf (now (listing .entry)))
+        → Puts (now (text .entry)) at (gateLines (inputsOf (now (listing .entry))) (gatesOf (now (listing .entry)))) (now (text .exit)) r) ⌝ }
+    ensures { λ r. ⌜ (AllWritten (gatesOf (now (listing .entry)))
+        → Begins (now (table .exit)) (placesOf (inputsOf (now (listing .entry))) (gatesOf (now (listing .entry))))) ⌝ }
 {
     let inputs = input_count(listing);
     let gates = gate_count(listing);
@@ -97,9 +145,10 @@ fn write_gates(listing: &[u8], table: &mut [u8], text: &mut [u8], at: usize) -> 
 
 // The names of the outputs, each behind a space. The table has the places of all wires.
 fn write_names(listing: &[u8], table: &[u8], text: &mut [u8], at: usize) -> usize
-    requires { ⌜ Begins (now table) (placesOf (inputsOf (now listing)) (gatesOf (now listing))) ⌝ }
-    ensures { λ r. ⌜ Puts (now (text .entry)) at
-        (spaced (map (outputName (inputsOf (now (listing .entry))) (gatesOf (now (listing .entry)))) (outputsOf (now (listing .entry))))) (now (text .exit)) r ⌝ }
+    ensures { λ r. ⌜ (AllWritten (gatesOf (now (listing .entry)))
+        → Begins (now (table .entry)) (placesOf (inputsOf (now (listing .entry))) (gatesOf (now (listing .entry))))
+        → Puts (now (text .entry)) at
+        (spaced (map (outputName (inputsOf (now (listing .entry))) (gatesOf (now (listing .entry)))) (outputsOf (now (listing .entry))))) (now (text .exit)) r) ⌝ }
 {
     let count = output_count(listing);
     let from = outputs_from(listing);
@@ -113,22 +162,23 @@ fn write_names(listing: &[u8], table: &[u8], text: &mut [u8], at: usize) -> usiz
     here
 }
 
-// The last line.
+// The last line, likewise.
 fn write_outputs(listing: &[u8], table: &[u8], text: &mut [u8], at: usize) -> usize
-    requires { ⌜ Begins (now table) (placesOf (inputsOf (now listing)) (gatesOf (now listing))) ⌝ }
-    ensures { λ r. ⌜ Puts (now (text .entry)) at
-        (outputLine (inputsOf (now (listing .entry))) (gatesOf (now (listing .entry))) (outputsOf (now (listing .entry)))) (now (text .exit)) r ⌝ }
+    ensures { λ r. ⌜ (AllWritten (gatesOf (now (listing .entry)))
+        → Begins (now (table .entry)) (placesOf (inputsOf (now (listing .entry))) (gatesOf (now (listing .entry))))
+        → Puts (now (text .entry)) at
+        (outputLine (inputsOf (now (listing .entry))) (gatesOf (now (listing .entry))) (outputsOf (now (listing .entry)))) (now (text .exit)) r) ⌝ }
 {
     let begun = put_bytes(text, at, b"// out");
     let named = write_names(listing, table, text, begun);
     put_byte(text, named, LINE_END)
 }
 
-// The text of a listing within the sizes is written from the start of a text, as much of it as that holds; answers how many bytes.
-// The table, one byte a wire, is zero before.
+// The text of a listing within the sizes, whose gates have statements, is written from the start of a text, as much of it as that
+// holds; answers how many bytes. The table, one byte a wire, is zero before.
 fn write_parts(listing: &[u8], table: &mut [u8], text: &mut [u8]) -> usize
     requires { ⌜ Begins (now table) [] × Whole (now listing) (now table) ⌝ }
-    ensures { λ r. ⌜ Written (now (text .entry)) (exportOf (now (listing .entry))) (now (text .exit)) r ⌝ }
+    ensures { λ r. ⌜ (AllWritten (gatesOf (now (listing .entry))) → Written (now (text .entry)) (exportOf (now (listing .entry))) (now (text .exit)) r) ⌝ }
 {
     let headed = write_header(text, 0);
     let declared = write_inputs(listing, table, text, headed);
@@ -138,7 +188,9 @@ fn write_parts(listing: &[u8], table: &mut [u8], text: &mut [u8]) -> usize
 
 // The same with a table that may hold anything; nothing is written where a size is beyond its most or the table is too short.
 pub fn write_text(listing: &[u8], table: &mut [u8], text: &mut [u8]) -> usize
-    ensures { λ r. ⌜ (Whole (now (listing .entry)) (now (table .entry)) → Written (now (text .entry)) (exportOf (now (listing .entry))) (now (text .exit)) r) ⌝ }
+    ensures { λ r. ⌜ (Whole (now (listing .entry)) (now (table .entry))
+        → AllWritten (gatesOf (now (listing .entry)))
+        → Written (now (text .entry)) (exportOf (now (listing .entry))) (now (text .exit)) r) ⌝ }
 {
     if table.len() < LEAST_WORK {
         return 0;
@@ -156,10 +208,10 @@ pub fn write_text(listing: &[u8], table: &mut [u8], text: &mut [u8]) -> usize
 // The export with buffers that are long enough, without clearing the working memory.
 fn export_uncleared(listing: &[u8], out: &mut [u8], work: &mut [u8]) -> Conversion
     requires { ⌜ (most-text ≤ length (now out)) × (most-wires ≤ length (now work)) ⌝ }
-    ensures { λ r. ⌜ r ≡ exportedAs (now (listing .entry)) (listingCheckOf (now (listing .entry))) ⌝ }
-    ensures { λ r. ⌜ now (out .exit) ≡ outAfter (now (listing .entry)) (listingCheckOf (now (listing .entry))) (now (out .entry)) ⌝ }
+    ensures { λ r. ⌜ r ≡ exportedAs (now (listing .entry)) (exportCheckOf (now (listing .entry))) ⌝ }
+    ensures { λ r. ⌜ now (out .exit) ≡ outAfter (now (listing .entry)) (exportCheckOf (now (listing .entry))) (now (out .entry)) ⌝ }
 {
-    match check_uncleared(listing, work) {
+    match check_export(listing, work) {
         ListingAnswer::Accepted {
             inputs: _,
             gates: _,

@@ -2,11 +2,10 @@
 use native.Mathlib.Omega.{arith}
 use mathlib.Core.Path.{sym, ap, _∙_}
 use mathlib.Core.List.{[], _∷_}
-use borrow.Author.Tests.{le-ltb}
 use Rattle.text.specs.Laws.Writing.{puts-none, puts-same}
 use Rattle.openqasm.specs.Layout.{gateLine}
 use Rattle.openqasm.specs.Lines.{oneLine}
-use Rattle.openqasm.specs.Laws.Lines.{gate-on-one, gate-cnot, gate-measured, statement-told, no-line}
+use Rattle.openqasm.specs.Laws.Lines.{gate-on-one, gate-cnot, gate-measured, no-line}
 use borrow.Author.Needs.{needs}
 use Rattle.openqasm.proofs.write_gate.Statement.{statement}
 use Rattle.openqasm.proofs.write_gate.Tie as tie
@@ -51,7 +50,7 @@ returns-4 : tie.Need-returns-4
 returns-4 c = c .before .before .write-under-bit .ensures
 
 returns-5 : tie.Need-returns-5
-returns-5 c = let a = c .before .before .before .before .before .args in puts-same (sym (no-line (a .gate) (a .r ∷ a .s ∷ []) (statement-told (a .gate) ∙ le-ltb (a .gate) 9 (c .if4 .left)))) (puts-none _ (a .at))
+returns-5 c = let a = c .before .before .before .before .before .args in puts-same (sym (no-line (a .gate) (a .r ∷ a .s ∷ []) (c .if4 .left))) (puts-none _ (a .at))
 
 pub write-gate-spec : {M : Type 1} → statement M
 write-gate-spec =

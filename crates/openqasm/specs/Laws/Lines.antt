@@ -1,22 +1,19 @@
 -- Laws of specs/Layout.antt: a line by its parts.
 use Prim.Native.Nat.{ℕ, zero, suc, _+_, _≤_, _<_}
 use native.Mathlib.Omega.{arith}
-use mathlib.Core.Path.{_≡_, refl, sym, _∙_, ap}
-use mathlib.Core.Bool.{false, true≢false}
+use mathlib.Core.Path.{_≡_, refl, sym, _∙_, ap, ap₂}
+use mathlib.Core.Bool.{not, _&&_}
 use mathlib.Core.List.{List, [], _∷_, _++_, append-assoc, append-nil}
-use mathlib.Core.Option.{Option, none, some}
-use lib.Dec.{ltb}
+use lib.Dec.{eqb}
 use lib.ListN.{getD}
-use borrow.Author.Tests.{le-ltb}
+use borrow.Author.Tests.{ne-eqb}
 use Rattle.rules.specs.Types.{Wire, Qubit}
-use Rattle.rules.specs.Gates.{nth}
 use Rattle.listing.specs.Reading.{inputType}
 use Rattle.text.specs.Text.{ascii, decimal}
 use Rattle.text.specs.Writing.{Puts}
 use Rattle.text.specs.Laws.Writing.{puts-both, puts-same}
 use Rattle.openqasm.specs.Lines.{letters, oneLine, twoLine}
-use Rattle.openqasm.specs.Layout.{bitRegister, declaration, Statement, on-one, on-two, measurement, under-bit, unwritten}
-use Rattle.openqasm.specs.Layout.{statements, isWritten, hasStatement, statementLine, gateLine}
+use Rattle.openqasm.specs.Layout.{bitRegister, declaration, hasStatement, gateLine}
 
 -- The lines of the gates.
 pub gate-on-one : (n r s : ℕ) → n < 5 → oneLine (getD letters n 0) r ≡ gateLine n (r ∷ s ∷ [])
@@ -44,8 +41,24 @@ pub gate-bz : (r s : ℕ) → twoLine (ascii "if(c") r (ascii "==1) z q") s ≡ 
 unfolding gateLine
 gate-bz r s = refl
 
--- Which gates have a statement, by their numbers.
-pub statement-told : (n : ℕ) → hasStatement n ≡ ltb n 9
+-- Init and Discard have no line, and a number that is no gate has none.
+pub no-line : (n : ℕ) (rs : List ℕ) → 9 ≤ n → gateLine n rs ≡ []
+unfolding gateLine
+no-line zero rs h = absurd (omega arith)
+no-line (suc zero) rs h = absurd (omega arith)
+no-line (suc (suc zero)) rs h = absurd (omega arith)
+no-line (suc (suc (suc zero))) rs h = absurd (omega arith)
+no-line (suc (suc (suc (suc zero)))) rs h = absurd (omega arith)
+no-line (suc (suc (suc (suc (suc zero))))) rs h = absurd (omega arith)
+no-line (suc (suc (suc (suc (suc (suc zero)))))) rs h = absurd (omega arith)
+no-line (suc (suc (suc (suc (suc (suc (suc zero))))))) rs h = absurd (omega arith)
+no-line (suc (suc (suc (suc (suc (suc (suc (suc zero)))))))) rs h = absurd (omega arith)
+no-line (suc (suc (suc (suc (suc (suc (suc (suc (suc zero))))))))) rs h = refl
+no-line (suc (suc (suc (suc (suc (suc (suc (suc (suc (suc zero)))))))))) rs h = refl
+no-line (suc (suc (suc (suc (suc (suc (suc (suc (suc (suc (suc n))))))))))) rs h = refl
+
+-- Which gates have no statement, by their numbers.
+pub statement-told : (n : ℕ) → hasStatement n ≡ not (eqb n 9) && not (eqb n 10)
 unfolding hasStatement
 statement-told zero = refl
 statement-told (suc zero) = refl
@@ -58,20 +71,9 @@ statement-told (suc (suc (suc (suc (suc (suc (suc zero))))))) = refl
 statement-told (suc (suc (suc (suc (suc (suc (suc (suc zero)))))))) = refl
 statement-told (suc (suc (suc (suc (suc (suc (suc (suc (suc zero))))))))) = refl
 statement-told (suc (suc (suc (suc (suc (suc (suc (suc (suc (suc zero)))))))))) = refl
-statement-told (suc (suc (suc (suc (suc (suc (suc (suc (suc (suc (suc n))))))))))) = sym (le-ltb (suc (suc (suc (suc (suc (suc (suc (suc (suc (suc (suc n))))))))))) 9 (omega arith))
-
--- A gate that has no statement has no line.
-pub no-line : (n : ℕ) (rs : List ℕ) → hasStatement n ≡ false → gateLine n rs ≡ []
-unfolding hasStatement gateLine
-no-line n rs = of (nth statements n)
-  where
-    of : (s : Option Statement) → isWritten s ≡ false → statementLine s (getD rs 0 0) (getD rs 1 0) ≡ []
-    of none e = refl
-    of (some (on-one name)) e = absurd (true≢false e)
-    of (some (on-two name)) e = absurd (true≢false e)
-    of (some measurement) e = absurd (true≢false e)
-    of (some (under-bit name)) e = absurd (true≢false e)
-    of (some unwritten) e = refl
+statement-told (suc (suc (suc (suc (suc (suc (suc (suc (suc (suc (suc n))))))))))) =
+    let m = suc (suc (suc (suc (suc (suc (suc (suc (suc (suc (suc n)))))))))) in
+    sym (ap₂ (λ s t. not s && not t) (ne-eqb m 9 (λ e. omega arith)) (ne-eqb m 10 (λ e. omega arith)))
 
 -- The declarations of a Qubit are written.
 pub puts-qubit : (k : ℕ) {t₀ t₁ t₂ t₃ : List ℕ} {at₀ at₁ at₂ at₃ : ℕ}

@@ -15,7 +15,7 @@ use Rattle.listing.specs.Reading.{inputCount, kindAt, slotsFrom, firstGates}
 use Rattle.listing.specs.Laws.Decoding.{length-words}
 use Rattle.openqasm.specs.Layout.{hasStatement, AllWritten, registersOf}
 
--- A gate that has a statement makes as many wires as it takes.
+-- A gate that has a statement makes as many wires as it takes; a number that is no gate takes and makes none.
 pub as-many : (n : ℕ) → IsTrue (hasStatement n) → length (gateOutputs n) ≡ wiresIn n
 unfolding hasStatement wiresIn
 as-many zero written = refl
@@ -29,7 +29,7 @@ as-many (suc (suc (suc (suc (suc (suc (suc zero))))))) written = refl
 as-many (suc (suc (suc (suc (suc (suc (suc (suc zero)))))))) written = refl
 as-many (suc (suc (suc (suc (suc (suc (suc (suc (suc zero))))))))) written = absurd written
 as-many (suc (suc (suc (suc (suc (suc (suc (suc (suc (suc zero)))))))))) written = absurd written
-as-many (suc (suc (suc (suc (suc (suc (suc (suc (suc (suc (suc n))))))))))) written = absurd written
+as-many (suc (suc (suc (suc (suc (suc (suc (suc (suc (suc (suc n))))))))))) written = refl
 
 -- Each gate has as many wires as its number says.
 abbrev pub AllCounted : List Gate → Type 0

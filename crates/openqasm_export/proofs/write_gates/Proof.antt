@@ -101,8 +101,8 @@ loop-again c =
       gate-next b (a .text .now) (a .at) w (c .before .before .before .before .before .before .before .before .before .before .place-at .result) (c .before .before .before .before .before .before .before .before .place-at2 .result) (c .before .before .before .before .before .before .before .before .before .before .place-at .ensures .0 ∙ first) (c .before .before .before .before .before .before .before .before .place-at2 .ensures .0 ∙ second) (c .before .before .keep-places .last .1 .1 .1 .0) (c .before .before .keep-places .result)
           (subst (λ n. Puts (s .text) (s .here) (gateLine n (c .before .before .before .before .before .before .before .before .before .before .place-at .result / 2 ∷ c .before .before .before .before .before .before .before .before .place-at2 .result / 2 ∷ [])) (c .before .before .before .before .before .before .write-gate .last .0) (c .before .before .before .before .before .before .write-gate .result)) kind (c .before .before .before .before .before .before .write-gate .ensures))
           (c .before .before .keep-places .ensures .0 ∙ ap (λ n. s .made + wiresOut n) kind)
-          (subst (λ n. Begins (c .before .before .keep-places .last .1 .1 .1 .0) (placesOf (inputsOf b) (firstGates b (s .i)) ++ keptPlaces n (c .before .before .before .before .before .before .before .before .before .before .place-at .result) (c .before .before .before .before .before .before .before .before .place-at2 .result))) kind
-          (c .before .before .keep-places .ensures .1 _ (w .placed) (places-made b (a .text .now) (a .at) w) room)),
+          (λ written. subst (λ n. Begins (c .before .before .keep-places .last .1 .1 .1 .0) (placesOf (inputsOf b) (firstGates b (s .i)) ++ keptPlaces n (c .before .before .before .before .before .before .before .before .before .before .place-at .result) (c .before .before .before .before .before .before .before .before .place-at2 .result))) kind
+          (c .before .before .keep-places .ensures .1 _ (w .placed written) (places-made b (a .text .now) (a .at) w written) room)),
     )
 
 same-length : tie.Need-same-length Inv-loop μ-loop

@@ -5,14 +5,20 @@ use native.Mathlib.Omega.{arith}
 use mathlib.Core.Path.{_≡_, refl, _∙_, ap}
 use lib.ListN.{length, getD}
 use Rattle.words.specs.Numbers.{wordAt}
-use Rattle.listing.specs.Reading.{outputCount}
+use Rattle.listing.specs.Reading.{outputCount, inputsOf, gatesOf}
+use Rattle.openqasm.specs.Layout.{AllWritten}
+use Rattle.openqasm_export.specs.Places.{placesOf, Begins}
 use Rattle.openqasm_export.specs.Laws.Writing.{OutputsWritten, outputs-start, outputs-next, outputs-end}
 use Rattle.openqasm_export.proofs.write_names.Statement.{statement}
 use Rattle.openqasm_export.proofs.write_names.Tie as tie
 
 abbrev Inv-loop : tie.InvT-loop
 Inv-loop listing table text₀ at count from here₀ j₀ text here j =
-    (j ≤ count) × (length text ≡ length text₀) × OutputsWritten listing text₀ at text here j
+    (j ≤ count)
+    × (length text ≡ length text₀)
+    × (AllWritten (gatesOf listing)
+    → Begins table (placesOf (inputsOf listing) (gatesOf listing))
+    → OutputsWritten listing text₀ at text here j)
 
 abbrev μ-loop : tie.MeasureT-loop
 μ-loop listing table text₀ at count from here₀ j₀ text here j = count - j
@@ -24,7 +30,7 @@ outputs-from-requires : tie.Need-outputs-from-requires Inv-loop μ-loop
 outputs-from-requires c κs = search needs
 
 loop-holds : tie.Need-loop-holds Inv-loop μ-loop
-loop-holds c = let a = c .before .before .before .before .before .args in (omega arith, refl, outputs-start (a .listing .now) (a .text .now) (a .at))
+loop-holds c = let a = c .before .before .before .before .before .args in (omega arith, refl, λ written begun. outputs-start (a .listing .now) (a .text .now) (a .at))
 
 mul-word-at : tie.Need-mul-word-at Inv-loop μ-loop
 mul-word-at c = search (needs, c .loop-test .taken, c .before .before .before .output-count .ensures .1)
@@ -58,7 +64,7 @@ loop-again c =
     let below : s .j < outputCount b = omega (arith, c .before .before .before .before .before .before .loop-test .taken, c .before .before .before .before .before .before .before .before .before .output-count .ensures .0) in (
       omega (arith, c .before .before .before .before .before .before .loop-test .taken),
       c .before .before .write-output .kept .0 ∙ s .inv .1,
-      outputs-next b (a .text .now) (a .at) (c .before .before .before .before .byte-at .result) (s .inv .2) (c .before .before .before .before .before .before .before .before .before .before .before .before .before .pre) below
+      λ written begun. outputs-next b (a .text .now) (a .at) (c .before .before .before .before .byte-at .result) (s .inv .2 written begun) written begun below
           (c .before .before .before .before .byte-at .ensures ∙ ap (λ w. getD (a .table .now) w 0) (c .before .before .before .before .before .word-at .ensures .0 ∙ ap (λ n. wordAt b (n + 2 * s .j)) (c .before .before .before .before .before .before .before .before .outputs-from .ensures .0)))
           (c .before .before .write-output .ensures),
     )
@@ -67,7 +73,7 @@ same-length : tie.Need-same-length Inv-loop μ-loop
 same-length c = c .before .loop .inv .1
 
 returns : tie.Need-returns Inv-loop μ-loop
-returns c = let a = c .before .before .before .before .before .before .before .args in outputs-end (a .listing .now) (a .text .now) (a .at) (c .before .loop .inv .2) (omega (arith, c .loop-test .left, c .before .before .before .output-count .ensures .0))
+returns c = let a = c .before .before .before .before .before .before .before .args in λ written begun. outputs-end (a .listing .now) (a .text .now) (a .at) (c .before .loop .inv .2 written begun) (omega (arith, c .loop-test .left, c .before .before .before .output-count .ensures .0))
 
 pub write-names-spec : {M : Type 1} → statement M
 write-names-spec =

@@ -11,7 +11,7 @@ put-bytes-requires : tie.Need-put-bytes-requires
 put-bytes-requires c κs = search needs
 
 write-names-requires : tie.Need-write-names-requires
-write-names-requires c κs = c .before .before .before .before .before .before .before .before .before .pre
+write-names-requires c κs = search needs
 
 put-byte-requires : tie.Need-put-byte-requires
 put-byte-requires c κs = search needs
@@ -20,7 +20,7 @@ same-length : tie.Need-same-length
 same-length c = search needs
 
 returns : tie.Need-returns
-returns c = puts-outputs (c .before .before .before .before .before .before .before .before .before .before .before .before .before .before .before .before .args .listing .now) (c .before .before .before .before .before .before .before .before .before .before .put-bytes .ensures) (c .before .before .before .before .before .before .write-names .ensures) (c .before .before .put-byte .ensures)
+returns c = λ written begun. puts-outputs (c .before .before .before .before .before .before .before .before .before .before .before .before .before .before .before .before .args .listing .now) (c .before .before .before .before .before .before .before .before .before .before .put-bytes .ensures) (c .before .before .before .before .before .before .write-names .ensures written begun) (c .before .before .put-byte .ensures)
 
 pub write-outputs-spec : {M : Type 1} → statement M
 write-outputs-spec =

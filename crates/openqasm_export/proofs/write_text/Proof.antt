@@ -7,19 +7,19 @@ use Rattle.openqasm_export.proofs.write_text.Statement.{statement}
 use Rattle.openqasm_export.proofs.write_text.Tie as tie
 
 returns : tie.Need-returns
-returns c = λ whole. absurd (omega (arith, whole .room, c .if1 .taken))
+returns c = λ whole written. absurd (omega (arith, whole .room, c .if1 .taken))
 
 input-count-requires : tie.Need-input-count-requires
 input-count-requires c κs = search needs
 
 returns-2 : tie.Need-returns-2
-returns-2 c = λ whole. absurd (omega (arith, whole .few-inputs, c .if2 .taken, c .before .input-count .ensures .0))
+returns-2 c = λ whole written. absurd (omega (arith, whole .few-inputs, c .if2 .taken, c .before .input-count .ensures .0))
 
 gate-count-requires : tie.Need-gate-count-requires
 gate-count-requires c κs = search needs
 
 returns-3 : tie.Need-returns-3
-returns-3 c = λ whole. absurd (omega (arith, whole .few-gates, c .if3 .taken, c .before .gate-count .ensures .0))
+returns-3 c = λ whole written. absurd (omega (arith, whole .few-gates, c .if3 .taken, c .before .gate-count .ensures .0))
 
 clear-requires : tie.Need-clear-requires
 clear-requires c κs = search needs
@@ -34,7 +34,7 @@ same-length-2 : tie.Need-same-length-2
 same-length-2 c = search needs
 
 returns-4 : tie.Need-returns-4
-returns-4 c = λ whole. c .before .before .before .before .write-parts .ensures
+returns-4 c = λ whole written. c .before .before .before .before .write-parts .ensures written
 
 pub write-text-spec : {M : Type 1} → statement M
 write-text-spec =

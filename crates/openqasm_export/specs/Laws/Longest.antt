@@ -18,13 +18,13 @@ use Rattle.rules.specs.Laws.Wires.{Compared, equal, unequal, compared, one-if-e
 use Rattle.rules.specs.Laws.Wires.{count-between, nth-some-within, every-nth}
 use Rattle.text.specs.Text.{ascii, decimal, spaced, joined}
 use Rattle.text.specs.Laws.Decimals.{length-decimal}
-use Rattle.listing.specs.Reading.{outputsOf}
+use Rattle.listing.specs.Reading.{gatesOf, outputsOf}
 use Rattle.wire_table.specs.WireRules.{GoesOnce}
 use Rattle.listing_check.specs.Meaning.{SoundListing}
 use Rattle.listing_check.specs.Laws.Judging.{sound-known, sound-read}
 use Rattle.openqasm.specs.Layout.{header, bitRegister, declaration, Statement, on-one, on-two, measurement, under-bit, statements}
-use Rattle.openqasm.specs.Layout.{statementLine, gateLine, registersOf, declarations, gateLines, registerName, outputName}
-use Rattle.openqasm.specs.Layout.{outputLine, exportText, exportOf, declaration-bytes, statement-bytes, most-text}
+use Rattle.openqasm.specs.Layout.{unwritten, AllWritten, statementLine, gateLine, registersOf, declarations, gateLines}
+use Rattle.openqasm.specs.Layout.{registerName, outputName, outputLine, exportText, exportOf, declaration-bytes, statement-bytes, most-text}
 use Rattle.openqasm.specs.Laws.Registers.{as-many, AllCounted, known-counted, length-numbers, registers-few, taken-few}
 
 -- AS MANY OUTPUTS AS INPUTS
@@ -126,28 +126,31 @@ taken-made {I} (next-gate {n = n} {ws = ws} {gs = gs} e o t) w h =
       length-append (outputs gs) (gateOutputs n),
     )
 
--- Gates make as many wires as they take.
-as-many-taken : (gs : List Gate) → AllCounted gs → length (taken gs) ≡ length (outputs gs)
-as-many-taken [] counted = refl
-as-many-taken ((n on ws) ∷ gs) counted =
+-- Gates that have statements make as many wires as they take.
+as-many-taken : (gs : List Gate) → AllCounted gs → AllWritten gs → length (taken gs) ≡ length (outputs gs)
+as-many-taken [] counted written = refl
+as-many-taken ((n on ws) ∷ gs) counted written =
     omega (
       arith,
       length-append ws (taken gs),
       length-append (outputs gs) (gateOutputs n),
-      as-many n,
+      as-many n (written .0),
       counted .0,
-      as-many-taken gs (counted .1),
+      as-many-taken gs (counted .1) (written .1),
     )
 
--- A listing in which each wire goes once has as many outputs as inputs.
-pub as-many-outputs : (I : List Wire) (gs : List Gate) (outs : List ℕ) → GoesOnce I gs outs → length outs ≡ length I
-as-many-outputs I gs outs goes =
+-- A listing in which each wire goes once and each gate has a statement has as many outputs as inputs.
+pub as-many-outputs : (I : List Wire) (gs : List Gate) (outs : List ℕ)
+    → GoesOnce I gs outs
+    → AllWritten gs
+    → length outs ≡ length I
+as-many-outputs I gs outs goes written =
     omega (
       arith,
       each-once (length (I ++ outputs gs)) (taken gs ++ outs) made (goes .gone-once),
       length-append (taken gs) outs,
       length-append I (outputs gs),
-      as-many-taken gs (known-counted gs (sound-known gs (goes .sound .takes-earlier))),
+      as-many-taken gs (known-counted gs (sound-known gs (goes .sound .takes-earlier))) written,
     )
   where
     made : (w : ℕ) → 1 ≤ count w (taken gs ++ outs) → w < length (I ++ outputs gs)
@@ -203,6 +206,7 @@ short (on-one name) = leb (length (ascii name)) 2
 short (on-two name) = leb (length (ascii name)) 2
 short measurement = true
 short (under-bit name) = leb (length (ascii name)) 2
+short unwritten = true
 
 -- A line with such a name has at most statement-bytes.
 statement-fits : (s : Statement) (r r′ : ℕ)
@@ -239,6 +243,7 @@ statement-fits (under-bit name) r r′ few l l′ =
       two-digits r l,
       two-digits r′ l′,
     )
+statement-fits unwritten r r′ few l l′ = omega arith
 
 -- So has the line of any number as a gate: what is no gate has none.
 gate-fits : (n : ℕ) (rs : List ℕ) → ((k : ℕ) → getD rs k 0 < most-labels) → length (gateLine n rs) ≤ statement-bytes
@@ -315,11 +320,11 @@ text-fits I gs outs inputs gates outputs-few =
       output-line-fits I gs outs inputs,
     )
 
--- So is the text of a sound listing.
-pub sound-fits : (b : List ℕ) {L G O : ℕ} → SoundListing b L G O → length (exportOf b) ≤ most-text
-sound-fits b x =
+-- So is the text of a sound listing whose gates have statements.
+pub sound-fits : (b : List ℕ) {L G O : ℕ} → SoundListing b L G O → AllWritten (gatesOf b) → length (exportOf b) ≤ most-text
+sound-fits b x written =
     let r = sound-read b x in
-    let many = as-many-outputs (x .inputs) (x .gates) (x .outs) (x .goes-once) in
+    let many = as-many-outputs (x .inputs) (x .gates) (x .outs) (x .goes-once) (subst AllWritten (r .gates-are) written) in
     let same : exportOf b ≡ exportText (x .inputs) (x .gates) (x .outs)
     = ap₂ (λ I gs. exportText I gs (outputsOf b)) (r .inputs-are) (r .gates-are)
     ∙ ap (exportText (x .inputs) (x .gates)) (r .outputs-are) in

@@ -10,14 +10,13 @@ use lib.ListN.{length, getD, set, take, replicate, length-append, length-set}
 use lib.Seq.{getD-set-same, getD-set-other}
 use borrow.Author.Tests.{eq-eqb, ne-eqb}
 use Rattle.rules.specs.Types.{Wire, Bit, Qubit, wireCode}
-use Rattle.rules.specs.Gates.{gateOutputs}
+use Rattle.rules.specs.Gates.{gateOutputs, wiresOut}
 use Rattle.rules.specs.GateCodes.{wiresCode}
 use Rattle.rules.specs.Terms.{_on_}
 use Rattle.words.specs.Numbers.{wordAt, wordsAt}
 use Rattle.wire_table.specs.Laws.Table.{first-of, none-of}
-use Rattle.listing.specs.Laws.ReadBack.{wires-fit}
+use Rattle.listing.specs.Laws.ReadBack.{made-fit}
 use Rattle.listing_check.specs.Laws.Answering.{cleared-table}
-use Rattle.openqasm.specs.Laws.Registers.{as-many}
 use Rattle.openqasm_export.specs.Places.{placeBytes, Begins, retyped}
 
 -- The code of a wire's type is below 2.
@@ -173,7 +172,8 @@ module _ {m bytes : List ℕ} (first second made codes : ℕ)
 
 -- No gate makes more than two wires.
 pub two-at-most : (n : ℕ) → length (gateOutputs n) ≤ 2
-two-at-most n = omega (arith, as-many n, wires-fit n)
+unfolding wiresOut
+two-at-most n = made-fit n
 
 -- How many wires there are, by the code of their types.
 pub code-none : (codes : ℕ) (αs : List Wire) → codes ≡ wiresCode αs → codes ≡ 0 → length αs ≡ 0

@@ -4,7 +4,7 @@ use native.Mathlib.Omega.{arith}
 use mathlib.Core.Path.{_≡_, refl, sym, _∙_, ap, ap₂, subst}
 use mathlib.Core.Bool.{cond}
 use mathlib.Core.List.{List, [], _∷_, _++_, map, append-assoc, append-nil}
-use lib.Dec.{eqb}
+use lib.Dec.{T as IsTrue, eqb}
 use lib.ListN.{length, getD, take, length-append, length-map}
 use Rattle.rules.specs.Types.{Wire, Bit, Qubit, wireCode}
 use Rattle.rules.specs.Gates.{gateOutputs, wiresIn, wiresOut, nth}
@@ -20,8 +20,8 @@ use Rattle.listing.specs.Reading.{inputCount, gateCount, outputCount, kindAt, i
 use Rattle.listing.specs.Reading.{firstGates, gatesOf, outputsFrom, outputsOf}
 use Rattle.listing.specs.Laws.Decoding.{length-words, length-inputs}
 use Rattle.listing_check.specs.Laws.Wires.{next-input, one-more-gate}
-use Rattle.openqasm.specs.Layout.{declaration, declarations, statements, statementLine, gateLine, gateLines, registersOf}
-use Rattle.openqasm.specs.Layout.{header, registerName, outputName, outputLine, exportText, exportOf}
+use Rattle.openqasm.specs.Layout.{declaration, declarations, statements, hasStatement, AllWritten, statementLine, gateLine}
+use Rattle.openqasm.specs.Layout.{gateLines, registersOf, header, registerName, outputName, outputLine, exportText, exportOf}
 use Rattle.openqasm_export.specs.Places.{placeBytes, placesOf, Begins, keptPlaces}
 use Rattle.openqasm.specs.Laws.Registers.{as-many, first-counted, length-numbers, numbers-more, length-registers}
 use Rattle.openqasm_export.specs.Laws.Places.{place-register, place-type, places-append, length-places, two-at-most}
@@ -118,11 +118,11 @@ two-are-all (x ∷ []) few = refl
 two-are-all (x ∷ y ∷ []) few = refl
 two-are-all (x ∷ y ∷ z ∷ l) few = absurd (omega arith)
 
--- The first i gates are written, and the places of all wires made so far stand in the table.
+-- The first i gates are written, and the places of all wires made so far stand in the table, if each of these gates has a statement.
 pub record GatesWritten (b text₀ : List ℕ) (at : ℕ) (m text : List ℕ) (here made i : ℕ) : Type 0 where
   pub made-is : made ≡ length (inputsOf b ++ outputs (firstGates b i))
-  pub puts : Puts text₀ at (gateLines (inputsOf b) (firstGates b i)) text here
-  pub placed : Begins m (placesOf (inputsOf b) (firstGates b i))
+  pub puts : AllWritten (firstGates b i) → Puts text₀ at (gateLines (inputsOf b) (firstGates b i)) text here
+  pub placed : AllWritten (firstGates b i) → Begins m (placesOf (inputsOf b) (firstGates b i))
 
 module _ (b text₀ : List ℕ) (at : ℕ) where
   pub gates-start : {m : List ℕ} (made : ℕ)
@@ -132,8 +132,8 @@ module _ (b text₀ : List ℕ) (at : ℕ) where
   gates-start made is begun =
       record {
         made-is = is ∙ sym (length-inputs b 0 (inputCount b)) ∙ ap length (sym (append-nil (inputsOf b)));
-        puts = puts-none text₀ at;
-        placed = begun;
+        puts = λ written. puts-none text₀ at;
+        placed = λ written. begun;
       }
 
   module _ {m text : List ℕ} {here made i : ℕ} (w : GatesWritten b text₀ at m text here made i) where
@@ -149,56 +149,58 @@ module _ (b text₀ : List ℕ) (at : ℕ) where
     abbrev types : List Wire
     types = inputsOf b ++ outputs (firstGates b i)
 
-    same-count : length registers ≡ length types
-    same-count = length-registers (inputsOf b) (firstGates b i) (first-counted b i)
+    same-count : AllWritten (firstGates b i) → length registers ≡ length types
+    same-count written = length-registers (inputsOf b) (firstGates b i) (first-counted b i) written
 
     -- The places that were made so far.
-    pub places-made : made ≡ length (placesOf (inputsOf b) (firstGates b i))
-    places-made = w .made-is ∙ sym (length-places registers types same-count)
+    pub places-made : AllWritten (firstGates b i) → made ≡ length (placesOf (inputsOf b) (firstGates b i))
+    places-made written = w .made-is ∙ sym (length-places registers types (same-count written))
 
     module _ (first second : ℕ)
         (is-first : first ≡ getD (map (λ v. getD m v 0) ws) 0 0)
         (is-second : second ≡ getD (map (λ v. getD m v 0) ws) 1 0) where
-      -- They are in the registers of the gate's wires.
-      half : (v : ℕ) → getD m v 0 / 2 ≡ getD registers v 0
-      half v = ap (λ x. x / 2) (w .placed .at-each v) ∙ place-register registers types v same-count
-
       abbrev taken : List ℕ
       taken = map (λ v. getD registers v 0) ws
 
-      first-taken : first / 2 ≡ getD taken 0 0
-      first-taken = ap (λ x. x / 2) is-first ∙ halves (λ v. getD m v 0) (λ v. getD registers v 0) half ws 0
+      module _ (written : AllWritten (firstGates b i)) where
+        -- They are in the registers of the gate's wires.
+        half : (v : ℕ) → getD m v 0 / 2 ≡ getD registers v 0
+        half v = ap (λ x. x / 2) (w .placed written .at-each v) ∙ place-register registers types v (same-count written)
 
-      second-taken : second / 2 ≡ getD taken 1 0
-      second-taken = ap (λ x. x / 2) is-second ∙ halves (λ v. getD m v 0) (λ v. getD registers v 0) half ws 1
+        first-taken : first / 2 ≡ getD taken 0 0
+        first-taken = ap (λ x. x / 2) is-first ∙ halves (λ v. getD m v 0) (λ v. getD registers v 0) half ws 0
 
-      line-is : gateLine n (first / 2 ∷ second / 2 ∷ []) ≡ gateLine n taken
-      unfolding gateLine
-      line-is = ap₂ (statementLine (nth statements n)) first-taken second-taken
+        second-taken : second / 2 ≡ getD taken 1 0
+        second-taken = ap (λ x. x / 2) is-second ∙ halves (λ v. getD m v 0) (λ v. getD registers v 0) half ws 1
 
-      kept-are : keptPlaces n first second ≡ placeBytes taken (gateOutputs n)
-      unfolding wiresOut
-      kept-are =
-          let long : length taken ≡ wiresIn n
-          = length-map ws (λ v. getD registers v 0) ∙ length-words b (slotsFrom b (inputCount b + i)) (wiresIn n) in
-          let counted : length (gateOutputs n) ≡ length taken = as-many n ∙ sym long in
-          let few : length taken ≤ 2 = omega (arith, two-at-most n, counted) in
-          ap (λ l. placeBytes l (gateOutputs n))
-          (ap₂ (λ x y. take (length (gateOutputs n)) (x ∷ y ∷ [])) first-taken second-taken
-          ∙ ap (λ k. take k (getD taken 0 0 ∷ getD taken 1 0 ∷ [])) counted
-          ∙ two-are-all taken few)
+        line-is : gateLine n (first / 2 ∷ second / 2 ∷ []) ≡ gateLine n taken
+        unfolding gateLine
+        line-is = ap₂ (statementLine (nth statements n)) first-taken second-taken
 
-      places-are : placesOf (inputsOf b) (firstGates b i) ++ keptPlaces n first second
-          ≡ placesOf (inputsOf b) (firstGates b (suc i))
-      places-are =
-          ap (λ l. placesOf (inputsOf b) (firstGates b i) ++ l) kept-are
-          ∙ sym (places-append registers taken types (gateOutputs n) same-count)
-          ∙ ap (placeBytes (registers ++ taken)) (append-assoc (inputsOf b) (outputs (firstGates b i)) (gateOutputs n))
+        kept-are : IsTrue (hasStatement n) → keptPlaces n first second ≡ placeBytes taken (gateOutputs n)
+        unfolding wiresOut
+        kept-are this =
+            let long : length taken ≡ wiresIn n
+            = length-map ws (λ v. getD registers v 0) ∙ length-words b (slotsFrom b (inputCount b + i)) (wiresIn n) in
+            let counted : length (gateOutputs n) ≡ length taken = as-many n this ∙ sym long in
+            let few : length taken ≤ 2 = omega (arith, two-at-most n, counted) in
+            ap (λ l. placeBytes l (gateOutputs n))
+            (ap₂ (λ x y. take (length (gateOutputs n)) (x ∷ y ∷ [])) first-taken second-taken
+            ∙ ap (λ k. take k (getD taken 0 0 ∷ getD taken 1 0 ∷ [])) counted
+            ∙ two-are-all taken few)
+
+        places-are : IsTrue (hasStatement n)
+            → placesOf (inputsOf b) (firstGates b i) ++ keptPlaces n first second
+            ≡ placesOf (inputsOf b) (firstGates b (suc i))
+        places-are this =
+            ap (λ l. placesOf (inputsOf b) (firstGates b i) ++ l) (kept-are this)
+            ∙ sym (places-append registers taken types (gateOutputs n) (same-count written))
+            ∙ ap (placeBytes (registers ++ taken)) (append-assoc (inputsOf b) (outputs (firstGates b i)) (gateOutputs n))
 
       pub gate-next : {text′ : List ℕ} {here′ : ℕ} (m′ : List ℕ) (made′ : ℕ)
           → Puts text here (gateLine n (first / 2 ∷ second / 2 ∷ [])) text′ here′
           → made′ ≡ made + wiresOut n
-          → Begins m′ (placesOf (inputsOf b) (firstGates b i) ++ keptPlaces n first second)
+          → (AllWritten (firstGates b i) → Begins m′ (placesOf (inputsOf b) (firstGates b i) ++ keptPlaces n first second))
           → GatesWritten b text₀ at m′ text′ here′ made′ (i + 1)
       gate-next m′ made′ more is begun =
           let next : suc i ≡ i + 1 = omega arith in
@@ -208,18 +210,17 @@ module _ (b text₀ : List ℕ) (at : ℕ) where
                 ∙ ap (λ k. k + wiresOut n) (w .made-is)
                 ∙ sym (one-more-gate b i)
                 ∙ ap (λ j. length (inputsOf b ++ outputs (firstGates b j))) (sym next);
-            puts = puts-both (w .puts) (puts-same line-is more);
-            placed = begins-same places-are begun;
+            puts = λ written. puts-both (w .puts (written .1)) (puts-same (line-is (written .1)) more);
+            placed = λ written. begins-same (places-are (written .1) (written .0)) (begun (written .1));
           }
 
   pub gates-end : {m text : List ℕ} {here made i : ℕ}
       → GatesWritten b text₀ at m text here made i
       → i ≡ gateCount b
-      → Puts text₀ at (gateLines (inputsOf b) (gatesOf b)) text here × Begins m (placesOf (inputsOf b) (gatesOf b))
-  gates-end {m} {text} {here} w all = (
-    subst (λ j. Puts text₀ at (gateLines (inputsOf b) (firstGates b j)) text here) all (w .puts),
-    subst (λ j. Begins m (placesOf (inputsOf b) (firstGates b j))) all (w .placed),
-  )
+      → (AllWritten (gatesOf b) → Puts text₀ at (gateLines (inputsOf b) (gatesOf b)) text here)
+      × (AllWritten (gatesOf b) → Begins m (placesOf (inputsOf b) (gatesOf b)))
+  gates-end {m} {text} {here} {made} w all =
+      let done = subst (GatesWritten b text₀ at m text here made) all w in (done .puts, done .placed)
 
 -- THE OUTPUTS
 
@@ -252,18 +253,19 @@ module _ (b text₀ : List ℕ) (at : ℕ) where
 
   pub outputs-next : {m text text′ : List ℕ} {here here′ j : ℕ} (place : ℕ)
       → OutputsWritten b text₀ at text here j
+      → AllWritten (gatesOf b)
       → Begins m (placesOf (inputsOf b) (gatesOf b))
       → j < outputCount b
       → place ≡ getD m (wordAt b (outputsFrom b + 2 * j)) 0
       → Puts text here (spaced (registerName (cond (eqb (place % 2) 1) Qubit Bit) (place / 2) ∷ [])) text′ here′
       → OutputsWritten b text₀ at text′ here′ (j + 1)
-  outputs-next {j = j} place w begun below is more =
+  outputs-next {j = j} place w written begun below is more =
       let v = wordAt b (outputsFrom b + 2 * j) in
       let I = inputsOf b in
       let gs = gatesOf b in
       let registers = registersOf I gs in
       let types = I ++ outputs gs in
-      let same = length-registers I gs (first-counted b (gateCount b)) in
+      let same = length-registers I gs (first-counted b (gateCount b)) written in
       let byte : place ≡ getD (placesOf I gs) v 0 = is ∙ begun .at-each v in
       let name : registerName (cond (eqb (place % 2) 1) Qubit Bit) (place / 2) ≡ outputName I gs v
       = ap₂ registerName
