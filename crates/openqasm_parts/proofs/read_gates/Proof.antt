@@ -88,7 +88,7 @@ hold-wires-requires c κs =
     let t = u .before in
     let s = t .before .before .before .before .loop .inv .4 in
     let known = sym (t .before .is-gate .ensures) ∙ not-false (t .before .is-gate .result) (t .if1 .left) in
-    let takes = one-or-two (t .before .before .read-item .result .kind) known in (
+    let takes = one-or-two (t .before .before .read-item .result) _ (t .before .before .read-item .ensures .0) known in (
       omega (arith, counted, takes .0),
       omega (arith, counted, takes .1),
       omega (arith, t .before .before .before .loop-test .taken, s .few-inputs, s .few-made),

@@ -5,32 +5,35 @@ use native.Mathlib.Decide.{decLt}
 use mathlib.Core.Path.{_≡_, refl, sym, _∙_, ap, ap₂, subst}
 use mathlib.Core.Bool.{Bool}
 use mathlib.Core.List.{List, [], _∷_, _++_, map}
-use mathlib.Core.Option.{Option, none, some}
-use lib.Dec.{T as IsTrue, eqb, leb, leb→le}
+use lib.Dec.{T as IsTrue, eqb}
 use lib.ListN.{length, getD, set, length-append, length-set, length-map, List·getD-append}
 use lib.Seq.{getD-append-add, getD-set-same, getD-set-other}
-use Rattle.rules.specs.Types.{Wire, wires}
-use Rattle.rules.specs.Gates.{GateType, _to_, gateTable, gateType, isSome, isGate, inputWires, wiresIn}
+use Rattle.rules.specs.Types.{Wire}
+use Rattle.rules.specs.Gates.{isGate, wiresIn}
 use Rattle.rules.specs.Terms.{Gate, _on_}
 use Rattle.rules.specs.Circuits.{numbers, outputs, taken, one-if, count, OfTypes, wires-end, next-wire, TakesEarlier, next-gate}
 use Rattle.rules.specs.Laws.Wires.{Compared, equal, unequal, compared, one-if-equal, count-append}
-use Rattle.rules.specs.Laws.Wires.{nth-some-within, every-nth}
+use Rattle.rules.specs.Laws.Wires.{nth-some-within}
 use Rattle.rules.specs.Laws.KnownGates.{KnownGates}
 use Rattle.listing.specs.Laws.Bytes.{mapped-at}
-use Rattle.openqasm.specs.Layout.{registersOf}
+use Rattle.openqasm.specs.Layout.{hasStatement, AllWritten, registersOf}
 use Rattle.openqasm.specs.Laws.Registers.{known-counted, length-numbers, length-registers, map-below, registers-within}
 
--- A gate of the table takes at least one wire.
-takes-one : GateType → Bool
-takes-one (T to U) = leb 1 (length (wires T))
-
-pub takes-some : (n : ℕ) → IsTrue (isGate n) → 1 ≤ wiresIn n
-unfolding takes-one isGate wiresIn
-takes-some n known = of (gateType n) refl known
-  where
-    of : (g : Option GateType) → gateType n ≡ g → IsTrue (isSome g) → 1 ≤ length (inputWires g)
-    of none e none-such = absurd none-such
-    of (some (T to U)) e there = leb→le _ _ (every-nth takes-one gateTable n e tt)
+-- A gate that has a statement takes at least one wire.
+pub takes-some : (n : ℕ) → IsTrue (isGate n) → IsTrue (hasStatement n) → 1 ≤ wiresIn n
+unfolding isGate hasStatement wiresIn
+takes-some zero known written = omega arith
+takes-some (suc zero) known written = omega arith
+takes-some (suc (suc zero)) known written = omega arith
+takes-some (suc (suc (suc zero))) known written = omega arith
+takes-some (suc (suc (suc (suc zero)))) known written = omega arith
+takes-some (suc (suc (suc (suc (suc zero))))) known written = omega arith
+takes-some (suc (suc (suc (suc (suc (suc zero)))))) known written = omega arith
+takes-some (suc (suc (suc (suc (suc (suc (suc zero))))))) known written = omega arith
+takes-some (suc (suc (suc (suc (suc (suc (suc (suc zero)))))))) known written = omega arith
+takes-some (suc (suc (suc (suc (suc (suc (suc (suc (suc zero))))))))) known written = absurd written
+takes-some (suc (suc (suc (suc (suc (suc (suc (suc (suc (suc zero)))))))))) known written = absurd written
+takes-some (suc (suc (suc (suc (suc (suc (suc (suc (suc (suc (suc n))))))))))) known written = absurd known
 
 -- The number at a place of numbers in a row.
 number-at : (n k i : ℕ) → i < k → getD (numbers n k) i 0 ≡ n + i
@@ -127,19 +130,20 @@ module _ (most : ℕ) where
       → 0 < most
       → length I ≤ most
       → KnownGates gs
+      → AllWritten gs
       → TakesEarlier I gs
       → ((w : ℕ) → count w (taken gs) ≤ 1)
       → (w : ℕ)
       → w < length (I ++ outputs gs)
       → count w (taken gs) ≡ 0
       → getD (heldBehind I gs) (registerOf I gs w) 0 ≡ w
-  held-back I [] room few known earlier once w made left =
+  held-back I [] room few known written earlier once w made left =
       let below : w < length I = omega (arith, length-append I []) in
       let same : registerOf I [] w ≡ w = omega (arith, number-at 0 (length I) w below) in
       ap (λ r. getD (numbers 0 most) r 0) same ∙ omega (arith, number-at 0 most w (omega arith))
-  held-back I ((n on ws) ∷ gs) room few known (next-gate e o earlier) once w made left =
+  held-back I ((n on ws) ∷ gs) room few known written (next-gate e o earlier) once w made left =
       of
-      (held-back I gs room few (known .2) earlier (λ x. omega (arith, once x, count-append x ws (taken gs))))
+      (held-back I gs room few (known .2) (written .1) earlier (λ x. omega (arith, once x, count-append x ws (taken gs))))
       (decLt w (length (I ++ outputs gs)))
     where
       m : ℕ
@@ -168,13 +172,13 @@ module _ (most : ℕ) where
           let apart = count-undone (registerOf I gs) (λ r. getD held r 0) w ws this (undone back) in
           ap
           (λ r. getD (holding held new m) r 0)
-          (List·getD-append rs new 0 w (omega (arith, length-registers I gs (known-counted gs (known .2)))))
+          (List·getD-append rs new 0 w (omega (arith, length-registers I gs (known-counted gs (known .2)) (written .1))))
           ∙ holds-other held new m (getD rs w 0) (omega arith)
           ∙ this
       of back (no fresh) =
           let i = w - m in
-          let long = length-registers I gs (known-counted gs (known .2)) in
-          let more = length-registers I ((n on ws) ∷ gs) (known-counted ((n on ws) ∷ gs) known) in
+          let long = length-registers I gs (known-counted gs (known .2)) (written .1) in
+          let more = length-registers I ((n on ws) ∷ gs) (known-counted ((n on ws) ∷ gs) known) written in
           let below : i < length ws = omega (arith, length-append rs new, length-map ws (registerOf I gs)) in
           let x = getD ws i 0 in
           let stands = counted-at ws i below in

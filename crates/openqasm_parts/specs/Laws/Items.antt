@@ -3,7 +3,7 @@ use Prim.Native.Nat.{ℕ, zero, suc, _+_, _*_, _-_, _/_, _%_, _<_}
 use native.Mathlib.Omega.{arith}
 use native.Mathlib.Decide.{decLt}
 use mathlib.Core.Path.{_≡_, refl, sym, _∙_, ap, ap₂}
-use mathlib.Core.Bool.{true, false, _&&_, cond}
+use mathlib.Core.Bool.{Bool, true, false, _&&_, cond}
 use mathlib.Core.List.{List, [], _∷_, _++_, append-assoc, append-nil}
 use lib.Dec.{T as IsTrue, eqb}
 use lib.ListN.{getD, drop}
@@ -14,7 +14,7 @@ use Rattle.rules.specs.Gates.{isGate, wiresIn}
 use Rattle.listing.specs.Listing.{inputKind}
 use Rattle.text.specs.Text.{ascii, digit, decimal}
 use Rattle.text.specs.Laws.Decimals.{one-digit, more-digits}
-use Rattle.openqasm.specs.Layout.{declaration, bitRegister, gateLine, registerName}
+use Rattle.openqasm.specs.Layout.{declaration, bitRegister, hasStatement, gateLine, registerName}
 use Rattle.openqasm_reader.specs.declared.Item.{Item}
 use Rattle.openqasm_reader.specs.Items.{isDigit, digitsIn, numberIn, output-item, no-item, kindOf, kindIn, before, between, behind}
 use Rattle.openqasm_reader.specs.Items.{oneNumber, twoNumbers, itemOf, itemIn}
@@ -150,6 +150,39 @@ module _ (kind r : ℕ) (text t rest : List ℕ) where
       d′ : ℕ
       d′ = digitsIn (drop (d + M) (drop B text))
 
+-- No item is Init or Discard: what is read as a gate has a statement.
+either : (t : Bool) (m n : ℕ) → IsTrue (hasStatement m) → IsTrue (hasStatement n) → IsTrue (hasStatement (cond t m n))
+either true m n h k = h
+either false m n h k = k
+
+kind-written : (first second name : ℕ) → IsTrue (hasStatement (kindOf first second name))
+unfolding kindOf hasStatement either
+kind-written first second name =
+    either (eqb first 104) _ _ tt
+    (either (eqb first 120) _ _ tt
+    (either (eqb first 122) _ _ tt
+    (either (eqb first 115) _ _ tt
+    (either (eqb first 116) _ _ tt
+    (either (eqb first 99) _ _ (either (eqb second 114) _ _ tt tt)
+    (either (eqb first 109) _ _ tt
+    (either (eqb first 105) _ _ (either (eqb name 120) _ _ tt tt)
+    (either (eqb first 113) _ _ tt
+    (either (eqb first 32) _ _ tt tt)))))))))
+
+pub item-written : (text : List ℕ) → IsTrue (hasStatement (itemIn text .kind))
+unfolding itemIn hasStatement
+item-written text = of (eqb k no-item) (eqb (between k) 0) (kind-written _ _ _)
+  where
+    k : ℕ
+    k = kindIn text
+
+    of : (s t : Bool)
+        → IsTrue (hasStatement k)
+        → IsTrue (hasStatement (cond s (item no-item 0 0 0) (cond t (oneNumber k text) (twoNumbers k text)) .kind))
+    of true t h = tt
+    of false true h = h
+    of false false h = h
+
 -- The declaration of an input is read.
 pub declaration-reads : (k : ℕ) (α : Wire) (rest : List ℕ)
     → k < 100
@@ -196,11 +229,12 @@ name-at r text t small e ends =
 -- The line of a gate is read: its number, the register of its first wire and, if it takes two, that of its second.
 pub gate-reads : (n : ℕ) (rs rest : List ℕ)
     → IsTrue (isGate n)
+    → IsTrue (hasStatement n)
     → getD rs 0 0 < 100
     → getD rs 1 0 < 100
     → (s : ℕ) × Reads (gateLine n rs ++ rest) n (getD rs 0 0) s rest × (1 < wiresIn n → s ≡ getD rs 1 0)
-unfolding gateLine isGate wiresIn kindOf before between behind
-gate-reads n rs rest known small small′ = of n known
+unfolding gateLine isGate wiresIn hasStatement kindOf before between behind
+gate-reads n rs rest known written small small′ = of n known written
   where
     r : ℕ
     r = getD rs 0 0
@@ -214,32 +248,32 @@ gate-reads n rs rest known small small′ = of n known
     last : (q : ℕ) → (decimal q ++ end) ++ rest ≡ decimal q ++ (end ++ rest)
     last q = append-assoc (decimal q) end rest
 
-    of : (m : ℕ) → IsTrue (isGate m)
+    of : (m : ℕ) → IsTrue (isGate m) → IsTrue (hasStatement m)
         → (x : ℕ) × Reads (gateLine m rs ++ rest) m r x rest × (1 < wiresIn m → x ≡ s)
-    of zero g = (0, one-read 0 r _ (end ++ rest) rest refl refl refl small (last r) refl refl, λ more. absurd (omega arith))
-    of (suc zero) g =
+    of zero g h = (0, one-read 0 r _ (end ++ rest) rest refl refl refl small (last r) refl refl, λ more. absurd (omega arith))
+    of (suc zero) g h =
         (0, one-read 1 r _ (end ++ rest) rest refl refl refl small (last r) refl refl, λ more. absurd (omega arith))
-    of (suc (suc zero)) g =
+    of (suc (suc zero)) g h =
         (0, one-read 2 r _ (end ++ rest) rest refl refl refl small (last r) refl refl, λ more. absurd (omega arith))
-    of (suc (suc (suc zero))) g =
+    of (suc (suc (suc zero))) g h =
         (0, one-read 3 r _ (end ++ rest) rest refl refl refl small (last r) refl refl, λ more. absurd (omega arith))
-    of (suc (suc (suc (suc zero)))) g =
+    of (suc (suc (suc (suc zero)))) g h =
         (0, one-read 4 r _ (end ++ rest) rest refl refl refl small (last r) refl refl, λ more. absurd (omega arith))
-    of (suc (suc (suc (suc (suc zero))))) g =
+    of (suc (suc (suc (suc (suc zero))))) g h =
         let t = ascii "[0],q" ++ (decimal s ++ end) in (
           s,
           two-read 5 r _ (t ++ rest) rest s (end ++ rest) refl refl refl small (append-assoc (decimal r) t rest) refl small′
               (last s) refl refl,
           λ more. refl,
         )
-    of (suc (suc (suc (suc (suc (suc zero)))))) g =
+    of (suc (suc (suc (suc (suc (suc zero)))))) g h =
         let t = ascii "[0] -> c" ++ (decimal r ++ end) in (
           r,
           two-read 6 r _ (t ++ rest) rest r (end ++ rest) refl refl refl small (append-assoc (decimal r) t rest) refl small
               (last r) refl refl,
           λ more. absurd (omega arith),
         )
-    of (suc (suc (suc (suc (suc (suc (suc zero))))))) g =
+    of (suc (suc (suc (suc (suc (suc (suc zero))))))) g h =
         let t = ascii "==1) x q" ++ (decimal s ++ end) in
         let first = append-assoc (decimal r) t rest in (
           s,
@@ -248,7 +282,7 @@ gate-reads n rs rest known small small′ = of n known
               refl refl small first refl small′ (last s) refl refl,
           λ more. refl,
         )
-    of (suc (suc (suc (suc (suc (suc (suc (suc zero)))))))) g =
+    of (suc (suc (suc (suc (suc (suc (suc (suc zero)))))))) g h =
         let t = ascii "==1) z q" ++ (decimal s ++ end) in
         let first = append-assoc (decimal r) t rest in (
           s,
@@ -257,4 +291,6 @@ gate-reads n rs rest known small small′ = of n known
               refl refl small first refl small′ (last s) refl refl,
           λ more. refl,
         )
-    of (suc (suc (suc (suc (suc (suc (suc (suc (suc m))))))))) g = absurd g
+    of (suc (suc (suc (suc (suc (suc (suc (suc (suc zero))))))))) g h = absurd h
+    of (suc (suc (suc (suc (suc (suc (suc (suc (suc (suc zero)))))))))) g h = absurd h
+    of (suc (suc (suc (suc (suc (suc (suc (suc (suc (suc (suc m))))))))))) g h = absurd g

@@ -21,7 +21,7 @@ use Rattle.listing.specs.Listing.{inputKind}
 use Rattle.listing.specs.Reading.{inputType}
 use Rattle.listing.specs.Laws.ReadBack.{wires-fit}
 use Rattle.text.specs.Text.{spaced}
-use Rattle.openqasm.specs.Layout.{declaration, declarations, gateLine, gateLines, outputName}
+use Rattle.openqasm.specs.Layout.{hasStatement, AllWritten, declaration, declarations, gateLine, gateLines, outputName}
 use Rattle.openqasm_reader.specs.Items.{isDigit, bit-item, qubit-item, itemIn}
 use Rattle.openqasm_parts.specs.Reading.{Parts, isInput, withInput, withGate, isOutput, withOutput, itemsRead}
 use Rattle.openqasm_parts.specs.Laws.Items.{item, Reads, declaration-reads, gate-reads, output-reads}
@@ -119,24 +119,25 @@ wires-back held f (w ∷ v ∷ u ∷ ws) k second made many least most back both
 -- One more gate has been read.
 one-gate : (I : List Wire) (n : ℕ) (ws : List ℕ) (gs : List Gate) (second bytes : ℕ) (text rest : List ℕ)
     → IsTrue (isGate n)
+    → IsTrue (hasStatement n)
     → length ws ≡ wiresIn n
     → ((w : ℕ) → 1 ≤ count w ws → getD (heldBehind most-labels I gs) (registerOf I gs w) 0 ≡ w)
     → (1 < wiresIn n → second ≡ getD (map (registerOf I gs) ws) 1 0)
     → drop bytes text ≡ rest
     → withGate (readTo I gs [] text) (item n (getD (map (registerOf I gs) ws) 0 0) second bytes)
     ≡ readTo I ((n on ws) ∷ gs) [] rest
-one-gate I n ws gs second bytes text rest known many back both left =
+one-gate I n ws gs second bytes text rest known written many back both left =
     let held = heldBehind most-labels I gs in
     let rs = map (registerOf I gs) ws in
     let made = length (I ++ outputs gs) in
-    let e = wires-back held (registerOf I gs) ws (wiresIn n) second made many (takes-some n known) (wires-fit n) back both in
+    let e = wires-back held (registerOf I gs) ws (wiresIn n) second made many (takes-some n known written) (wires-fit n) back both in
     let more : made + wiresIn n ≡ length (I ++ outputs ((n on ws) ∷ gs))
     = omega (
       arith,
       length-append I (outputs gs),
       length-append I (outputs gs ++ gateOutputs n),
       length-append (outputs gs) (gateOutputs n),
-      as-many n,
+      as-many n written,
     ) in
     ap₂ (λ vs h. parts I ((n on vs) ∷ gs) [] h (made + wiresIn n) (drop bytes text)) (e .0) (e .1)
     ∙ ap₂ (parts I ((n on ws) ∷ gs) [] (holding held rs made)) more left
@@ -149,39 +150,41 @@ few-registers I gs few w = omega (arith, registers-few I gs w few)
 line-reads : (I : List Wire) (n : ℕ) (ws : List ℕ) (gs : List Gate) (rest : List ℕ)
     → length I ≤ most-labels
     → IsTrue (isGate n)
+    → IsTrue (hasStatement n)
     → let rs = map (registerOf I gs) ws in
     (s : ℕ) × Reads (gateLine n rs ++ rest) n (getD rs 0 0) s rest × (1 < wiresIn n → s ≡ getD rs 1 0)
-line-reads I n ws gs rest few known =
+line-reads I n ws gs rest few known written =
     let small = map-below 100 (omega arith) (registerOf I gs) (few-registers I gs few) ws in
-    gate-reads n (map (registerOf I gs) ws) rest known (small 0) (small 1)
+    gate-reads n (map (registerOf I gs) ws) rest known written (small 0) (small 1)
 
 -- Gates are read, the oldest first, and then at most k more.
 pub gates-read : (I : List Wire) (gs : List Gate) (k : ℕ) (rest : List ℕ)
     → length I ≤ most-labels
     → KnownGates gs
+    → AllWritten gs
     → TakesEarlier I gs
     → ((w : ℕ) → count w (taken gs) ≤ 1)
     → itemsRead isGate withGate (length gs + k) (readTo I [] [] (gateLines I gs ++ rest))
     ≡ itemsRead isGate withGate k (readTo I gs [] rest)
-gates-read I [] k rest few known earlier once =
+gates-read I [] k rest few known written earlier once =
     ap (λ j. itemsRead isGate withGate j (readTo I [] [] rest)) (zero-add k)
-gates-read I ((n on ws) ∷ gs) k rest few known (next-gate e o earlier) once =
+gates-read I ((n on ws) ∷ gs) k rest few known written (next-gate e o earlier) once =
     let rs = map (registerOf I gs) ws in
     let text = gateLine n rs ++ rest in
-    let reads = line-reads I n ws gs rest few (known .0) in
+    let reads = line-reads I n ws gs rest few (known .0) (written .0) in
     let older : (w : ℕ) → count w (taken gs) ≤ 1 = λ w. omega (arith, once w, count-append w ws (taken gs)) in
     let steps : suc (length gs) + k ≡ length gs + suc k = omega arith in
     ap₂
     (λ j t. itemsRead isGate withGate j (readTo I [] [] t))
     steps
     (append-assoc (gateLines I gs) (gateLine n rs) rest)
-    ∙ gates-read I gs (suc k) text few (known .2) earlier older
+    ∙ gates-read I gs (suc k) text few (known .2) (written .1) earlier older
     ∙ item-next isGate withGate k (readTo I gs [] text) (reads .1) (is-true (isGate n) (known .0))
     ∙ ap
     (itemsRead isGate withGate k)
-    (one-gate I n ws gs (reads .0) (reads .1 .bytes) text rest (known .0) (known .1)
+    (one-gate I n ws gs (reads .0) (reads .1 .bytes) text rest (known .0) (written .0) (known .1)
     (λ w stands.
-    held-back most-labels I gs (omega arith) few (known .2) earlier older w
+    held-back most-labels I gs (omega arith) few (known .2) (written .1) earlier older w
     (typed-made o w stands)
     (omega (arith, once w, count-append w ws (taken gs))))
     (reads .2)
@@ -200,14 +203,15 @@ gate-no-input n known =
 pub gates-no-input : (I : List Wire) (gs : List Gate) (rest : List ℕ)
     → length I ≤ most-labels
     → KnownGates gs
+    → AllWritten gs
     → isInput (itemIn rest .kind) ≡ false
     → isInput (itemIn (gateLines I gs ++ rest) .kind) ≡ false
-gates-no-input I [] rest few known none = none
-gates-no-input I ((n on ws) ∷ gs) rest few known none =
+gates-no-input I [] rest few known written none = none
+gates-no-input I ((n on ws) ∷ gs) rest few known written none =
     let rs = map (registerOf I gs) ws in
-    let reads = line-reads I n ws gs rest few (known .0) in
+    let reads = line-reads I n ws gs rest few (known .0) (written .0) in
     ap (λ t. isInput (itemIn t .kind)) (append-assoc (gateLines I gs) (gateLine n rs) rest)
-    ∙ gates-no-input I gs (gateLine n rs ++ rest) few (known .2)
+    ∙ gates-no-input I gs (gateLine n rs ++ rest) few (known .2) (written .1)
     (ap (λ i. isInput (i .kind)) (reads .1 .item-is) ∙ gate-no-input n (known .0))
 
 -- No digit follows the name of an output.

@@ -13,12 +13,12 @@ use Rattle.openqasm_parts.specs.Laws.Items.{item, Reads}
 module _ (wanted : ℕ → Bool) (with-item : Parts → Item → Parts) where
   -- What every wanted item keeps, all that are read keep.
   pub items-keep : (Kept : Parts → Type 0)
-      → ((p : Parts) (i : Item) → IsTrue (wanted (i .kind)) → Kept p → Kept (with-item p i))
+      → ((p : Parts) → IsTrue (wanted (itemIn (p .rest) .kind)) → Kept p → Kept (with-item p (itemIn (p .rest))))
       → (k : ℕ) (p : Parts)
       → Kept p
       → Kept (itemsRead wanted with-item k p)
   items-keep Kept each zero p kept = kept
-  items-keep Kept each (suc k) p kept = of (wanted (i .kind)) (each p i) (items-keep Kept each k (with-item p i))
+  items-keep Kept each (suc k) p kept = of (wanted (i .kind)) (each p) (items-keep Kept each k (with-item p i))
     where
       i : Item
       i = itemIn (p .rest)

@@ -14,8 +14,12 @@ use Rattle.rules.specs.Slots.{no-wire}
 use Rattle.words.specs.Words.{words, putWords}
 use Rattle.words.specs.Laws.Words.{word-put}
 use Rattle.listing.specs.Laws.ReadBack.{wires-fit}
+use Rattle.openqasm.specs.Layout.{hasStatement}
 use Rattle.openqasm.specs.Laws.Registers.{length-numbers, numbers-more}
+use Rattle.openqasm_reader.specs.declared.Item.{Item}
+use Rattle.openqasm_reader.specs.Items.{itemIn}
 use Rattle.openqasm_parts.specs.Reading.{heldAfter}
+use Rattle.openqasm_parts.specs.Laws.Items.{item-written}
 use Rattle.openqasm_parts.specs.Laws.Held.{takes-some}
 
 -- A word below 65536 is put.
@@ -54,9 +58,14 @@ registers-end first m most k is long all =
     ∙ append-nil (numbers 0 k)
     ∙ ap (numbers 0) all
 
--- A gate takes one wire or two.
-pub one-or-two : (gate : ℕ) → isGate gate ≡ true → (1 ≤ wiresIn gate) × (wiresIn gate ≤ 2)
-one-or-two gate known = (takes-some gate (subst IsTrue (sym known) tt), wires-fit gate)
+-- A gate that is read takes one wire or two.
+pub one-or-two : (item : Item) (text : List ℕ)
+    → item ≡ itemIn text
+    → isGate (item .kind) ≡ true
+    → (1 ≤ wiresIn (item .kind)) × (wiresIn (item .kind) ≤ 2)
+one-or-two item text is known =
+    let written = subst (λ i. IsTrue (hasStatement (i .kind))) (sym is) (item-written text) in
+    (takes-some (item .kind) (subst IsTrue (sym known) tt) written, wires-fit (item .kind))
 
 -- What a gate makes is held where what it takes was.
 module _ (count : ℕ) (m : List ℕ) (first second made : ℕ) where

@@ -32,7 +32,7 @@ use Rattle.openqasm_parts.specs.Reading.{heldAfter, begun, atOutputs, pa
 use Rattle.openqasm_parts.specs.Stored.{behindInputs, behindGates, behindOutputs, Adds, assembled, Stored}
 use Rattle.openqasm_parts.specs.Stored.{InputsRead, GatesRead, OutputsRead}
 use Rattle.openqasm_parts.specs.Laws.Reading.{items-keep, items-end}
-use Rattle.openqasm_parts.specs.Laws.Held.{takes-some}
+use Rattle.openqasm_parts.specs.Laws.Registers.{one-or-two}
 
 -- BYTES BEHIND OTHERS
 
@@ -364,7 +364,7 @@ module _ {labels : ℕ} {text kinds slots : List ℕ} {at i : ℕ} where
 inputs-hold : (labels : ℕ) (text : List ℕ) → behindInputs labels text .held ≡ numbers 0 most-labels
 unfolding behindInputs
 inputs-hold labels text =
-    items-keep isInput withInput (λ p. p .held ≡ numbers 0 most-labels) (λ p i w k. k) labels (begun text) refl
+    items-keep isInput withInput (λ p. p .held ≡ numbers 0 most-labels) (λ p w k. k) labels (begun text) refl
 
 pub gates-start : {labels : ℕ} {text held kinds slots : List ℕ} {at inputs : ℕ} (gates : ℕ)
     → InputsRead labels 0 text at inputs kinds slots
@@ -405,11 +405,12 @@ module _ {labels gates : ℕ} {text held kinds slots : List ℕ} {at inputs i ma
       let p = w .so-far in
       let n = item .kind in
       let here : item ≡ itemIn (p .rest) = is ∙ ap itemIn (sym (w .stored .rest-is)) in
+      let takes = one-or-two item (drop at text) is wants in
       let slots-are =
       ap₂ (λ x y. x ∷ y ∷ []) is-first is-second
       ∙ ap₂ (λ k l. getD l (item .first) 0 ∷ cond (ltb k 2) no-wire (getD l (item .second) 0) ∷ []) counted (w .held-are)
       ∙ two-slots (wiresIn n) (getD (p .held) (item .first) 0) (getD (p .held) (item .second) 0)
-      (takes-some n (subst IsTrue (sym wants) tt)) (wires-fit n) in
+      (takes .0) (takes .1) in
       record {
         so-far = withGate p item;
         then-all = item-left isGate withGate p item below here wants ∙ w .then-all;

@@ -1,5 +1,5 @@
--- The gates that are read from a text are known, at most as many parts are read as a listing has, and from an export the parts that
--- it was made from are read back.
+-- The gates that are read from a text are known and have statements, at most as many parts are read as a listing has, and from an
+-- export the parts that it was made from are read back.
 use Prim.Native.Nat.{ℕ, suc, _+_, _-_, _≤_}
 use native.Mathlib.Omega.{arith}
 use mathlib.Core.Path.{_≡_, refl, _∙_, ap}
@@ -17,11 +17,12 @@ use Rattle.listing.specs.Listing.{most-outputs}
 use Rattle.listing.specs.Reading.{inputType}
 use Rattle.listing.specs.Laws.ReadBack.{wires-fit}
 use Rattle.wire_table.specs.WireRules.{GoesOnce}
-use Rattle.openqasm.specs.Layout.{gateLines, outputLine, exportText}
+use Rattle.openqasm.specs.Layout.{AllWritten, gateLines, outputLine, exportText}
 use Rattle.openqasm_reader.specs.declared.Item.{Item}
 use Rattle.openqasm_reader.specs.Items.{kindOf, itemIn}
 use Rattle.openqasm_parts.specs.Reading.{Parts, isInput, withInput, wiresTaken, withGate, isOutput, withOutput, itemsRead}
 use Rattle.openqasm_parts.specs.Reading.{begun, atOutputs, partsRead}
+use Rattle.openqasm_parts.specs.Laws.Items.{item-written}
 use Rattle.openqasm_parts.specs.Laws.Reading.{items-keep, items-add, items-end}
 use Rattle.openqasm_parts.specs.Laws.Held.{registerOf, heldBehind, held-back}
 use Rattle.openqasm_parts.specs.Laws.Parts.{readTo, inputs-read, gates-read, gates-no-input, outputs-read}
@@ -45,9 +46,9 @@ gate-known p i known older =
 -- So are all, however many are read at most.
 known-within : (a b c : ℕ) (text : List ℕ) → KnownGates (readWithin a b c text .gates)
 known-within a b c text =
-    items-keep isOutput withOutput known (λ p i w k. k) c _
-    (items-keep isGate withGate known gate-known b _
-    (items-keep isInput withInput known (λ p i w k. k) a (begun text) tt))
+    items-keep isOutput withOutput known (λ p w k. k) c _
+    (items-keep isGate withGate known (λ p. gate-known p (itemIn (p .rest))) b _
+    (items-keep isInput withInput known (λ p w k. k) a (begun text) tt))
   where
     known : Parts → Type 0
     known p = KnownGates (p .gates)
@@ -56,6 +57,20 @@ known-within a b c text =
 pub parts-known : (text : List ℕ) → KnownGates (partsRead text .gates)
 unfolding partsRead
 parts-known text = known-within most-labels most-gates most-outputs text
+
+-- Every gate that is read has a statement: no text gives Init or Discard.
+written-within : (a b c : ℕ) (text : List ℕ) → AllWritten (readWithin a b c text .gates)
+written-within a b c text =
+    items-keep isOutput withOutput written (λ p w k. k) c _
+    (items-keep isGate withGate written (λ p w k. (item-written (p .rest), k)) b _
+    (items-keep isInput withInput written (λ p w k. k) a (begun text) tt))
+  where
+    written : Parts → Type 0
+    written p = AllWritten (p .gates)
+
+pub parts-written : (text : List ℕ) → AllWritten (partsRead text .gates)
+unfolding partsRead
+parts-written text = written-within most-labels most-gates most-outputs text
 
 -- At most as many parts are read as are asked for.
 module _ (a b c : ℕ) (text : List ℕ) where
@@ -67,8 +82,8 @@ module _ (a b c : ℕ) (text : List ℕ) where
 
   few-inputs : length (readWithin a b c text .inputs) ≤ a
   few-inputs =
-      items-keep isOutput withOutput few (λ p i w k. k) c (atOutputs behind-gates)
-      (items-keep isGate withGate few (λ p i w k. k) b declared
+      items-keep isOutput withOutput few (λ p w k. k) c (atOutputs behind-gates)
+      (items-keep isGate withGate few (λ p w k. k) b declared
       (omega (arith, items-add isInput withInput inputCount more a (begun text))))
     where
       inputCount : Parts → ℕ
@@ -82,7 +97,7 @@ module _ (a b c : ℕ) (text : List ℕ) where
 
   few-gates : length (readWithin a b c text .gates) ≤ b
   few-gates =
-      items-keep isOutput withOutput few (λ p i w k. k) c (atOutputs behind-gates)
+      items-keep isOutput withOutput few (λ p w k. k) c (atOutputs behind-gates)
       (omega (arith, items-add isGate withGate gateCount (λ p i. omega arith) b declared, none-yet))
     where
       gateCount : Parts → ℕ
@@ -92,7 +107,7 @@ module _ (a b c : ℕ) (text : List ℕ) where
       few p = length (p .gates) ≤ b
 
       none-yet : length (declared .gates) ≡ 0
-      none-yet = items-keep isInput withInput (λ p. length (p .gates) ≡ 0) (λ p i w k. k) a (begun text) refl
+      none-yet = items-keep isInput withInput (λ p. length (p .gates) ≡ 0) (λ p w k. k) a (begun text) refl
 
   few-outs : length (readWithin a b c text .outs) ≤ c
   few-outs = omega (arith, items-add isOutput withOutput outputCount more c (atOutputs behind-gates), none-yet)
@@ -105,8 +120,8 @@ module _ (a b c : ℕ) (text : List ℕ) where
 
       none-yet : length (behind-gates .outs) ≡ 0
       none-yet =
-          items-keep isGate withGate none (λ p i w k. k) b declared
-          (items-keep isInput withInput none (λ p i w k. k) a (begun text) refl)
+          items-keep isGate withGate none (λ p w k. k) b declared
+          (items-keep isInput withInput none (λ p w k. k) a (begun text) refl)
 
       more : (p : Parts) (i : Item) → outputCount (withOutput p i) ≤ suc (outputCount p)
       more p i = omega (arith, length-append (p .outs) (getD (p .held) (i .first) 0 ∷ []))
@@ -130,10 +145,11 @@ export-within : (a b c : ℕ) (I : List Wire) (gs : List Gate) (outs : List ℕ)
     → length gs ≤ b
     → length outs ≤ c
     → KnownGates gs
+    → AllWritten gs
     → GoesOnce I gs outs
     → readWithin a b c (exportText I gs outs) ≡ readTo I gs outs (10 ∷ [])
 unfolding isGate exportText itemIn kindOf
-export-within a b c I gs outs few room room′ room″ known goes =
+export-within a b c I gs outs few room room′ room″ known written goes =
     ap (λ p. itemsRead isOutput withOutput c (atOutputs (itemsRead isGate withGate b p))) inputs-back
     ∙ ap (λ p. itemsRead isOutput withOutput c (atOutputs p)) gates-back
     ∙ outputs-back
@@ -147,19 +163,19 @@ export-within a b c I gs outs few room room′ room″ known goes =
         ap (λ k. itemsRead isInput withInput k (begun (exportText I gs outs))) steps
         ∙ inputs-read I [] 0 (a - length I) (gateLines I gs ++ last) (omega arith)
         ∙ items-end isInput withInput (a - length I) (readTo I [] [] (gateLines I gs ++ last))
-        (gates-no-input I gs last few known refl)
+        (gates-no-input I gs last few known written refl)
 
     gates-back : itemsRead isGate withGate b (readTo I [] [] (gateLines I gs ++ last)) ≡ readTo I gs [] last
     gates-back =
         let steps : b ≡ length gs + (b - length gs) = omega arith in
         ap (λ k. itemsRead isGate withGate k (readTo I [] [] (gateLines I gs ++ last))) steps
-        ∙ gates-read I gs (b - length gs) last few known (goes .sound .takes-earlier) (goes .sound .taken-once)
+        ∙ gates-read I gs (b - length gs) last few known written (goes .sound .takes-earlier) (goes .sound .taken-once)
         ∙ items-end isGate withGate (b - length gs) (readTo I gs [] last) refl
 
     held-outputs : (w : ℕ) → 1 ≤ count w outs → getD (heldBehind most-labels I gs) (registerOf I gs w) 0 ≡ w
     held-outputs w stands =
         let made = goes .outputs-made w stands in
-        held-back most-labels I gs (omega arith) few known (goes .sound .takes-earlier) (goes .sound .taken-once) w made
+        held-back most-labels I gs (omega arith) few known written (goes .sound .takes-earlier) (goes .sound .taken-once) w made
         (omega (arith, goes .gone-once w made, count-append w (taken gs) outs))
 
     outputs-back : itemsRead isOutput withOutput c (atOutputs (readTo I gs [] last)) ≡ readTo I gs outs (10 ∷ [])
@@ -169,17 +185,18 @@ export-within a b c I gs outs few room room′ room″ known goes =
         ∙ outputs-read I gs outs [] (c - length outs) (10 ∷ []) few held-outputs refl
         ∙ items-end isOutput withOutput (c - length outs) (readTo I gs outs (10 ∷ [])) refl
 
--- The parts read from an export are those that it was made from, where each wire goes once.
+-- The parts read from an export are those that it was made from, where each gate has a statement and each wire goes once.
 pub parts-back : (I : List Wire) (gs : List Gate) (outs : List ℕ)
     → length I ≤ most-labels
     → length gs ≤ most-gates
     → length outs ≤ most-outputs
     → KnownGates gs
+    → AllWritten gs
     → GoesOnce I gs outs
     → (partsRead (exportText I gs outs) .inputs ≡ I)
     × (partsRead (exportText I gs outs) .gates ≡ gs)
     × (partsRead (exportText I gs outs) .outs ≡ outs)
 unfolding partsRead
-parts-back I gs outs few few′ few″ known goes =
-    let e = export-within most-labels most-gates most-outputs I gs outs few few few′ few″ known goes in
+parts-back I gs outs few few′ few″ known written goes =
+    let e = export-within most-labels most-gates most-outputs I gs outs few few few′ few″ known written goes in
     (ap (λ p. p .inputs) e, ap (λ p. p .gates) e, ap (λ p. p .outs) e)
