@@ -10,10 +10,11 @@ use Rattle.refusals.specs.declared.Refusal.the-variants.{Run}
 use Rattle.listing.specs.Listing.{most-bytes}
 use Rattle.listing_check.specs.declared.ListingAnswer.{ListingAnswer}
 use Rattle.listing_check.specs.declared.ListingAnswer.the-variants.{Accepted, Refused as NotListed}
-use Rattle.listing_check.specs.Answers.{listingCheckOf, most-wires}
+use Rattle.listing_check.specs.Answers.{most-wires}
 use Rattle.openqasm.specs.declared.Conversion.{Conversion}
 use Rattle.openqasm.specs.declared.Conversion.the-variants.{Written, Refused}
 use Rattle.openqasm.specs.Layout.{exportOf, most-text}
+use Rattle.openqasm_export.specs.Answers.{exportCheckOf}
 use Rattle.openqasm_parts.specs.Reading.{listingRead, slots-bytes}
 
 abbrev pub isAccepted : ListingAnswer → Bool
@@ -27,11 +28,11 @@ sameBytes [] (y ∷ ys) = false
 sameBytes (x ∷ xs) [] = false
 sameBytes (x ∷ xs) (y ∷ ys) = eqb x y && sameBytes xs ys
 
--- The listing of a text: the one that is read from it, if it is accepted and the text is its export. Specs/Meaning says what that
--- comes to, whatever is read: "Importing an exported text gives the same listing; any other text is refused."
+-- The listing of a text: the one that is read from it, if the export takes it and the text is its export. Specs/Meaning says what
+-- that comes to, whatever is read: "Importing an exported text gives the same listing; any other text is refused."
 unfoldable pub importOf : List ℕ → Option (List ℕ)
 importOf text =
-    let b = listingRead text in cond (isAccepted (listingCheckOf b) && sameBytes text (exportOf b)) (some b) none
+    let b = listingRead text in cond (isAccepted (exportCheckOf b) && sameBytes text (exportOf b)) (some b) none
 
 -- The least lengths. The output buffer holds the longest listing. Of the working memory the first buffer holds slots and outputs,
 -- the second the listing, the third a byte for each wire, the fourth a text.

@@ -4,16 +4,18 @@ use mathlib.Core.Path.{_≡_}
 use mathlib.Core.Logic.{_↔_}
 use mathlib.Core.List.{List}
 use mathlib.Core.Option.{none, some}
+use Rattle.listing.specs.Reading.{gatesOf}
 use Rattle.listing_check.specs.Meaning.{SoundListing}
-use Rattle.openqasm.specs.Layout.{exportOf}
+use Rattle.openqasm.specs.Layout.{AllWritten, exportOf}
 use Rattle.openqasm_import.specs.Answers.{importOf}
 
--- The text is the export of this listing, which ticket 3's check accepts.
+-- The text is the export of this listing: ticket 3's check accepts it, and each of its gates has a statement.
 pub record ExportedFrom (b text : List ℕ) : Type 0 where
   pub inputs : ℕ
   pub gates : ℕ
   pub outputs : ℕ
   pub accepted : SoundListing b inputs gates outputs
+  pub written : AllWritten (gatesOf b)
   pub text-is : exportOf b ≡ text
 
 -- "Importing an exported text gives the same listing; any other text is refused."

@@ -8,9 +8,9 @@ use listing::MOST_OUTPUTS;
 use listing::SIZES;
 use listing_check::LEAST_WORK;
 use listing_check::ListingAnswer;
-use listing_check::check_uncleared;
 use openqasm::Conversion;
 use openqasm_export::MOST_TEXT;
+use openqasm_export::check_export;
 use openqasm_export::write_text;
 use openqasm_parts::SLOTS_BYTES;
 use openqasm_parts::read_listing;
@@ -24,7 +24,8 @@ ghost use mathlib.Core.Path.{_≡_};
 ghost use mathlib.Core.List.{[], _∷_};
 ghost use lib.ListN.{length};
 ghost use Rattle.lent.specs.Lent.{firstBytes, lastBytes};
-ghost use Rattle.listing_check.specs.Answers.{listingCheckOf, most-wires};
+ghost use Rattle.listing_check.specs.Answers.{most-wires};
+ghost use Rattle.openqasm_export.specs.Answers.{exportCheckOf};
 ghost use Rattle.openqasm_import.specs.Answers.{isAccepted, sameBytes, importOf, importedAs, outAfter, importAnswer, importBytes};
 ghost use Rattle.openqasm.specs.declared.Conversion.the-variants.{Refused};
 ghost use Rattle.refusals.specs.declared.Refusal.the-variants.{Run};
@@ -50,12 +51,12 @@ fn same_bytes(text: &[u8], exported: &[u8]) -> bool
     same
 }
 
-// Is the listing accepted? The memory, one byte a wire, is not cleared.
+// Does the export take the listing? The memory, one byte a wire, is not cleared.
 fn accepts(listing: &[u8], work: &mut [u8]) -> bool
     requires { ⌜ most-wires ≤ length (now work) ⌝ }
-    ensures { λ r. ⌜ r ≡ isAccepted (listingCheckOf (now (listing .entry))) ⌝ }
+    ensures { λ r. ⌜ r ≡ isAccepted (exportCheckOf (now (listing .entry))) ⌝ }
 {
-    match check_uncleared(listing, work) {
+    match check_export(listing, work) {
         ListingAnswer::Accepted {
             inputs: _,
             gates: _,

@@ -7,11 +7,14 @@ use lib.ListN.{length}
 use borrow.Author.Tests.{not-true, not-false}
 use Rattle.text.specs.Written.{Written}
 use Rattle.text.specs.Writing.{Puts}
-use Rattle.listing_check.specs.Answers.{listingCheckOf, most-wires}
+use Rattle.listing.specs.Reading.{gatesOf}
+use Rattle.listing_check.specs.Answers.{most-wires}
 use Rattle.listing_check.specs.Wires.{Whole}
-use Rattle.openqasm.specs.Layout.{exportOf}
+use Rattle.openqasm.specs.Layout.{AllWritten, exportOf}
+use Rattle.openqasm_export.specs.Answers.{exportCheckOf}
 use Rattle.openqasm_parts.specs.Reading.{listingRead}
 use Rattle.openqasm_import.specs.Answers.{isAccepted, sameBytes}
+use Rattle.openqasm_import.specs.Theorems.Imports.{read-written}
 use Rattle.openqasm_import.specs.Laws.Answering.{listing-stands, read-whole, text-stands}
 use Rattle.openqasm_import.specs.Laws.Answering.{not-accepted-answered, other-text-answered, same-text-answered}
 use borrow.Author.Needs.{needs}
@@ -52,7 +55,7 @@ returns : tie.Need-returns
 returns c =
     let a = c .before .before .before .before .before .before .before .before .before .before .before .before .before .before .before .before .before .before .before .before .before .before .before .args in
     let read = listing-stands (a .text .now) (c .before .before .before .before .before .before .before .before .before .before .before .before .before .before .before .before .before .before .before .before .before .before .before .pre .listing-long) (c .before .before .before .before .before .before .before .before .before .before .before .before .before .read-listing .kept .1 .1 .1 .0) (c .before .before .before .before .before .before .before .before .before .before .before .before .before .read-listing .ensures (omega (arith, c .before .before .before .before .before .before .before .before .before .before .before .before .before .before .before .before .before .before .before .before .before .before .before .pre .table-long)) (c .before .before .before .before .before .before .before .before .before .before .before .before .before .before .before .before .before .before .before .before .before .before .before .pre .slots-long)) in
-    let is : c .before .before .before .before .accepts .result ≡ isAccepted (listingCheckOf (listingRead (a .text .now))) = c .before .before .before .before .accepts .ensures ∙ ap (λ d. isAccepted (listingCheckOf d)) (read .part-is) in
+    let is : c .before .before .before .before .accepts .result ≡ isAccepted (exportCheckOf (listingRead (a .text .now))) = c .before .before .before .before .accepts .ensures ∙ ap (λ d. isAccepted (exportCheckOf d)) (read .part-is) in
     not-accepted-answered (a .text .now) (a .out .now) (sym is ∙ not-true (c .before .before .before .before .accepts .result) (c .before .if1 .taken)) (c .refused .ensures)
 
 slice-reshare-prefix-write-text : tie.Need-slice-reshare-prefix-write-text
@@ -74,20 +77,20 @@ slice-reshare-prefix-same-bytes : tie.Need-slice-reshare-prefix-same-bytes
 slice-reshare-prefix-same-bytes c =
     let a = c .before .before .before .before .before .before .before .before .before .before .before .before .before .before .before .before .before .before .before .before .before .before .before .before .before .before .before .before .before .before .args in
     let read = listing-stands (a .text .now) (c .before .before .before .before .before .before .before .before .before .before .before .before .before .before .before .before .before .before .before .before .before .before .before .before .before .before .before .before .before .before .pre .listing-long) (c .before .before .before .before .before .before .before .before .before .before .before .before .before .before .before .before .before .before .before .before .read-listing .kept .1 .1 .1 .0) (c .before .before .before .before .before .before .before .before .before .before .before .before .before .before .before .before .before .before .before .before .read-listing .ensures (omega (arith, c .before .before .before .before .before .before .before .before .before .before .before .before .before .before .before .before .before .before .before .before .before .before .before .before .before .before .before .before .before .before .pre .table-long)) (c .before .before .before .before .before .before .before .before .before .before .before .before .before .before .before .before .before .before .before .before .before .before .before .before .before .before .before .before .before .before .pre .slots-long)) in
-    let is : c .before .before .before .before .before .before .before .before .before .before .before .accepts .result ≡ isAccepted (listingCheckOf (listingRead (a .text .now))) = c .before .before .before .before .before .before .before .before .before .before .before .accepts .ensures ∙ ap (λ d. isAccepted (listingCheckOf d)) (read .part-is) in
-    let passed : isAccepted (listingCheckOf (listingRead (a .text .now))) ≡ true = sym is ∙ not-false (c .before .before .before .before .before .before .before .before .before .before .before .accepts .result) (c .before .before .before .before .before .before .before .before .if1 .left) in
+    let is : c .before .before .before .before .before .before .before .before .before .before .before .accepts .result ≡ isAccepted (exportCheckOf (listingRead (a .text .now))) = c .before .before .before .before .before .before .before .before .before .before .before .accepts .ensures ∙ ap (λ d. isAccepted (exportCheckOf d)) (read .part-is) in
+    let passed : isAccepted (exportCheckOf (listingRead (a .text .now))) ≡ true = sym is ∙ not-false (c .before .before .before .before .before .before .before .before .before .before .before .accepts .result) (c .before .before .before .before .before .before .before .before .if1 .left) in
     let table-long : most-wires ≤ length (c .before .before .before .before .before .before .before .before .before .before .before .accepts .last .1 .0) = omega (arith, c .before .before .before .before .before .before .before .before .before .before .before .before .before .before .before .before .before .before .before .before .before .before .before .before .before .before .before .before .before .before .pre .table-long, c .before .before .before .before .before .before .before .before .before .before .before .before .before .before .before .before .before .before .before .before .read-listing .kept .1 .0, c .before .before .before .before .before .before .before .before .before .before .before .accepts .kept .1 .0) in
-    let text = text-stands (a .text .now) passed (c .before .before .before .before .before .before .before .before .before .before .before .before .before .before .before .before .before .before .before .before .before .before .before .before .before .before .before .before .before .before .pre .exported-long) (c .before .before .before .before .write-text .kept .1 .1 .0) (subst (λ d. Written (a .exported .now) (exportOf d) (c .before .before .before .before .write-text .last .1 .1 .0) (c .before .before .before .before .write-text .result)) (read .part-is) (c .before .before .before .before .write-text .ensures (subst (λ d. Whole d (c .before .before .before .before .before .before .before .before .before .before .before .accepts .last .1 .0)) (sym (read .part-is)) (read-whole (a .text .now) (c .before .before .before .before .before .before .before .before .before .before .before .accepts .last .1 .0) passed table-long)))) in
+    let text = text-stands (a .text .now) passed (c .before .before .before .before .before .before .before .before .before .before .before .before .before .before .before .before .before .before .before .before .before .before .before .before .before .before .before .before .before .before .pre .exported-long) (c .before .before .before .before .write-text .kept .1 .1 .0) (subst (λ d. Written (a .exported .now) (exportOf d) (c .before .before .before .before .write-text .last .1 .1 .0) (c .before .before .before .before .write-text .result)) (read .part-is) (c .before .before .before .before .write-text .ensures (subst (λ d. Whole d (c .before .before .before .before .before .before .before .before .before .before .before .accepts .last .1 .0)) (sym (read .part-is)) (read-whole (a .text .now) (c .before .before .before .before .before .before .before .before .before .before .before .accepts .last .1 .0) passed table-long)) (subst (λ d. AllWritten (gatesOf d)) (sym (read .part-is)) (read-written (a .text .now) passed)))) in
     text .within
 
 slice-aggregate-same-bytes : tie.Need-slice-aggregate-same-bytes
 slice-aggregate-same-bytes c =
     let a = c .before .before .before .before .before .before .before .before .before .before .before .before .before .before .before .before .before .before .before .before .before .before .before .before .before .before .before .before .before .before .before .args in
     let read = listing-stands (a .text .now) (c .before .before .before .before .before .before .before .before .before .before .before .before .before .before .before .before .before .before .before .before .before .before .before .before .before .before .before .before .before .before .before .pre .listing-long) (c .before .before .before .before .before .before .before .before .before .before .before .before .before .before .before .before .before .before .before .before .before .read-listing .kept .1 .1 .1 .0) (c .before .before .before .before .before .before .before .before .before .before .before .before .before .before .before .before .before .before .before .before .before .read-listing .ensures (omega (arith, c .before .before .before .before .before .before .before .before .before .before .before .before .before .before .before .before .before .before .before .before .before .before .before .before .before .before .before .before .before .before .before .pre .table-long)) (c .before .before .before .before .before .before .before .before .before .before .before .before .before .before .before .before .before .before .before .before .before .before .before .before .before .before .before .before .before .before .before .pre .slots-long)) in
-    let is : c .before .before .before .before .before .before .before .before .before .before .before .before .accepts .result ≡ isAccepted (listingCheckOf (listingRead (a .text .now))) = c .before .before .before .before .before .before .before .before .before .before .before .before .accepts .ensures ∙ ap (λ d. isAccepted (listingCheckOf d)) (read .part-is) in
-    let passed : isAccepted (listingCheckOf (listingRead (a .text .now))) ≡ true = sym is ∙ not-false (c .before .before .before .before .before .before .before .before .before .before .before .before .accepts .result) (c .before .before .before .before .before .before .before .before .before .if1 .left) in
+    let is : c .before .before .before .before .before .before .before .before .before .before .before .before .accepts .result ≡ isAccepted (exportCheckOf (listingRead (a .text .now))) = c .before .before .before .before .before .before .before .before .before .before .before .before .accepts .ensures ∙ ap (λ d. isAccepted (exportCheckOf d)) (read .part-is) in
+    let passed : isAccepted (exportCheckOf (listingRead (a .text .now))) ≡ true = sym is ∙ not-false (c .before .before .before .before .before .before .before .before .before .before .before .before .accepts .result) (c .before .before .before .before .before .before .before .before .before .if1 .left) in
     let table-long : most-wires ≤ length (c .before .before .before .before .before .before .before .before .before .before .before .before .accepts .last .1 .0) = omega (arith, c .before .before .before .before .before .before .before .before .before .before .before .before .before .before .before .before .before .before .before .before .before .before .before .before .before .before .before .before .before .before .before .pre .table-long, c .before .before .before .before .before .before .before .before .before .before .before .before .before .before .before .before .before .before .before .before .before .read-listing .kept .1 .0, c .before .before .before .before .before .before .before .before .before .before .before .before .accepts .kept .1 .0) in
-    let text = text-stands (a .text .now) passed (c .before .before .before .before .before .before .before .before .before .before .before .before .before .before .before .before .before .before .before .before .before .before .before .before .before .before .before .before .before .before .before .pre .exported-long) (c .before .before .before .before .before .write-text .kept .1 .1 .0) (subst (λ d. Written (a .exported .now) (exportOf d) (c .before .before .before .before .before .write-text .last .1 .1 .0) (c .before .before .before .before .before .write-text .result)) (read .part-is) (c .before .before .before .before .before .write-text .ensures (subst (λ d. Whole d (c .before .before .before .before .before .before .before .before .before .before .before .before .accepts .last .1 .0)) (sym (read .part-is)) (read-whole (a .text .now) (c .before .before .before .before .before .before .before .before .before .before .before .before .accepts .last .1 .0) passed table-long)))) in
+    let text = text-stands (a .text .now) passed (c .before .before .before .before .before .before .before .before .before .before .before .before .before .before .before .before .before .before .before .before .before .before .before .before .before .before .before .before .before .before .before .pre .exported-long) (c .before .before .before .before .before .write-text .kept .1 .1 .0) (subst (λ d. Written (a .exported .now) (exportOf d) (c .before .before .before .before .before .write-text .last .1 .1 .0) (c .before .before .before .before .before .write-text .result)) (read .part-is) (c .before .before .before .before .before .write-text .ensures (subst (λ d. Whole d (c .before .before .before .before .before .before .before .before .before .before .before .before .accepts .last .1 .0)) (sym (read .part-is)) (read-whole (a .text .now) (c .before .before .before .before .before .before .before .before .before .before .before .before .accepts .last .1 .0) passed table-long)) (subst (λ d. AllWritten (gatesOf d)) (sym (read .part-is)) (read-written (a .text .now) passed)))) in
     text .part-length
 
 same-bytes-requires : tie.Need-same-bytes-requires
@@ -112,10 +115,10 @@ returns-2 : tie.Need-returns-2
 returns-2 c =
     let a = c .before .before .before .before .before .before .before .before .before .before .before .before .before .before .before .before .before .before .before .before .before .before .before .before .before .before .before .before .before .before .before .before .before .before .args in
     let read = listing-stands (a .text .now) (c .before .before .before .before .before .before .before .before .before .before .before .before .before .before .before .before .before .before .before .before .before .before .before .before .before .before .before .before .before .before .before .before .before .before .pre .listing-long) (c .before .before .before .before .before .before .before .before .before .before .before .before .before .before .before .before .before .before .before .before .before .before .before .before .read-listing .kept .1 .1 .1 .0) (c .before .before .before .before .before .before .before .before .before .before .before .before .before .before .before .before .before .before .before .before .before .before .before .before .read-listing .ensures (omega (arith, c .before .before .before .before .before .before .before .before .before .before .before .before .before .before .before .before .before .before .before .before .before .before .before .before .before .before .before .before .before .before .before .before .before .before .pre .table-long)) (c .before .before .before .before .before .before .before .before .before .before .before .before .before .before .before .before .before .before .before .before .before .before .before .before .before .before .before .before .before .before .before .before .before .before .pre .slots-long)) in
-    let is : c .before .before .before .before .before .before .before .before .before .before .before .before .before .before .before .accepts .result ≡ isAccepted (listingCheckOf (listingRead (a .text .now))) = c .before .before .before .before .before .before .before .before .before .before .before .before .before .before .before .accepts .ensures ∙ ap (λ d. isAccepted (listingCheckOf d)) (read .part-is) in
-    let passed : isAccepted (listingCheckOf (listingRead (a .text .now))) ≡ true = sym is ∙ not-false (c .before .before .before .before .before .before .before .before .before .before .before .before .before .before .before .accepts .result) (c .before .before .before .before .before .before .before .before .before .before .before .before .if1 .left) in
+    let is : c .before .before .before .before .before .before .before .before .before .before .before .before .before .before .before .accepts .result ≡ isAccepted (exportCheckOf (listingRead (a .text .now))) = c .before .before .before .before .before .before .before .before .before .before .before .before .before .before .before .accepts .ensures ∙ ap (λ d. isAccepted (exportCheckOf d)) (read .part-is) in
+    let passed : isAccepted (exportCheckOf (listingRead (a .text .now))) ≡ true = sym is ∙ not-false (c .before .before .before .before .before .before .before .before .before .before .before .before .before .before .before .accepts .result) (c .before .before .before .before .before .before .before .before .before .before .before .before .if1 .left) in
     let table-long : most-wires ≤ length (c .before .before .before .before .before .before .before .before .before .before .before .before .before .before .before .accepts .last .1 .0) = omega (arith, c .before .before .before .before .before .before .before .before .before .before .before .before .before .before .before .before .before .before .before .before .before .before .before .before .before .before .before .before .before .before .before .before .before .before .pre .table-long, c .before .before .before .before .before .before .before .before .before .before .before .before .before .before .before .before .before .before .before .before .before .before .before .before .read-listing .kept .1 .0, c .before .before .before .before .before .before .before .before .before .before .before .before .before .before .before .accepts .kept .1 .0) in
-    let text = text-stands (a .text .now) passed (c .before .before .before .before .before .before .before .before .before .before .before .before .before .before .before .before .before .before .before .before .before .before .before .before .before .before .before .before .before .before .before .before .before .before .pre .exported-long) (c .before .before .before .before .before .before .before .before .write-text .kept .1 .1 .0) (subst (λ d. Written (a .exported .now) (exportOf d) (c .before .before .before .before .before .before .before .before .write-text .last .1 .1 .0) (c .before .before .before .before .before .before .before .before .write-text .result)) (read .part-is) (c .before .before .before .before .before .before .before .before .write-text .ensures (subst (λ d. Whole d (c .before .before .before .before .before .before .before .before .before .before .before .before .before .before .before .accepts .last .1 .0)) (sym (read .part-is)) (read-whole (a .text .now) (c .before .before .before .before .before .before .before .before .before .before .before .before .before .before .before .accepts .last .1 .0) passed table-long)))) in
+    let text = text-stands (a .text .now) passed (c .before .before .before .before .before .before .before .before .before .before .before .before .before .before .before .before .before .before .before .before .before .before .before .before .before .before .before .before .before .before .before .before .before .before .pre .exported-long) (c .before .before .before .before .before .before .before .before .write-text .kept .1 .1 .0) (subst (λ d. Written (a .exported .now) (exportOf d) (c .before .before .before .before .before .before .before .before .write-text .last .1 .1 .0) (c .before .before .before .before .before .before .before .before .write-text .result)) (read .part-is) (c .before .before .before .before .before .before .before .before .write-text .ensures (subst (λ d. Whole d (c .before .before .before .before .before .before .before .before .before .before .before .before .before .before .before .accepts .last .1 .0)) (sym (read .part-is)) (read-whole (a .text .now) (c .before .before .before .before .before .before .before .before .before .before .before .before .before .before .before .accepts .last .1 .0) passed table-long)) (subst (λ d. AllWritten (gatesOf d)) (sym (read .part-is)) (read-written (a .text .now) passed)))) in
     let compared : c .before .before .same-bytes .result ≡ sameBytes (a .text .now) (exportOf (listingRead (a .text .now))) = c .before .before .same-bytes .ensures ∙ ap (sameBytes (a .text .now)) (text .part-is) in
     other-text-answered (a .text .now) (a .out .now) passed (sym compared ∙ not-true (c .before .before .same-bytes .result) (c .before .if2 .taken)) (c .refused2 .ensures)
 
@@ -153,10 +156,10 @@ returns-3 : tie.Need-returns-3
 returns-3 c =
     let a = c .before .before .before .before .before .before .before .before .before .before .before .before .before .before .before .before .before .before .before .before .before .before .before .before .before .before .before .before .before .before .before .before .before .before .before .before .before .before .args in
     let read = listing-stands (a .text .now) (c .before .before .before .before .before .before .before .before .before .before .before .before .before .before .before .before .before .before .before .before .before .before .before .before .before .before .before .before .before .before .before .before .before .before .before .before .before .before .pre .listing-long) (c .before .before .before .before .before .before .before .before .before .before .before .before .before .before .before .before .before .before .before .before .before .before .before .before .before .before .before .before .read-listing .kept .1 .1 .1 .0) (c .before .before .before .before .before .before .before .before .before .before .before .before .before .before .before .before .before .before .before .before .before .before .before .before .before .before .before .before .read-listing .ensures (omega (arith, c .before .before .before .before .before .before .before .before .before .before .before .before .before .before .before .before .before .before .before .before .before .before .before .before .before .before .before .before .before .before .before .before .before .before .before .before .before .before .pre .table-long)) (c .before .before .before .before .before .before .before .before .before .before .before .before .before .before .before .before .before .before .before .before .before .before .before .before .before .before .before .before .before .before .before .before .before .before .before .before .before .before .pre .slots-long)) in
-    let is : c .before .before .before .before .before .before .before .before .before .before .before .before .before .before .before .before .before .before .before .accepts .result ≡ isAccepted (listingCheckOf (listingRead (a .text .now))) = c .before .before .before .before .before .before .before .before .before .before .before .before .before .before .before .before .before .before .before .accepts .ensures ∙ ap (λ d. isAccepted (listingCheckOf d)) (read .part-is) in
-    let passed : isAccepted (listingCheckOf (listingRead (a .text .now))) ≡ true = sym is ∙ not-false (c .before .before .before .before .before .before .before .before .before .before .before .before .before .before .before .before .before .before .before .accepts .result) (c .before .before .before .before .before .before .before .before .before .before .before .before .before .before .before .before .if1 .left) in
+    let is : c .before .before .before .before .before .before .before .before .before .before .before .before .before .before .before .before .before .before .before .accepts .result ≡ isAccepted (exportCheckOf (listingRead (a .text .now))) = c .before .before .before .before .before .before .before .before .before .before .before .before .before .before .before .before .before .before .before .accepts .ensures ∙ ap (λ d. isAccepted (exportCheckOf d)) (read .part-is) in
+    let passed : isAccepted (exportCheckOf (listingRead (a .text .now))) ≡ true = sym is ∙ not-false (c .before .before .before .before .before .before .before .before .before .before .before .before .before .before .before .before .before .before .before .accepts .result) (c .before .before .before .before .before .before .before .before .before .before .before .before .before .before .before .before .if1 .left) in
     let table-long : most-wires ≤ length (c .before .before .before .before .before .before .before .before .before .before .before .before .before .before .before .before .before .before .before .accepts .last .1 .0) = omega (arith, c .before .before .before .before .before .before .before .before .before .before .before .before .before .before .before .before .before .before .before .before .before .before .before .before .before .before .before .before .before .before .before .before .before .before .before .before .before .before .pre .table-long, c .before .before .before .before .before .before .before .before .before .before .before .before .before .before .before .before .before .before .before .before .before .before .before .before .before .before .before .before .read-listing .kept .1 .0, c .before .before .before .before .before .before .before .before .before .before .before .before .before .before .before .before .before .before .before .accepts .kept .1 .0) in
-    let text = text-stands (a .text .now) passed (c .before .before .before .before .before .before .before .before .before .before .before .before .before .before .before .before .before .before .before .before .before .before .before .before .before .before .before .before .before .before .before .before .before .before .before .before .before .before .pre .exported-long) (c .before .before .before .before .before .before .before .before .before .before .before .before .write-text .kept .1 .1 .0) (subst (λ d. Written (a .exported .now) (exportOf d) (c .before .before .before .before .before .before .before .before .before .before .before .before .write-text .last .1 .1 .0) (c .before .before .before .before .before .before .before .before .before .before .before .before .write-text .result)) (read .part-is) (c .before .before .before .before .before .before .before .before .before .before .before .before .write-text .ensures (subst (λ d. Whole d (c .before .before .before .before .before .before .before .before .before .before .before .before .before .before .before .before .before .before .before .accepts .last .1 .0)) (sym (read .part-is)) (read-whole (a .text .now) (c .before .before .before .before .before .before .before .before .before .before .before .before .before .before .before .before .before .before .before .accepts .last .1 .0) passed table-long)))) in
+    let text = text-stands (a .text .now) passed (c .before .before .before .before .before .before .before .before .before .before .before .before .before .before .before .before .before .before .before .before .before .before .before .before .before .before .before .before .before .before .before .before .before .before .before .before .before .before .pre .exported-long) (c .before .before .before .before .before .before .before .before .before .before .before .before .write-text .kept .1 .1 .0) (subst (λ d. Written (a .exported .now) (exportOf d) (c .before .before .before .before .before .before .before .before .before .before .before .before .write-text .last .1 .1 .0) (c .before .before .before .before .before .before .before .before .before .before .before .before .write-text .result)) (read .part-is) (c .before .before .before .before .before .before .before .before .before .before .before .before .write-text .ensures (subst (λ d. Whole d (c .before .before .before .before .before .before .before .before .before .before .before .before .before .before .before .before .before .before .before .accepts .last .1 .0)) (sym (read .part-is)) (read-whole (a .text .now) (c .before .before .before .before .before .before .before .before .before .before .before .before .before .before .before .before .before .before .before .accepts .last .1 .0) passed table-long)) (subst (λ d. AllWritten (gatesOf d)) (sym (read .part-is)) (read-written (a .text .now) passed)))) in
     let compared : c .before .before .before .before .before .before .same-bytes .result ≡ sameBytes (a .text .now) (exportOf (listingRead (a .text .now))) = c .before .before .before .before .before .before .same-bytes .ensures ∙ ap (sameBytes (a .text .now)) (text .part-is) in
     same-text-answered (a .text .now) (a .out .now) passed (sym compared ∙ not-false (c .before .before .before .before .before .before .same-bytes .result) (c .before .before .before .before .before .if2 .left)) (c .before .before .before .before .before .before .before .before .before .before .before .before .before .before .before .before .before .before .before .before .before .before .before .before .before .before .before .before .before .before .before .before .before .before .before .before .before .before .pre .out-long) (read .counted)
     (subst (λ d. Puts (a .out .now) 0 d (c .before .before .put-bytes .last .0) (c .before .before .put-bytes .result)) (read .part-is) (c .before .before .put-bytes .ensures))

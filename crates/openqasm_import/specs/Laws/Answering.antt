@@ -15,11 +15,12 @@ use Rattle.text.specs.Written.{Written}
 use Rattle.text.specs.Laws.Writing.{puts-first, all-written}
 use Rattle.listing.specs.Listing.{most-bytes}
 use Rattle.listing.specs.Laws.Lengths.{length-listing}
-use Rattle.listing_check.specs.Answers.{listingCheckOf, most-wires}
+use Rattle.listing_check.specs.Answers.{most-wires}
 use Rattle.listing_check.specs.Wires.{Whole}
 use Rattle.openqasm.specs.declared.Conversion.{Conversion}
 use Rattle.openqasm.specs.declared.Conversion.the-variants.{Written as Wrote, Refused}
 use Rattle.openqasm.specs.Layout.{exportOf, most-text}
+use Rattle.openqasm_export.specs.Answers.{exportCheckOf}
 use Rattle.openqasm_export.specs.Laws.Longest.{sound-fits}
 use Rattle.openqasm_export.specs.Laws.Answering.{or-false, written-whole, accepted-whole}
 use Rattle.openqasm_parts.specs.Reading.{partsRead, listingRead, slots-bytes}
@@ -27,7 +28,7 @@ use Rattle.openqasm_parts.specs.Theorems.ReadBack.{parts-few}
 use Rattle.openqasm_import.specs.Answers.{isAccepted, sameBytes, importOf, import-lengths, importedAs, outAfter}
 use Rattle.openqasm_import.specs.Answers.{importAnswer, importBytes}
 use Rattle.openqasm_import.specs.Buffers.{AllLong}
-use Rattle.openqasm_import.specs.Theorems.Imports.{read-sound}
+use Rattle.openqasm_import.specs.Theorems.Imports.{read-sound, read-written}
 
 -- These bytes stand at the start of a buffer, before a place.
 pub record Stands (xs buffer : List ℕ) (at : ℕ) : Type 0 where
@@ -70,28 +71,28 @@ module _ (text : List ℕ) where
       → Stands b listing r
   listing-stands {l} {listing} room same w = written-stands w (omega (arith, read-fits)) same
 
-  -- If it is accepted, it is within the sizes, and its text stands likewise.
-  pub read-whole : (table : List ℕ) → isAccepted (listingCheckOf b) ≡ true → most-wires ≤ length table → Whole b table
+  -- If the export takes it, it is within the sizes, and its text stands likewise.
+  pub read-whole : (table : List ℕ) → isAccepted (exportCheckOf b) ≡ true → most-wires ≤ length table → Whole b table
   read-whole table passed room = accepted-whole b table (read-sound text passed) room
 
   pub text-stands : {l exported : List ℕ} {r : ℕ}
-      → isAccepted (listingCheckOf b) ≡ true
+      → isAccepted (exportCheckOf b) ≡ true
       → most-text ≤ length l
       → length exported ≡ length l
       → Written l (exportOf b) exported r
       → Stands (exportOf b) exported r
-  text-stands passed room same w = written-stands w (omega (arith, sound-fits b (read-sound text passed), room)) same
+  text-stands passed room same w = written-stands w (omega (arith, sound-fits b (read-sound text passed) (read-written text passed), room)) same
 
   -- The three ways to end.
-  not-accepted : isAccepted (listingCheckOf b) ≡ false → importOf text ≡ none
+  not-accepted : isAccepted (exportCheckOf b) ≡ false → importOf text ≡ none
   unfolding importOf
   not-accepted e = ap (λ t. cond (t && sameBytes text (exportOf b)) (some b) none) e
 
-  other-text : isAccepted (listingCheckOf b) ≡ true → sameBytes text (exportOf b) ≡ false → importOf text ≡ none
+  other-text : isAccepted (exportCheckOf b) ≡ true → sameBytes text (exportOf b) ≡ false → importOf text ≡ none
   unfolding importOf
   other-text e f = ap₂ (λ t u. cond (t && u) (some b) none) e f
 
-  same-text : isAccepted (listingCheckOf b) ≡ true → sameBytes text (exportOf b) ≡ true → importOf text ≡ some b
+  same-text : isAccepted (exportCheckOf b) ≡ true → sameBytes text (exportOf b) ≡ true → importOf text ≡ some b
   unfolding importOf
   same-text e f = ap₂ (λ t u. cond (t && u) (some b) none) e f
 
@@ -103,20 +104,20 @@ module _ (text : List ℕ) where
     none-answered e is = (is ∙ sym (ap importedAs e), sym (ap (λ o. outAfter o out) e))
 
     pub not-accepted-answered : {r : Conversion}
-        → isAccepted (listingCheckOf b) ≡ false
+        → isAccepted (exportCheckOf b) ≡ false
         → r ≡ Refused (Run 27 0)
         → (r ≡ importedAs (importOf text)) × (out ≡ outAfter (importOf text) out)
     not-accepted-answered e is = none-answered (not-accepted e) is
 
     pub other-text-answered : {r : Conversion}
-        → isAccepted (listingCheckOf b) ≡ true
+        → isAccepted (exportCheckOf b) ≡ true
         → sameBytes text (exportOf b) ≡ false
         → r ≡ Refused (Run 27 0)
         → (r ≡ importedAs (importOf text)) × (out ≡ outAfter (importOf text) out)
     other-text-answered e f is = none-answered (other-text e f) is
 
     pub same-text-answered : {out′ : List ℕ} {n at : ℕ}
-        → isAccepted (listingCheckOf b) ≡ true
+        → isAccepted (exportCheckOf b) ≡ true
         → sameBytes text (exportOf b) ≡ true
         → most-bytes ≤ length out
         → n ≡ length b

@@ -12,11 +12,14 @@ use Rattle.listing.specs.Reading.{inputsOf, gatesOf, outputsOf}
 use Rattle.listing.specs.Laws.Decoding.{inputs-back, gates-back, outputs-back}
 use Rattle.wire_table.specs.WireRules.{GoesOnce}
 use Rattle.listing_check.specs.declared.ListingAnswer.{ListingAnswer}
+use Rattle.listing_check.specs.declared.ListingAnswer.the-variants.{Accepted, Refused as NotListed}
 use Rattle.listing_check.specs.Answers.{listingCheckOf}
 use Rattle.listing_check.specs.Meaning.{SoundListing}
 use Rattle.listing_check.specs.Laws.Judging.{Judged, sizes-wrong, entry-wrong, wires-wrong, all-right, listing-judged}
 use Rattle.listing_check.specs.Laws.Judging.{sound-known, sound-read, sound-accepted}
-use Rattle.openqasm.specs.Layout.{exportText, exportOf}
+use Rattle.openqasm.specs.Layout.{AllWritten, exportText, exportOf}
+use Rattle.openqasm_export.specs.Answers.{exportCheckOf}
+use Rattle.openqasm_export.specs.Laws.Statements.{export-accepted, accepted-exported}
 use Rattle.openqasm_parts.specs.Reading.{Parts, partsRead, listingRead}
 use Rattle.openqasm_parts.specs.Theorems.ReadBack.{parts-known, parts-few, parts-back}
 use Rattle.openqasm_import.specs.Answers.{isAccepted, sameBytes, importOf}
@@ -30,6 +33,17 @@ goes-once-of b (entry-wrong f first) e = let z : _≡_ {A = ℕ} 0 1 = cc in abs
 goes-once-of b (wires-wrong f n broken) e = let z : _≡_ {A = ℕ} 0 1 = cc in absurd (omega arith)
 goes-once-of b (all-right f n goes) e = goes
 
+-- What the export takes is accepted by ticket 3's check, and each of its gates has a statement.
+taken-accepted : (b : List ℕ)
+    → isAccepted (exportCheckOf b) ≡ true
+    → (isAccepted (listingCheckOf b) ≡ true) × AllWritten (gatesOf b)
+taken-accepted b passed = of (exportCheckOf b) refl passed
+  where
+    of : (a : ListingAnswer) → exportCheckOf b ≡ a → isAccepted a ≡ true
+        → (isAccepted (listingCheckOf b) ≡ true) × AllWritten (gatesOf b)
+    of (Accepted L G O) e p = let x = export-accepted b e in (ap isAccepted (x .0), x .1)
+    of (NotListed x) e p = let z : _≡_ {A = ℕ} 0 1 = cc in absurd (omega arith)
+
 module _ (text : List ℕ) where
   abbrev p : Parts
   p = partsRead text
@@ -37,12 +51,12 @@ module _ (text : List ℕ) where
   abbrev b : List ℕ
   b = listingRead text
 
-  -- If the listing that is read is accepted, it is sound.
-  pub read-sound : isAccepted (listingCheckOf b) ≡ true → SoundListing b (length (p .inputs)) (length (p .gates)) (length (p .outs))
+  -- If the export takes the listing that is read, it is sound, and its gates have statements.
+  pub read-sound : isAccepted (exportCheckOf b) ≡ true → SoundListing b (length (p .inputs)) (length (p .gates)) (length (p .outs))
   read-sound e =
       let known = parts-known text in
       let few = parts-few text in
-      let goes = goes-once-of b (listing-judged b) e in
+      let goes = goes-once-of b (listing-judged b) (taken-accepted b e .0) in
       let I = inputs-back (p .inputs) (p .gates) (p .outs) b refl in
       let gs = gates-back (p .inputs) (p .gates) (p .outs) b refl known in
       let outs = outputs-back (p .inputs) (p .gates) (p .outs) b refl in
@@ -62,12 +76,15 @@ module _ (text : List ℕ) where
             (subst (λ J. GoesOnce J (gatesOf b) (outputsOf b)) I goes));
       }
 
+  pub read-written : isAccepted (exportCheckOf b) ≡ true → AllWritten (gatesOf b)
+  read-written e = taken-accepted b e .1
+
   -- What is imported is the listing of which the text is the export.
   imported-from : (c : List ℕ) → importOf text ≡ some c → ExportedFrom c text
   unfolding importOf
-  imported-from c e = of (isAccepted (listingCheckOf b)) refl (sameBytes text (exportOf b)) refl e
+  imported-from c e = of (isAccepted (exportCheckOf b)) refl (sameBytes text (exportOf b)) refl e
     where
-      of : (s : Bool) → isAccepted (listingCheckOf b) ≡ s
+      of : (s : Bool) → isAccepted (exportCheckOf b) ≡ s
           → (t : Bool) → sameBytes text (exportOf b) ≡ t
           → _≡_ {A = Option (List ℕ)} (cond (s && t) (some b) none) (some c)
           → ExportedFrom c text
@@ -79,6 +96,7 @@ module _ (text : List ℕ) where
             gates = length (p .gates);
             outputs = length (p .outs);
             accepted = read-sound passed;
+            written = read-written passed;
             text-is = sym (same-are text (exportOf b) same);
           }
       of true passed false other e = let z : _≡_ {A = ℕ} 0 1 = cc in absurd (omega arith)
@@ -98,13 +116,14 @@ module _ (text : List ℕ) where
       let few-gates = subst (λ n. n ≤ most-gates) (s .gate-count) (s .few-gates) in
       let few-outputs = subst (λ n. n ≤ most-outputs) (s .output-count) (s .few-outputs) in
       let known = sound-known (s .gates) (s .goes-once .sound .takes-earlier) in
-      let back = parts-back (s .inputs) (s .gates) (s .outs) few-inputs few-gates few-outputs known (s .goes-once) in
+      let written = subst AllWritten (r .gates-are) (x .written) in
+      let back = parts-back (s .inputs) (s .gates) (s .outs) few-inputs few-gates few-outputs known written (s .goes-once) in
       let listed : listingRead (exportText (s .inputs) (s .gates) (s .outs)) ≡ listingBytes (s .inputs) (s .gates) (s .outs)
       = ap₂ (λ I gs. listingBytes I gs (partsRead (exportText (s .inputs) (s .gates) (s .outs)) .outs)) (back .0) (back .1)
       ∙ ap (listingBytes (s .inputs) (s .gates)) (back .2) in
       let is : b ≡ c = ap listingRead (sym text-of) ∙ listed ∙ sym (s .bytes-are) in
-      let passed : isAccepted (listingCheckOf b) ≡ true
-      = ap (λ d. isAccepted (listingCheckOf d)) is ∙ ap isAccepted (sound-accepted c s) in
+      let passed : isAccepted (exportCheckOf b) ≡ true
+      = ap (λ d. isAccepted (exportCheckOf d)) is ∙ ap isAccepted (accepted-exported c (sound-accepted c s) (x .written)) in
       let same : sameBytes text (exportOf b) ≡ true
       = ap (sameBytes text) (ap exportOf is ∙ x .text-is) ∙ same-as-itself text in
       ap₂ (λ t u. cond (t && u) (some b) none) passed same ∙ ap some is
@@ -131,19 +150,22 @@ import-means text =
     of none e none-such = e
     of (some c) e none-such = absurd (none-such c (imported-from text c e))
 
--- Every listing that is accepted comes back from its export.
-pub export-imported : (b : List ℕ) {L G O : ℕ} → SoundListing b L G O → importOf (exportOf b) ≡ some b
-export-imported b {L} {G} {O} x =
+-- Every listing that the export takes comes back from its export.
+pub export-imported : (b : List ℕ) {L G O : ℕ} → SoundListing b L G O → AllWritten (gatesOf b) → importOf (exportOf b) ≡ some b
+export-imported b {L} {G} {O} x written =
     import-means (exportOf b) .imported b .1
-    record { inputs = L; gates = G; outputs = O; accepted = x; text-is = refl }
+    record { inputs = L; gates = G; outputs = O; accepted = x; written = written; text-is = refl }
 
 -- No text is the export of two listings.
 pub one-export : (b c : List ℕ) {L G O L′ G′ O′ : ℕ}
     → SoundListing b L G O
+    → AllWritten (gatesOf b)
     → SoundListing c L′ G′ O′
+    → AllWritten (gatesOf c)
     → exportOf b ≡ exportOf c
     → b ≡ c
-one-export b c x y e = same (sym (export-imported b x) ∙ ap importOf e ∙ export-imported c y)
+one-export b c x written y written′ e =
+    same (sym (export-imported b x written) ∙ ap importOf e ∙ export-imported c y written′)
   where
     same : some b ≡ some c → b ≡ c
     same p = cc
