@@ -8,8 +8,8 @@ use Rattle.refusals.specs.Refusals.{refusalNumber, refusalPlace}
 use Rattle.listing.specs.Listing.{most-bytes}
 use Rattle.listing_check.specs.declared.ListingAnswer.{ListingAnswer}
 use Rattle.listing_check.specs.declared.ListingAnswer.the-variants.{Accepted, Refused}
-use Rattle.listing_check.specs.Answers.{listingCheckOf}
 use Rattle.openqasm.specs.Layout.{exportOf, most-text}
+use Rattle.openqasm_export.specs.Answers.{exportCheckOf}
 use Rattle.openqasm_import.specs.Answers.{importOf}
 use Rattle.wirelist_lines.specs.Lines.{refusedLine}
 
@@ -24,14 +24,14 @@ most-text-read = most-text + 1
 abbrev pub refusalLine : Refusal → List ℕ
 refusalLine x = refusedLine (refusalNumber x) (refusalPlace x)
 
--- The text of a listing that is accepted; the line of the refusal of any other.
+-- The text of a listing that the export takes; the line of the refusal of any other.
 abbrev pub answerBytes : List ℕ → ListingAnswer → List ℕ
 answerBytes b (Accepted inputs gates outputs) = exportOf b
 answerBytes b (Refused x) = refusalLine x
 
 -- All bytes that `qasmout` prints for the bytes of a listing.
 unfoldable pub exportedBytes : List ℕ → List ℕ
-exportedBytes b = answerBytes b (listingCheckOf b)
+exportedBytes b = answerBytes b (exportCheckOf b)
 
 -- The listing of which a text is the export; where there is none, the line of the refusal: "27 a text that is the export of no
 -- listing within the sizes, place 0".

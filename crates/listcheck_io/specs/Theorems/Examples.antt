@@ -1,4 +1,5 @@
--- What is printed, by computation: for c2's listing, for six zero bytes, for nothing, and for c2's listing without its output.
+-- What is printed, by computation: for c2's listing, for six zero bytes, for nothing, for c2's listing without its output, and for
+-- Init alone, with its wire as output and without.
 use mathlib.Core.Path.{_≡_, refl}
 use mathlib.Core.List.{List, [], _∷_}
 use Prim.Native.Nat.{ℕ}
@@ -30,3 +31,11 @@ empty-checked = refl
 pub left-over-checked : checkedLine (1 ∷ 0 ∷ 1 ∷ 0 ∷ 0 ∷ 0 ∷ 129 ∷ 0 ∷ 255 ∷ 255 ∷ 255 ∷ 255 ∷ 0 ∷ 0 ∷ 255 ∷ 255 ∷ []) ≡ ascii "refused 26 1\n"
 unfolding opened
 left-over-checked = refl
+
+pub init-checked : checkedLine (0 ∷ 0 ∷ 1 ∷ 0 ∷ 1 ∷ 0 ∷ 9 ∷ 255 ∷ 255 ∷ 255 ∷ 255 ∷ 0 ∷ 0 ∷ []) ≡ ascii "accepted\n"
+unfolding opened
+init-checked = refl
+
+pub init-left-over-checked : checkedLine (0 ∷ 0 ∷ 1 ∷ 0 ∷ 0 ∷ 0 ∷ 9 ∷ 255 ∷ 255 ∷ 255 ∷ 255 ∷ []) ≡ ascii "refused 26 0\n"
+unfolding opened
+init-left-over-checked = refl

@@ -29,7 +29,7 @@ use Rattle.openqasm.specs.Layout.{AllWritten, exportOf, most-text}
 use Rattle.openqasm_export.specs.Answers.{export-lengths, firstUnwritten, statementsJudged, exportCheckOf, exportedAs}
 use Rattle.openqasm_export.specs.Answers.{outAfter, exportAnswer, exportBytes}
 use Rattle.openqasm_export.specs.Laws.Longest.{as-many-outputs, text-fits, sound-fits}
-use Rattle.openqasm_export.specs.Laws.Statements.{export-accepted}
+use Rattle.openqasm_export.specs.Laws.Statements.{export-accepted, refused-too}
 
 pub or-false : (t : Bool) → t || false ≡ t
 or-false true = refl
@@ -83,8 +83,7 @@ module _ (b : List ℕ) where
       → answer ≡ listingCheckOf b
       → answer ≡ NotListed x
       → NotListed x ≡ exportCheckOf b
-  unfolding exportCheckOf
-  checked-refused is e = sym (ap (λ a. statementsJudged a (firstUnwritten b)) (sym is ∙ e))
+  checked-refused is e = sym (refused-too b (sym is ∙ e))
 
   -- A listing that is accepted is within the sizes.
   pub accepted-whole : (work : List ℕ) {L G O : ℕ} → SoundListing b L G O → most-wires ≤ length work → Whole b work

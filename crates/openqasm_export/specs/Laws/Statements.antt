@@ -105,6 +105,11 @@ module _ (b : List ℕ) where
   unfolding exportCheckOf
   accepted-exported e written = ap₂ statementsJudged e (all-written written)
 
+  -- What ticket 3's check refuses is refused likewise.
+  pub refused-too : {x : Refusal} → listingCheckOf b ≡ Refused x → exportCheckOf b ≡ Refused x
+  unfolding exportCheckOf
+  refused-too e = ap (λ a. statementsJudged a (firstUnwritten b)) e
+
 -- The refusals of a listing that is to be exported: 24, 25, 26 and 28.
 abbrev pub OfExport : Refusal → Type 0
 OfExport (Form number place) = ⊥

@@ -17,11 +17,12 @@ use Rattle.text.specs.Laws.Writing.{all-written}
 use Rattle.listing.specs.Listing.{most-bytes}
 use Rattle.listing_check.specs.declared.ListingAnswer.{ListingAnswer}
 use Rattle.listing_check.specs.declared.ListingAnswer.the-variants.{Accepted, Refused as NotListed}
-use Rattle.listing_check.specs.Answers.{listingCheckOf, most-wires}
+use Rattle.listing_check.specs.Answers.{most-wires}
 use Rattle.openqasm.specs.declared.Conversion.{Conversion}
 use Rattle.openqasm.specs.declared.Conversion.the-variants.{Written as Wrote, Refused}
 use Rattle.openqasm.specs.Layout.{exportOf, most-text}
-use Rattle.openqasm_export.specs.Answers.{export-lengths, exportedAs, outAfter as textAfter, exportAnswer, exportBytes}
+use Rattle.openqasm_export.specs.Answers.{export-lengths, exportCheckOf, exportedAs, outAfter as textAfter, exportAnswer}
+use Rattle.openqasm_export.specs.Answers.{exportBytes}
 use Rattle.openqasm_parts.specs.Reading.{slots-bytes}
 use Rattle.openqasm_import.specs.Answers.{importOf, import-lengths, importedAs, outAfter as listingAfter, importAnswer, importBytes}
 use Rattle.wirelist_lines.specs.Lines.{refusedLine}
@@ -94,7 +95,7 @@ module _ (b : List ℕ) where
   unfolding exportAnswer exportedBytes
   export-printed out out′ work at room others is bytes ends =
       let long = below-later most-text (length out) (most-wires ∷ []) (map length work) room ∙ others in
-      let a = listingCheckOf b in
+      let a = exportCheckOf b in
       export-starts a out out′ at (omega arith)
       (subst₂ (λ c l. Ends c l out′ at)
       (is ∙ ap (λ t. cond t (Refused (Run 19 0)) (exportedAs b a)) long)

@@ -1,4 +1,4 @@
--- What is printed, by computation: for c2's listing and for its text, and for nothing.
+-- What is printed, by computation: for c2's listing and for its text, for a listing with Init, and for nothing.
 use Prim.Native.Nat.{ℕ}
 use mathlib.Core.Path.{_≡_, refl}
 use mathlib.Core.List.{List, [], _∷_, flatMap}
@@ -9,7 +9,8 @@ use Rattle.listing.specs.Reading.{kindAt}
 use Rattle.wire_table.specs.Wires.{brokenAt}
 use Rattle.listing_check.specs.Answers.{listingCheckOf}
 use Rattle.text.specs.Text.{ascii, decimal}
-use Rattle.openqasm.specs.Layout.{gateLine, exportText}
+use Rattle.openqasm.specs.Layout.{hasStatement, gateLine, exportText}
+use Rattle.openqasm_export.specs.Answers.{firstUnwritten, exportCheckOf}
 use Rattle.openqasm_reader.specs.Items.{kindOf, before, between, behind, itemIn}
 use Rattle.openqasm_parts.specs.Reading.{partsRead}
 use Rattle.openqasm_import.specs.Answers.{importOf}
@@ -25,7 +26,7 @@ c2-text = ascii "OPENQASM 2.0;\ninclude \"qelib1.inc\";\nqreg q0[1];\ncreg c0[1]
 -- `exportedBytes` with every definition that it rests on open, and `importedBytes` likewise: a line `unfolding opened` below opens
 -- them all.
 opened : List ℕ → List ℕ
-unfolding exportedBytes listingCheckOf brokenAt wordAt kindAt isGate wiresIn decimal gateLine exportText
+unfolding exportedBytes exportCheckOf firstUnwritten hasStatement listingCheckOf brokenAt wordAt kindAt isGate wiresIn decimal gateLine exportText
 opened b = exportedBytes b
 
 opened-import : List ℕ → List ℕ
@@ -35,6 +36,11 @@ opened-import text = importedBytes text
 pub c2-exported : exportedBytes c2 ≡ c2-text
 unfolding opened
 c2-exported = refl
+
+-- 02, ticket 5: Init makes the one output.
+pub init-exported : exportedBytes (0 ∷ 0 ∷ 1 ∷ 0 ∷ 1 ∷ 0 ∷ 9 ∷ 255 ∷ 255 ∷ 255 ∷ 255 ∷ 0 ∷ 0 ∷ []) ≡ ascii "refused 28 0\n"
+unfolding opened
+init-exported = refl
 
 pub nothing-exported : exportedBytes [] ≡ ascii "refused 24 0\n"
 unfolding opened

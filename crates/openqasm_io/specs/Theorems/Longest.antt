@@ -11,6 +11,7 @@ use Rattle.listing.specs.Listing.{most-bytes}
 use Rattle.listing_check.specs.Laws.Places.{long-refused}
 use Rattle.openqasm.specs.Layout.{most-text}
 use Rattle.openqasm_export.specs.Laws.Longest.{sound-fits}
+use Rattle.openqasm_export.specs.Laws.Statements.{refused-too}
 use Rattle.openqasm_import.specs.Meaning.{ExportedFrom}
 use Rattle.openqasm_import.specs.Theorems.Imports.{import-means}
 use Rattle.openqasm_io.specs.Printing.{most-listing-read, most-text-read, refusalLine, answerBytes, exportedBytes}
@@ -19,7 +20,7 @@ use Rattle.openqasm_io.specs.Printing.{foundBytes, importedBytes}
 -- What is longer than the longest listing is refused.
 long-unexported : (b : List ℕ) → most-bytes < length b → exportedBytes b ≡ refusalLine (Run 24 0)
 unfolding exportedBytes
-long-unexported b long = ap (answerBytes b) (long-refused b long)
+long-unexported b long = ap (answerBytes b) (refused-too b (long-refused b long))
 
 pub same-export : (b : List ℕ) → exportedBytes (take most-listing-read b) ≡ exportedBytes b
 same-export b = of (decLt most-listing-read (length b))
@@ -30,9 +31,9 @@ same-export b = of (decLt most-listing-read (length b))
         ∙ sym (long-unexported b (omega arith))
     of (no short) = ap exportedBytes (take-all most-listing-read b (omega arith))
 
--- What is longer than the longest text is the export of no listing that is accepted.
+-- What is longer than the longest text is the export of no listing.
 none-long : (text : List ℕ) → most-text < length text → (b : List ℕ) → ExportedFrom b text → ⊥
-none-long text long b x = absurd (omega (arith, ap length (x .text-is), sound-fits b (x .accepted)))
+none-long text long b x = absurd (omega (arith, ap length (x .text-is), sound-fits b (x .accepted) (x .written)))
 
 long-unknown : (text : List ℕ) → most-text < length text → importedBytes text ≡ refusalLine (Run 27 0)
 unfolding importedBytes
