@@ -1,7 +1,7 @@
 // The export of a listing to OpenQASM 2.0 (02, ticket 4), with refusal 28 (ticket 5).
-// Believe: specs/Answers.
-// Main theorem: twenty-eight (specs/Theorems/Exports), where 28 is the answer. Main law: sound-fits (specs/Laws/Longest), that no text
-// is longer than 55,211 bytes.
+// Believe: specs/Answers and Meaning.
+// Main theorem: twenty-eight (specs/Theorems/Exports), that 28 is the answer exactly where Meaning says. Main law: sound-fits
+// (specs/Laws/Longest), that no text is longer than 55,211 bytes.
 // check_export and write_text are the core, for the import too. Called by cabinet and by qasmout.
 mod places;
 
@@ -60,9 +60,9 @@ fn unwritten_entry(listing: &[u8]) -> usize
     ensures { λ r. ⌜ r ≡ oneMore (firstUnwritten (now (listing .entry))) ⌝ }
 {
     let inputs = input_count(listing);
-    let count = inputs + gate_count(listing);
+    let end = inputs + gate_count(listing);
     let mut i = inputs;
-    while i < count {
+    while i < end {
         if !has_statement(kind_at(listing, i)) {
             return i + 1;
         }

@@ -40,14 +40,14 @@ pub fn take_wires(source: &[u8], from: usize, gate: usize, table: &mut [u8]) -> 
         → Holds (now (table .entry)) types gone
         → TakesAll types gone (wordsAt (now (source .entry)) from (wiresIn gate)) (inputWires (gateType gate)) (now (table .exit)) r) ⌝ }
 {
-    let mut codes = rules::taken_code(gate);
+    let mut needed = rules::taken_code(gate);
     let mut at = from;
-    while 0 < codes {
-        if !take_wire(table, word_at(source, at), (codes % 4) as u8) {
+    while 0 < needed {
+        if !take_wire(table, word_at(source, at), (needed % 4) as u8) {
             return false;
         }
         at += 2;
-        codes = codes / 4;
+        needed = needed / 4;
     }
     true
 }

@@ -15,11 +15,11 @@ use Rattle.openqasm_export.proofs.unwritten_entry.Statement.{statement}
 use Rattle.openqasm_export.proofs.unwritten_entry.Tie as tie
 
 abbrev Inv-loop : tie.InvT-loop
-Inv-loop listing inputs count i₀ i =
-    (i ≤ count) × (firstUnwritten listing ≡ firstWhere (isUnwritten listing) i (entryCount listing - i))
+Inv-loop listing inputs end i₀ i =
+    (i ≤ end) × (firstUnwritten listing ≡ firstWhere (isUnwritten listing) i (entryCount listing - i))
 
 abbrev μ-loop : tie.MeasureT-loop
-μ-loop listing inputs count i₀ i = count - i
+μ-loop listing inputs end i₀ i = end - i
 
 input-count-requires : tie.Need-input-count-requires Inv-loop μ-loop
 input-count-requires c κs = search needs
@@ -27,8 +27,8 @@ input-count-requires c κs = search needs
 gate-count-requires : tie.Need-gate-count-requires Inv-loop μ-loop
 gate-count-requires c κs = search needs
 
-add-count : tie.Need-add-count Inv-loop μ-loop
-add-count c = search (needs, c .before .input-count .ensures .1, c .gate-count .ensures .1)
+add-end : tie.Need-add-end Inv-loop μ-loop
+add-end c = search (needs, c .before .input-count .ensures .1, c .gate-count .ensures .1)
 
 loop-holds : tie.Need-loop-holds Inv-loop μ-loop
 loop-holds c = (omega arith, scan-start (c .before .before .before .args .listing .now) (c .before .input-count .result) (c .before .input-count .ensures .0))
@@ -81,7 +81,7 @@ unwritten-entry-spec =
     μ-loop
     input-count-requires
     gate-count-requires
-    add-count
+    add-end
     loop-holds
     kind-at-requires
     has-statement-requires

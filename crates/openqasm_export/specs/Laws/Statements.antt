@@ -7,6 +7,7 @@ use mathlib.Core.Bool.{Bool, true, false, not}
 use mathlib.Core.List.{List}
 use mathlib.Core.Option.{Option, none, some}
 use lib.Dec.{T as IsTrue}
+use borrow.Author.Tests.{not-true}
 use Rattle.rules.specs.Sizes.{most-labels, most-gates}
 use Rattle.refusals.specs.Refusals.{refusalPlace}
 use Rattle.refusals.specs.declared.Refusal.{Refusal}
@@ -27,11 +28,6 @@ use Rattle.openqasm_export.specs.Answers.{isUnwritten, firstUnwritten, s
 -- Entry e is a gate without a statement.
 abbrev pub Unwritten : List ℕ → ℕ → Type 0
 Unwritten b e = (inputCount b ≤ e) × (e < entryCount b) × (hasStatement (kindAt b e) ≡ false)
-
--- A test that is turned round.
-not-true : (t : Bool) → not t ≡ true → t ≡ false
-not-true true e = sym e
-not-true false e = refl
 
 module _ (b : List ℕ) where
   -- The first such entry is found.
@@ -78,7 +74,7 @@ module _ (b : List ℕ) where
       of (no newest) earlier =
           let e : j ≡ i = omega arith in subst (λ k. IsTrue (hasStatement (kindAt b (inputCount b + k)))) e (written .0)
 
-  pub all-written : AllWritten (gatesOf b) → firstUnwritten b ≡ none
+  all-written : AllWritten (gatesOf b) → firstUnwritten b ≡ none
   all-written written = found-none (Unwritten b) (firstUnwritten b) unwritten-found no-such
     where
       no-such : NoSuch (Unwritten b)
@@ -110,7 +106,7 @@ module _ (b : List ℕ) where
   unfolding exportCheckOf
   refused-too e = ap (λ a. statementsJudged a (firstUnwritten b)) e
 
--- The refusals of a listing that is to be exported: 24, 25, 26 and 28.
+-- The refusals of a listing that is to be exported have numbers from 24 to 28.
 abbrev pub OfExport : Refusal → Type 0
 OfExport (Form number place) = ⊥
 OfExport (Typing number place) = ⊥

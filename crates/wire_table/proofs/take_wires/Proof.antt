@@ -14,10 +14,10 @@ use Rattle.wire_table.proofs.take_wires.Statement.{statement}
 use Rattle.wire_table.proofs.take_wires.Tie as tie
 
 abbrev Inv-loop : tie.InvT-loop
-Inv-loop source from gate table₀ codes₀ at₀ table codes at = (length table ≡ length table₀) × LeftToTake source from (inputWires (gateType gate)) table₀ table at codes
+Inv-loop source from gate table₀ needed₀ at₀ table needed at = (length table ≡ length table₀) × LeftToTake source from (inputWires (gateType gate)) table₀ table at needed
 
 abbrev μ-loop : tie.MeasureT-loop
-μ-loop source from gate table₀ codes₀ at₀ table codes at = codes
+μ-loop source from gate table₀ needed₀ at₀ table needed at = needed
 
 taken-code-requires : tie.Need-taken-code-requires Inv-loop μ-loop
 taken-code-requires c κs = search needs
@@ -41,7 +41,7 @@ same-length c = c .before .before .before .take-wire .kept .0 ∙ c .before .bef
 returns : tie.Need-returns Inv-loop μ-loop
 unfolding wiresIn
 returns c = λ types gone h.
-    taken-wrong (c .before .before .before .before .before .before .before .loop .inv .1) (c .before .before .before .before .before .before .loop-test .taken) (c .before .before .before .take-wire .last .0) (c .before .before .before .before .word-at .result) (c .before .before .before .before .word-at .ensures .0)
+    taken-wrong (c .before .before .before .before .before .before .before .loop .inv .1) (omega (arith, c .before .before .before .before .before .before .loop-test .taken)) (c .before .before .before .take-wire .last .0) (c .before .before .before .before .word-at .result) (c .before .before .before .before .word-at .ensures .0)
     (sym (c .before .before .before .take-wire .ensures .0) ∙ not-true (c .before .before .before .take-wire .result) (c .if1 .taken)) types gone h
 
 add-at : tie.Need-add-at Inv-loop μ-loop
@@ -57,7 +57,7 @@ loop-again : tie.Need-loop-again Inv-loop μ-loop
 loop-again c =
     let right = not-false (c .before .before .before .take-wire .result) (c .if1 .left) in (
       c .before .before .before .take-wire .kept .0 ∙ c .before .before .before .before .before .before .before .loop .inv .0,
-      taken-more (c .before .before .before .before .before .before .before .loop .inv .1) (c .before .before .before .before .before .before .loop-test .taken) (c .before .before .before .take-wire .last .0) (c .before .before .before .before .word-at .result) (c .before .before .before .before .word-at .ensures .0)
+      taken-more (c .before .before .before .before .before .before .before .loop .inv .1) (omega (arith, c .before .before .before .before .before .before .loop-test .taken)) (c .before .before .before .take-wire .last .0) (c .before .before .before .before .word-at .result) (c .before .before .before .before .word-at .ensures .0)
           (sym (c .before .before .before .take-wire .ensures .0) ∙ right)
           (c .before .before .before .take-wire .ensures .1 ∙ ap (λ t. cond t (set (c .before .before .before .before .before .before .before .loop .table) (c .before .before .before .before .word-at .result) 0) (c .before .before .before .before .before .before .before .loop .table)) right),
     )
@@ -67,7 +67,7 @@ same-length-2 c = c .before .loop .inv .0
 
 returns-2 : tie.Need-returns-2 Inv-loop μ-loop
 unfolding wiresIn
-returns-2 c = λ types gone h. taken-all (c .before .loop .inv .1) (c .loop-test .left) types gone h
+returns-2 c = λ types gone h. taken-all (c .before .loop .inv .1) (omega (arith, c .loop-test .left)) types gone h
 
 pub take-wires-spec : {M : Type 1} → statement M
 take-wires-spec =

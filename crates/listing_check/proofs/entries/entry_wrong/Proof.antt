@@ -1,7 +1,7 @@
 -- `listing_check::entries::entry_wrong` meets its contract: by the kind, and by the slots that the entry does not use.
-use Prim.Native.Nat.{_-_}
+use Prim.Native.Nat.{_-_, _≤_}
 use native.Mathlib.Omega.{arith}
-use mathlib.Core.Path.{sym, _∙_, ap, ap₂}
+use mathlib.Core.Path.{sym, _∙_, ap, ap₂, subst}
 use mathlib.Core.Bool.{_||_}
 use lib.Dec.{eqb}
 use Rattle.rules.specs.Types.{Bit, Qubit}
@@ -43,7 +43,7 @@ wires-in-requires : tie.Need-wires-in-requires
 wires-in-requires c κs = search needs
 
 any-wire-requires-2 : tie.Need-any-wire-requires-2
-any-wire-requires-2 c κs = (c .before .before .before .before .before .before .pre .2, omega (arith, c .wires-in .ensures, wires-fit (c .before .before .before .before .kind-at .result)))
+any-wire-requires-2 c κs = (c .before .before .before .before .before .before .pre .2, subst (λ k. k ≤ entry-slots) (sym (c .wires-in .ensures)) (wires-fit _))
 
 returns-3 : tie.Need-returns-3
 returns-3 c =
