@@ -2,7 +2,8 @@
  * An example host: checks and runs the program file that the command line names.
  * Standard output has the lines of its listing, or `refused NUMBER PLACE`; standard error has its type, in preorder.
  * With a second name the listing is checked as one from elsewhere would be, and its bytes are written to that file; with a third
- * one its text in OpenQASM 2.0 is written to that.
+ * one its text in OpenQASM 2.0 is written to that. A listing with Init or Discard has none: standard error then has
+ * `refused NUMBER PLACE`.
  * Exit status: 0 finished, 1 refused, 2 the file cannot be read or the output, the listing or the text not written.
  */
 #include "gawipsol.h"
@@ -20,14 +21,15 @@ static uint8_t work[GAWIPSOL_LISTING_WORK];
 static uint8_t text[GAWIPSOL_EXPORT_OUT];
 static uint8_t export_work[GAWIPSOL_EXPORT_WORK];
 
-static const char *const type_names[] = {"Bit", "Qubit", "pair", "function", "reusable", "circuit"};
+static const char *const type_names[] = {"Bit", "Qubit", "pair", "function", "reusable", "circuit", "unit"};
 
 /* The gates by their numbers, with how many wires each makes. */
 static const struct {
     const char *name;
     unsigned made;
 } gate_table[] = {
-    {"H", 1}, {"X", 1}, {"Z", 1}, {"S", 1}, {"T", 1}, {"CNOT", 2}, {"Meas", 1}, {"BX", 2}, {"BZ", 2},
+    {"H", 1},    {"X", 1},  {"Z", 1},  {"S", 1},    {"T", 1},       {"CNOT", 2},
+    {"Meas", 1}, {"BX", 2}, {"BZ", 2}, {"Init", 1}, {"Discard", 0},
 };
 
 /* The 16-bit word at a place of the listing, low byte first. */
@@ -115,29 +117,33 @@ static int is_accepted(uint64_t answer)
 {
     if (gawipsol_number(answer) == GAWIPSOL_ACCEPTED)
         return 1;
-    fprintf(stderr, "the listing is refused: %u %u\n", gawipsol_number(answer), gawipsol_place(answer));
+    fprintf(stderr, "refused %u %u\n", gawipsol_number(answer), gawipsol_place(answer));
     return 0;
 }
 
-/* Checks the listing and writes its bytes to a file; whether they are written. */
+/* Checks the listing and writes its bytes to a file; the exit status. */
 static int write_listing(const char *name, size_t length)
 {
-    return is_accepted(gawipsol_check_listing(listing, length, work, sizeof work)) && write_file(name, listing, length);
+    if (!is_accepted(gawipsol_check_listing(listing, length, work, sizeof work)))
+        return 1;
+    return write_file(name, listing, length) ? 0 : 2;
 }
 
-/* Exports the listing and writes its text to a file; whether it is written. */
+/* Exports the listing and writes its text to a file; the exit status. */
 static int write_text(const char *name, size_t length)
 {
     const uint64_t answer = gawipsol_export(listing, length, text, sizeof text, export_work, sizeof export_work);
 
-    return is_accepted(answer) && write_file(name, text, gawipsol_export_length(answer));
+    if (!is_accepted(answer))
+        return 1;
+    return write_file(name, text, gawipsol_export_length(answer)) ? 0 : 2;
 }
 
 int main(int count, char **words)
 {
     FILE *from;
     size_t length, listing_length;
-    int unread;
+    int unread, status = 0;
 
     if (count < 2 || count > 4) {
         fprintf(stderr, "usage: host FILE [LISTING [TEXT]]; of a program that finishes the listing is written to LISTING, its text"
@@ -161,9 +167,9 @@ int main(int count, char **words)
         return 2;
     if (listing_length == 0)
         return 1;
-    if (count > 2 && !write_listing(words[2], listing_length))
-        return 2;
-    if (count > 3 && !write_text(words[3], listing_length))
-        return 2;
-    return 0;
+    if (count > 2)
+        status = write_listing(words[2], listing_length);
+    if (count > 3 && status == 0)
+        status = write_text(words[3], listing_length);
+    return status;
 }

@@ -88,7 +88,8 @@ enum gawipsol_number {
     GAWIPSOL_LISTING_WIRES = 26,
 
     /* Texts in OpenQASM 2.0. */
-    GAWIPSOL_NO_EXPORT = 27 /* the text is the export of no listing that is accepted */
+    GAWIPSOL_NO_EXPORT = 27, /* the text is the export of no listing that is accepted */
+    GAWIPSOL_NO_WORD = 28    /* of an export: Init or Discard, for which OpenQASM has no word; place: the entry */
 };
 
 /*
@@ -139,7 +140,8 @@ enum gawipsol_type {
     GAWIPSOL_PAIR = 2,     /* two parts */
     GAWIPSOL_FUNCTION = 3, /* two parts */
     GAWIPSOL_REUSABLE = 4, /* one part */
-    GAWIPSOL_CIRCUIT = 5   /* two parts */
+    GAWIPSOL_CIRCUIT = 5,  /* two parts */
+    GAWIPSOL_UNIT = 6
 };
 
 /* Accepted: the length of the type, in bytes. */
@@ -215,8 +217,8 @@ static inline unsigned gawipsol_listing_outputs(uint64_t answer)
 }
 
 /*
- * The export of a listing of any length: `out` has its text in OpenQASM 2.0. Every listing that is accepted has one; any other is
- * refused as its check refuses it. `work` is working memory.
+ * The export of a listing of any length: `out` has its text in OpenQASM 2.0. A listing that is not accepted is refused as its check
+ * refuses it, and an accepted one with Init or Discard by 28; every other one has a text. `work` is working memory.
  */
 uint64_t gawipsol_export(const uint8_t *listing, size_t listing_length,
                          uint8_t *out, size_t out_length,

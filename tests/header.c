@@ -3,7 +3,7 @@
  * numbers, on listings and on texts, whose answers are known. It is C99 and C++. Each difference is a sentence on standard error;
  * the exit status is 1 if there is one. The program cases_header of tests/comparing prints cases.h, the cases from the table of the
  * comparisons, listing_cases_header of tests/listings prints listing_cases.h, the table of listings, and qasm_cases_header of
- * tests/qasm prints qasm_cases.h, the table of texts.
+ * tests/qasm prints qasm_cases.h, the tables of texts and of listings that have none.
  */
 #include "gawipsol.h"
 
@@ -261,6 +261,14 @@ struct text_case {
     size_t text_length;
 };
 
+/* A listing that is accepted and has no text, and the first entry for which there is no word. */
+struct wordless_case {
+    const char *name;
+    const uint8_t *listing;
+    size_t length;
+    unsigned place;
+};
+
 #include "qasm_cases.h"
 
 static void check_texts(void)
@@ -282,6 +290,12 @@ static void check_texts(void)
         name = of->name;
         if (of->number != GAWIPSOL_ACCEPTED)
             check_export(of->listing, of->length, of->number, of->place, nothing, 0);
+    }
+    for (at = 0; at < sizeof wordless_cases / sizeof wordless_cases[0]; at++) {
+        const struct wordless_case *of = &wordless_cases[at];
+
+        name = of->name;
+        check_export(of->listing, of->length, GAWIPSOL_NO_WORD, of->place, nothing, 0);
     }
 }
 

@@ -290,4 +290,173 @@ pub const FAULTS: &[(&str, &[Edit])] = &[
         "a Bit input listed as a Qubit",
         &[("listing", "BIT_INPUT: u8 = 128", "BIT_INPUT: u8 = 129")],
     ),
+    (
+        "unit takes a label at box entry",
+        &[(
+            "configurations",
+            "let circuit = Circuit::empty(&wires(at));",
+            "fn with_bits(of: &Type) -> Rc<Type> {
+                Rc::new(match of {
+                    Type::Unit => Type::Bit,
+                    Type::Pair(first, second) => Type::Pair(with_bits(first), with_bits(second)),
+                    other => other.clone(),
+                })
+            }
+            let at = &*with_bits(at);
+            let circuit = Circuit::empty(&wires(at));",
+        )],
+    ),
+    (
+        "the leaves counted at box entry, the wires at apply",
+        &[
+            (
+                "configurations",
+                "let circuit = Circuit::empty(&wires(at));",
+                "let mut circuit = Circuit::empty(&wires(at));
+            circuit.next = at.size().div_ceil(2);",
+            ),
+            (
+                "circuits",
+                "let mut renamed: HashMap<usize, usize> = matched.collect();",
+                "let mut renamed: HashMap<usize, usize> = matched.collect();
+        let base = self.next;",
+            ),
+            (
+                "circuits",
+                "renamed.insert(wire, self.next);",
+                "renamed.insert(wire, base + wire - constant.inputs.len());",
+            ),
+        ],
+    ),
+    (
+        "unit saved as a label at box exit",
+        &[(
+            "circuits",
+            "result: result.clone(),",
+            "result: {
+                fn saved(term: &Rc<Term>) -> Rc<Term> {
+                    use super::terms::Form;
+                    match &term.form {
+                        Form::UnitValue => Term::new(Form::Label(0)),
+                        Form::Pair(first, second) => {
+                            Term::new(Form::Pair(saved(first), saved(second)))
+                        }
+                        _ => term.clone(),
+                    }
+                }
+                saved(result)
+            },",
+        )],
+    ),
+    (
+        "unit loaded as a label at apply",
+        &[(
+            "terms",
+            "Form::UnitValue => Term::new(Form::UnitValue),",
+            "Form::UnitValue => Term::new(Form::Label(0)),",
+        )],
+    ),
+    (
+        "Init takes the newest wire",
+        &[(
+            "circuits",
+            "let takes = placed.takes.iter().map(|wire| renamed[wire]).collect();",
+            "let mut takes: Vec<usize> = placed.takes.iter().map(|wire| renamed[wire]).collect();
+            if placed.gate == 9 && self.next > 0 {
+                takes.push(self.next - 1);
+            }",
+        )],
+    ),
+    (
+        "the wire that Init makes not counted",
+        &[(
+            "circuits",
+            "let gate = placed.gate;",
+            "let gate = placed.gate;
+            if gate == 9 {
+                self.next -= 1;
+            }",
+        )],
+    ),
+    (
+        "Discard makes a wire",
+        &[(
+            "circuits",
+            "let gate = placed.gate;",
+            "let gate = placed.gate;
+            if gate == 10 {
+                self.next += 1;
+            }",
+        )],
+    ),
+    (
+        "Discard takes no wire",
+        &[(
+            "circuits",
+            "let takes = placed.takes.iter().map(|wire| renamed[wire]).collect();",
+            "let takes = match placed.gate {
+                10 => Vec::new(),
+                _ => placed.takes.iter().map(|wire| renamed[wire]).collect(),
+            };",
+        )],
+    ),
+    (
+        "unfinished with a unit in the result",
+        &[(
+            "configurations",
+            "self.frames.len() == 1 && self.innermost().term.is_value",
+            "fn has_unit(term: &Term) -> bool {
+                match &term.form {
+                    Form::UnitValue => true,
+                    Form::Pair(first, second) => has_unit(first) || has_unit(second),
+                    _ => false,
+                }
+            }
+            let term = &self.innermost().term;
+            self.frames.len() == 1 && term.is_value && !has_unit(term)",
+        )],
+    ),
+    (
+        "unit in the result listed as an output",
+        &[(
+            "run",
+            "let frame = configuration.innermost();",
+            "fn outputs(term: &Term) -> Vec<usize> {
+                use super::terms::Form;
+                match &term.form {
+                    Form::UnitValue => vec![65_535],
+                    Form::Pair(first, second) => [outputs(first), outputs(second)].concat(),
+                    _ => term.labels(),
+                }
+            }
+            let frame = configuration.innermost();",
+        ), ("run", "&frame.term.labels())", "&outputs(&frame.term))")],
+    ),
+    (
+        "a program without inputs refused",
+        &[(
+            "run",
+            "if !of.is_wire_type() {",
+            "if !of.is_wire_type() || read.labels.is_empty() {",
+        )],
+    ),
+    (
+        "a result without a wire refused",
+        &[(
+            "run",
+            "if !of.is_wire_type() {",
+            "if !of.is_wire_type() || super::circuits::wires(&of).is_empty() {",
+        )],
+    ),
+    (
+        "unit's value counts no node",
+        &[(
+            "terms",
+            "let nodes = 1 + parts().map(|part| part.nodes).sum::<usize>();",
+            "let nodes = match &form {
+                Form::UnitValue => 0,
+                _ => 1 + parts().map(|part| part.nodes).sum::<usize>(),
+            };",
+        )],
+    ),
 ];

@@ -8,7 +8,7 @@ use comparing::Known;
 use program_files::kinds::*;
 
 /// Accepted programs, with their types.
-const ACCEPTED: [(&[u8], Written); 35] = [
+const ACCEPTED: [(&[u8], Written); 46] = [
     // The gates.
     (&[CIRCUIT, QUBIT, QUBIT], (&[], &[], &[(GATE, 0)])),
     (&[CIRCUIT, QUBIT, QUBIT], (&[], &[], &[(GATE, 1)])),
@@ -27,6 +27,71 @@ const ACCEPTED: [(&[u8], Written); 35] = [
     (
         &[CIRCUIT, PAIR_TYPE, BIT, QUBIT, PAIR_TYPE, BIT, QUBIT],
         (&[], &[], &[(GATE, 8)]),
+    ),
+    (&[CIRCUIT, UNIT, QUBIT], (&[], &[], &[(GATE, 9)])),
+    (&[CIRCUIT, BIT, UNIT], (&[], &[], &[(GATE, 10)])),
+    // Unit: its value, dropped, copied, used inside a lift.
+    (&[UNIT], (&[], &[], &[(UNIT_VALUE, 0)])),
+    (&[REU, UNIT], (&[], &[], &[(LIFT, 0), (UNIT_VALUE, 0)])),
+    (
+        &[FUN, UNIT, CIRCUIT, QUBIT, QUBIT],
+        (&[], &[UNIT], &[(ABS, 0), (GATE, 0)]),
+    ),
+    (
+        &[FUN, UNIT, PAIR_TYPE, UNIT, UNIT],
+        (&[], &[UNIT], &[(ABS, 0), (PAIR, 0), (VAR, 0), (VAR, 0)]),
+    ),
+    (
+        &[FUN, UNIT, REU, UNIT],
+        (&[], &[UNIT], &[(ABS, 0), (LIFT, 0), (VAR, 0)]),
+    ),
+    // Boxes at unit and to unit.
+    (
+        &[CIRCUIT, UNIT, UNIT],
+        (&[], &[UNIT], &[(BOX, 0), (LIFT, 0), (ABS, 0), (VAR, 0)]),
+    ),
+    (
+        &[CIRCUIT, UNIT, PAIR_TYPE, QUBIT, UNIT],
+        (
+            &[],
+            &[UNIT],
+            &[
+                (BOX, 0),
+                (LIFT, 0),
+                (ABS, 0),
+                (PAIR, 0),
+                (APPLY, 0),
+                (GATE, 9),
+                (VAR, 0),
+                (VAR, 0),
+            ],
+        ),
+    ),
+    (
+        &[CIRCUIT, PAIR_TYPE, BIT, UNIT, UNIT],
+        (
+            &[],
+            &[PAIR_TYPE, BIT, UNIT],
+            &[
+                (BOX, 0),
+                (LIFT, 0),
+                (ABS, 0),
+                (LET, 0),
+                (VAR, 0),
+                (APPLY, 0),
+                (GATE, 10),
+                (VAR, 1),
+            ],
+        ),
+    ),
+    // A wire goes, and a unit is left.
+    (
+        &[UNIT],
+        (
+            &[QUBIT],
+            &[],
+            &[(APPLY, 0), (GATE, 10), (APPLY, 0), (GATE, 6), (LABEL, 0)],
+        ),
     ),
     // Argument 0 is the pair's second half.
     (
@@ -321,7 +386,7 @@ const ACCEPTED: [(&[u8], Written); 35] = [
 ];
 
 /// Refused programs: the number and the place.
-const REFUSED: [(u8, usize, Written); 53] = [
+const REFUSED: [(u8, usize, Written); 61] = [
     // 16, each rule.
     (16, 0, (&[], &[], &[(FORCE, 0), (GATE, 0)])),
     (16, 0, (&[], &[], &[(APP, 0), (GATE, 0), (GATE, 0)])),
@@ -390,6 +455,45 @@ const REFUSED: [(u8, usize, Written); 53] = [
                 (VAR, 0),
                 (GATE, 0),
             ],
+        ),
+    ),
+    // Unit's value is no wire, no pair and no circuit; Init takes no wire, and
+    // Discard no Qubit.
+    (16, 0, (&[], &[], &[(APPLY, 0), (GATE, 0), (UNIT_VALUE, 0)])),
+    (
+        16,
+        0,
+        (&[], &[], &[(LET, 0), (UNIT_VALUE, 0), (UNIT_VALUE, 0)]),
+    ),
+    (
+        16,
+        0,
+        (&[], &[], &[(APPLY, 0), (UNIT_VALUE, 0), (UNIT_VALUE, 0)]),
+    ),
+    (16, 1, (&[QUBIT], &[], &[(APPLY, 0), (GATE, 9), (LABEL, 0)])),
+    (
+        16,
+        1,
+        (&[QUBIT], &[], &[(APPLY, 0), (GATE, 10), (LABEL, 0)]),
+    ),
+    (
+        16,
+        1,
+        (
+            &[],
+            &[UNIT],
+            &[(BOX, 0), (LIFT, 0), (ABS, 0), (LIFT, 0), (VAR, 0)],
+        ),
+    ),
+    // A label beside unit's value is not used, and a function of units is linear.
+    (17, 0, (&[QUBIT], &[], &[(UNIT_VALUE, 0)])),
+    (
+        17,
+        3,
+        (
+            &[],
+            &[FUN, UNIT, UNIT],
+            &[(ABS, 0), (PAIR, 0), (VAR, 0), (VAR, 0)],
         ),
     ),
     // A function given where a circuit is wanted, and a circuit for a
@@ -721,7 +825,7 @@ const REFUSED: [(u8, usize, Written); 53] = [
 
 /// Pairs with a half that may be neither copied nor dropped, a wire or a
 /// function: the first half, the second, and one of a pair inside the pair.
-const LINEAR_PAIRS: [&[u8]; 9] = [
+const LINEAR_PAIRS: [&[u8]; 12] = [
     &[PAIR_TYPE, QUBIT, REU, BIT],
     &[PAIR_TYPE, CIRCUIT, QUBIT, QUBIT, BIT],
     &[PAIR_TYPE, FUN, BIT, BIT, REU, BIT],
@@ -731,6 +835,9 @@ const LINEAR_PAIRS: [&[u8]; 9] = [
     &[PAIR_TYPE, REU, BIT, PAIR_TYPE, QUBIT, REU, BIT],
     &[PAIR_TYPE, REU, BIT, PAIR_TYPE, REU, BIT, FUN, BIT, BIT],
     &[PAIR_TYPE, PAIR_TYPE, FUN, BIT, BIT, REU, BIT, REU, BIT],
+    &[PAIR_TYPE, UNIT, QUBIT],
+    &[PAIR_TYPE, BIT, UNIT],
+    &[PAIR_TYPE, UNIT, FUN, UNIT, UNIT],
 ];
 
 /// A number, how far its place is behind the abstraction, and the term.

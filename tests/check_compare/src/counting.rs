@@ -47,9 +47,18 @@ pub enum Wrong {
     LetOfFunction,
     NoPairAtFirstPart,
     MeasToQubit,
+    UnitLinear,
+    UnitNotCopied,
+    UnitNotDropped,
+    UnitNotInLifts,
+    UnitNoResult,
+    UnitIsBit,
+    InitFromQubit,
+    DiscardToBit,
+    ValueIsBit,
 }
 
-pub const PLANTED: [(&str, Wrong); 52] = [
+pub const PLANTED: [(&str, Wrong); 61] = [
     ("counting stops at a lift", Wrong::CountEndsAtLift),
     ("a function may be copied", Wrong::FunctionCopyable),
     ("pairs never copied", Wrong::PairsLinear(0)),
@@ -141,9 +150,20 @@ pub const PLANTED: [(&str, Wrong); 52] = [
     ("let takes a function apart", Wrong::LetOfFunction),
     ("the place of let's first part", Wrong::NoPairAtFirstPart),
     ("Meas gives a Qubit", Wrong::MeasToQubit),
+    ("unit is linear", Wrong::UnitLinear),
+    ("unit may not be copied", Wrong::UnitNotCopied),
+    ("unit may not be dropped", Wrong::UnitNotDropped),
+    ("unit not used inside a lift", Wrong::UnitNotInLifts),
+    ("no box to a type with unit", Wrong::UnitNoResult),
+    ("unit and Bit are equal", Wrong::UnitIsBit),
+    ("Init takes a Qubit", Wrong::InitFromQubit),
+    ("Discard gives a Bit", Wrong::DiscardToBit),
+    ("unit's value is a Bit", Wrong::ValueIsBit),
 ];
 
 const MEAS: u16 = 6;
+const INIT: u16 = 9;
+const DISCARD: u16 = 10;
 
 struct Variable {
     of: Option<Rc<Type>>,
@@ -247,6 +267,16 @@ impl Counting<'_> {
             Type::Function(..) => self.wrong == Wrong::FunctionCopyable,
             Type::Reusable(_) => self.wrong != Wrong::ReusableLinear,
             Type::Circuit(..) => self.wrong != Wrong::CircuitLinear,
+            Type::Unit => self.wrong != Wrong::UnitLinear,
+        }
+    }
+
+    /// Whether a variable of this type may be used so often.
+    fn is_allowed(&self, of: &Type, uses: usize) -> bool {
+        match (self.wrong, of) {
+            (Wrong::UnitNotCopied, Type::Unit) => uses <= 1,
+            (Wrong::UnitNotDropped, Type::Unit) => uses > 0,
+            _ => self.is_copyable(of) || self.is_once(uses),
         }
     }
 
@@ -282,6 +312,21 @@ impl Counting<'_> {
                 };
                 alike(one) == alike(other)
             }
+            Wrong::UnitIsBit => {
+                let alike = |of: &Type| -> Vec<u8> {
+                    let bytes = of.preorder().into_iter();
+                    bytes
+                        .map(|kind| {
+                            if kind == kinds::UNIT {
+                                kinds::BIT
+                            } else {
+                                kind
+                            }
+                        })
+                        .collect()
+                };
+                alike(one) == alike(other)
+            }
             _ => one == other,
         }
     }
@@ -292,7 +337,10 @@ impl Counting<'_> {
         let lifts = self.lifts;
         let variable = &self.scope[at];
         let bound = variable.lifts;
-        let linear = variable.of.as_ref().map(|of| self.is_linear(of));
+        let linear = variable.of.as_ref().map(|of| {
+            let unit = **of == Type::Unit && wrong == Wrong::UnitNotInLifts;
+            unit || self.is_linear(of)
+        });
         let inside = match wrong {
             Wrong::OutermostLiftOnly => lifts > 0 && bound == 0,
             Wrong::BoundInLift => lifts > 0,
@@ -330,7 +378,14 @@ impl Counting<'_> {
                 Some(self.labels[number].as_type())
             }
             Term::Gate(MEAS) if self.wrong == Wrong::MeasToQubit => Some(GATES[0].circuit_type()),
+            Term::Gate(INIT) if self.wrong == Wrong::InitFromQubit => Some(GATES[0].circuit_type()),
+            Term::Gate(DISCARD) if self.wrong == Wrong::DiscardToBit => {
+                let bit = || Rc::new(Type::Bit);
+                Some(Rc::new(Type::Circuit(bit(), bit())))
+            }
             Term::Gate(number) => Some(GATES[usize::from(*number)].circuit_type()),
+            Term::UnitValue if self.wrong == Wrong::ValueIsBit => Some(Rc::new(Type::Bit)),
+            Term::UnitValue => Some(Rc::new(Type::Unit)),
             Term::Abstraction(over, body) => {
                 let to = self.under(&[Some(over.clone())], place, body)?;
                 self.bounded(Type::Function(over.clone(), to), place)
@@ -382,7 +437,11 @@ impl Counting<'_> {
             return None;
         };
         let from_fits = self.wrong == Wrong::BoxAtAny || self.are_equal(from, at);
-        let to_fits = self.wrong == Wrong::BoxToAny || to.is_wire_type();
+        let to_fits = match self.wrong {
+            Wrong::BoxToAny => true,
+            Wrong::UnitNoResult => to.is_wire_type() && !to.preorder().contains(&kinds::UNIT),
+            _ => to.is_wire_type(),
+        };
         (from_fits && to_fits).then(|| Rc::new(Type::Circuit(at.clone(), to.clone())))
     }
 
@@ -464,8 +523,9 @@ impl Counting<'_> {
         let inner =
             self.wrong == Wrong::InnerBinderFirst && types.len() == 1 && self.uses.len() > before;
         for variable in self.scope.split_off(outside) {
-            let linear = variable.of.as_ref().is_some_and(|of| self.is_linear(of));
-            if linear && !self.is_once(variable.uses) && !inner {
+            let of = variable.of.as_ref();
+            let allowed = of.is_none_or(|of| self.is_allowed(of, variable.uses));
+            if !allowed && !inner {
                 self.uses.push(variable.place);
             }
         }

@@ -13,12 +13,13 @@ use programs::edit::{binds, with_parts};
 use programs::extremes;
 use programs::rules::MOST_ENTRIES;
 use programs::terms::{
-    abstraction, application, apply, boxed, force, gate, label, let_in, lift, pair, variable,
+    abstraction, application, apply, boxed, force, gate, label, let_in, lift, pair, unit_value,
+    variable,
 };
 use programs::typed::{padded, typed, Goal, Plan, Typed, RULES};
 use programs::types::{
     any_type, any_wires, circuit, closed_type, one_entry_changed, open_type, parameter_type,
-    reusable, wire_type, OPEN,
+    reusable, unit, wire_type_with_units, OPEN,
 };
 use std::rc::Rc;
 
@@ -26,6 +27,7 @@ pub fn compare(comparison: &mut Comparison) {
     // Those that tell the planted faults apart stand first.
     several_faults(comparison);
     types_at_the_bound(comparison);
+    boxes_at_units(comparison);
     compared_types(comparison);
     one_fault(comparison);
     any_typed(comparison);
@@ -82,6 +84,7 @@ fn all_small(comparison: &mut Comparison) {
     let leaf = || gate(0);
     let over_qubit = abstraction(qubit.clone(), leaf());
     let over_circuit = abstraction(circuit(qubit.clone(), qubit.clone()), leaf());
+    let (over_unit, boxed_at_unit) = (abstraction(unit(), leaf()), boxed(unit(), leaf()));
     let boxed = boxed(qubit, leaf());
     let (lift, force) = (lift(leaf()), force(leaf()));
     let (application, apply) = (application(leaf(), leaf()), apply(leaf(), leaf()));
@@ -110,8 +113,16 @@ fn all_small(comparison: &mut Comparison) {
             labels: vec![Wire::Qubit, Wire::Qubit],
             leaves: vec![label(0), label(1), gate(5)],
             one_part: vec![lift.clone()],
-            two_parts: vec![pair.clone(), let_in, apply],
+            two_parts: vec![pair.clone(), let_in, apply.clone()],
             most: 6,
+        },
+        // Units, and Qubits that come and go.
+        Small {
+            labels: vec![Wire::Bit],
+            leaves: vec![label(0), unit_value(), gate(9), gate(10)],
+            one_part: vec![over_unit, lift.clone(), force.clone(), boxed_at_unit],
+            two_parts: vec![application.clone(), pair.clone(), apply],
+            most: 5,
         },
         // No label; variables that may be copied and others.
         Small {
@@ -140,6 +151,10 @@ fn any_typed(comparison: &mut Comparison) {
     });
     planned(comparison, &mut random, 4_000, |random| {
         Plan::any(random, 8, 60)
+    });
+    comparison.group("well typed, with wires that come and go");
+    planned(comparison, &mut random, 6_000, |random| {
+        Plan::any(random, 4, 40).with_helpers()
     });
     comparison.group("well typed, of a wire type");
     for _ in 0..6_000 {
@@ -275,6 +290,24 @@ fn types_at_the_bound(comparison: &mut Comparison) {
     }
 }
 
+/// Boxes at pairs of units only, with types near the bound.
+fn boxes_at_units(comparison: &mut Comparison) {
+    comparison.group("boxes at units, near the bound");
+    let mut random = Random::new(14);
+    for pairs in 120..=135 {
+        let typed = extremes::box_at_units(pairs);
+        for _ in 0..4 {
+            let entries = entries(&mut random, &typed.program).expect("a file");
+            let abstraction = entries.sizes().first_term() + 3;
+            let known = match pairs <= 127 {
+                true => Known::Type(typed.of.clone()),
+                false => Known::Refused(16, abstraction),
+            };
+            comparison.program(&entries.bytes(), &known);
+        }
+    }
+}
+
 /// A type of exactly so many entries that has a term: a pair, a function or a
 /// reusable.
 fn large_type(random: &mut Random, size: usize) -> Rc<Type> {
@@ -356,9 +389,10 @@ fn compared_types(comparison: &mut Comparison) {
             _ => random.between(1, 10),
         };
         let wires = any_wires(&mut random, count);
-        let of = wire_type(&mut random, &wires);
+        let units = random.pick(&[0, 0, 1, 2, 4]);
+        let of = wire_type_with_units(&mut random, &wires, units);
         let other = match random.below(3) {
-            0 => wire_type(&mut random, &wires),
+            0 => wire_type_with_units(&mut random, &wires, units),
             _ => one_entry_changed(&mut random, &of),
         };
         let over = |at: &Rc<Type>| lift(abstraction(at.clone(), variable(0)));
@@ -380,18 +414,19 @@ fn compared_types(comparison: &mut Comparison) {
     }
 }
 
-/// The labels in order as a tuple of this wire type; none if they have other
-/// types.
+/// The labels in order as a tuple of this wire type; none if there are too few or
+/// they have other types.
 fn tuple_of(of: &Type, labels: &[Wire], next: &mut usize) -> Option<Rc<Term>> {
     match of {
         Type::Pair(first, second) => {
             let first = tuple_of(first, labels, next)?;
             Some(pair(first, tuple_of(second, labels, next)?))
         }
+        Type::Unit => Some(unit_value()),
         _ => {
             let number = *next;
             *next += 1;
-            (*labels[number].as_type() == *of).then(|| label(number))
+            (*labels.get(number)?.as_type() == *of).then(|| label(number))
         }
     }
 }
@@ -540,9 +575,9 @@ fn not_read(comparison: &mut Comparison) {
                 5 => changed[at] ^= 1 << random.below(8),
                 6 => {
                     let at = random.between(types, bytes.len() - 1).min(types + 8);
-                    changed[at] = random.between(0, 5) as u8;
+                    changed[at] = random.between(0, 6) as u8;
                 }
-                _ => changed[at] = random.between(0, 27) as u8,
+                _ => changed[at] = random.between(0, 28) as u8,
             }
             comparison.program(&changed, &Known::Nothing);
         }

@@ -7,8 +7,10 @@ use comparing::Known;
 use program_files::{Program, Random, Term, Type, Wire, GATES};
 use programs::nested::{taken_out, Nesting, Side, Tree, Way};
 use programs::rules::MOST_ENTRIES;
-use programs::terms::{abstraction, application, force, gate, label, let_in, lift, pair, variable};
-use programs::types::{self, any_type, any_wire, function, pairs_deep, reusable};
+use programs::terms::{
+    abstraction, application, force, gate, label, let_in, lift, pair, unit_value, variable,
+};
+use programs::types::{self, any_type, any_wire, function, pairs_deep, reusable, unit};
 use std::collections::BTreeMap;
 use std::rc::Rc;
 
@@ -160,7 +162,7 @@ fn pair_of(first: Part, second: Part) -> Part {
     }
 }
 
-/// A gate, a lifted gate or a lifted function; where no term is wanted, any
+/// A gate, a lifted gate, a lifted function or unit; where no term is wanted, any
 /// small reusable.
 fn copyable_leaf(random: &mut Random, small: bool, with_term: bool) -> Part {
     let number = match small {
@@ -168,7 +170,8 @@ fn copyable_leaf(random: &mut Random, small: bool, with_term: bool) -> Part {
         false => random.below(GATES.len()),
     };
     let of = GATES[number].circuit_type();
-    let (of, value) = match random.below(4) {
+    let (of, value) = match random.below(5) {
+        4 => (unit(), Some(unit_value())),
         _ if small => (of, Some(gate(number))),
         0 if !with_term => {
             let size = random.between(1, 4);
@@ -208,6 +211,8 @@ struct Plan {
     uses: Use,
     /// Whether one leaf is linear.
     linear: bool,
+    /// Whether all others are units.
+    units: bool,
 }
 
 /// A program, its type if it has no fault, and its faults, each a number and a
@@ -242,6 +247,12 @@ pub fn compare(comparison: &mut Comparison) {
             several(comparison, &mut random, &all[..nestings], depth, &mut seen);
         }
     }
+    comparison.group("units, and pairs of units at every depth");
+    for depth in 0..=DEEPEST_EVEN {
+        for _ in 0..ROUNDS {
+            units(comparison, &mut random, &all, depth);
+        }
+    }
     comparison.group("pairs, very deep");
     for depth in VERY_DEEP {
         for _ in 0..6 {
@@ -257,6 +268,27 @@ pub fn compare(comparison: &mut Comparison) {
                 let counted = (depth, sort, linear);
                 let seen = seen.get(&counted).copied().unwrap_or(0);
                 assert!(seen >= least, "too few of {counted:?}: {seen}");
+            }
+        }
+    }
+}
+
+/// Compares one program for each use and each binder of units in pairs.
+fn units(comparison: &mut Comparison, random: &mut Random, nestings: &[Nesting], depth: usize) {
+    for uses in USES {
+        for binder in BINDERS {
+            for linear in [false, true] {
+                let plan = Plan {
+                    nesting: random.pick(nestings),
+                    depth,
+                    binder,
+                    uses,
+                    linear,
+                    units: true,
+                };
+                if let Some(made) = made(random, &plan) {
+                    compared(comparison, random, made);
+                }
             }
         }
     }
@@ -280,6 +312,7 @@ fn several(
                     binder,
                     uses,
                     linear,
+                    units: false,
                 };
                 let Some(made) = made(random, &plan) else {
                     continue;
@@ -321,6 +354,11 @@ fn made(random: &mut Random, plan: &Plan) -> Option<Made> {
             let (leaf, wire) = linear_leaf(random);
             labels.extend(wire.filter(|_| with_term));
             leaf
+        } else if plan.units {
+            Part {
+                of: unit(),
+                value: Some(unit_value()),
+            }
         } else {
             copyable_leaf(random, plan.depth > DEEPEST, with_term)
         });
@@ -340,7 +378,7 @@ fn made(random: &mut Random, plan: &Plan) -> Option<Made> {
 /// The way to the part that is taken out by lets: none at most times, else the
 /// start of one to the linear leaf or to any leaf.
 fn some_way(random: &mut Random, ways: &[Way], to_linear: Option<&Way>) -> Way {
-    if !random.one_in(4) {
+    if ways.len() == 1 || !random.one_in(4) {
         return Way::new();
     }
     let way = match to_linear {

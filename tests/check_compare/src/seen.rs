@@ -2,7 +2,7 @@
 
 use comparing::Pairs;
 use program_files::entries::LONGEST;
-use program_files::{kinds, Accepted, Type};
+use program_files::{kinds, Accepted, Term, Type};
 use programs::rules::{copyable, MOST_ENTRIES};
 use programs::survey::Survey;
 use programs::types::pairs_deep;
@@ -24,9 +24,14 @@ pub struct Seen {
     largest: usize,
     with_largest: usize,
     /// Nodes by kind.
-    kinds: [usize; 11],
+    kinds: [usize; 12],
     /// Variables by the kind of their type, and by uses: none, one, more.
-    uses: [[usize; 3]; 6],
+    uses: [[usize; 3]; 7],
+    /// Variables of unit that are used inside a lift and bound outside.
+    units_in_lifts: usize,
+    /// Boxes at a type with unit inside, and at one without a wire; boxes to such.
+    boxes_at_units: [usize; 2],
+    boxes_to_units: [usize; 2],
     /// Variables of a pair type that may be copied.
     pairs: Pairs<8>,
 }
@@ -50,6 +55,15 @@ impl Seen {
             largest |= node.of.as_ref().is_some_and(|of| of.size() == MOST_ENTRIES);
             if let Some(binder) = survey.binder(at) {
                 uses[binder] += 1;
+                let in_lift = node.lifts > survey.binders[binder].lifts;
+                let is_unit = node.of.as_deref() == Some(&Type::Unit);
+                self.units_in_lifts += usize::from(in_lift && is_unit);
+            }
+            if let (Term::Box(..), Some(Type::Circuit(from, to))) =
+                (&*node.term, node.of.as_deref())
+            {
+                count_units(&mut self.boxes_at_units, from);
+                count_units(&mut self.boxes_to_units, to);
             }
         }
         for (binder, uses) in survey.binders.iter().zip(uses) {
@@ -105,9 +119,14 @@ impl Seen {
             ("function", kinds::FUNCTION),
             ("reusable", kinds::REUSABLE),
             ("circuit", kinds::CIRCUIT),
+            ("unit", kinds::UNIT),
         ] {
             let [none, one, more] = self.uses[usize::from(kind)];
             println!("variables of kind {name}: {none} not used, {one} once, {more} more often");
+        }
+        println!("units used inside a lift: {}", self.units_in_lifts);
+        for (name, [with, only]) in [("at", self.boxes_at_units), ("to", self.boxes_to_units)] {
+            println!("boxes {name} a type with unit inside: {with}, without a wire: {only}");
         }
         self.pairs.report(USES_OF_PAIRS);
     }
@@ -132,17 +151,28 @@ impl Seen {
                 "too few linear variables"
             );
         }
-        for kind in [kinds::REUSABLE, kinds::CIRCUIT] {
+        for kind in [kinds::REUSABLE, kinds::CIRCUIT, kinds::UNIT] {
             let uses = self.uses[usize::from(kind)];
             assert!(uses.iter().all(|&uses| uses >= 1_000), "too few copies");
         }
+        assert!(self.units_in_lifts >= 1_000, "too few units in lifts");
+        let boxes = [self.boxes_at_units, self.boxes_to_units];
+        let enough = boxes.iter().flatten().all(|&boxes| boxes >= 500);
+        assert!(enough, "too few boxes with units");
         self.pairs.assert(LEAST_PAIRS);
     }
 }
 
+/// Counts a wire type if it has unit inside, and if it has no wire.
+fn count_units([with, only]: &mut [usize; 2], of: &Type) {
+    let kinds = of.preorder();
+    *with += usize::from(kinds.contains(&kinds::UNIT));
+    *only += usize::from(!kinds.contains(&kinds::BIT) && !kinds.contains(&kinds::QUBIT));
+}
+
 /// The name of a kind of the term section.
 pub fn name_of(kind: u8) -> &'static str {
-    const NAMES: [&str; 11] = [
+    const NAMES: [&str; 12] = [
         "variable",
         "label",
         "abstraction",
@@ -154,6 +184,7 @@ pub fn name_of(kind: u8) -> &'static str {
         "box",
         "apply",
         "gate",
+        "unit's value",
     ];
     NAMES[usize::from(kind - kinds::VARIABLE)]
 }

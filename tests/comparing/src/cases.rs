@@ -4,6 +4,7 @@
 
 use crate::copied_pairs::{self, Copied};
 use crate::first_faults::{self, Faulty};
+use crate::helpers::{self, Helped};
 use crate::known::Known;
 use crate::written::{entries, type_of, Written, ABS, APP, FUN, VAR};
 use program_files::kinds::*;
@@ -38,7 +39,7 @@ pub struct Listing {
 
 /// The limits with which each case is run: those around the steps of each, and
 /// that of `wirelist`.
-pub const LIMITS: [u32; 10] = [0, 1, 2, 3, 4, 5, 6, 8, 9, 1_000_000];
+pub const LIMITS: [u32; 11] = [0, 1, 2, 3, 4, 5, 6, 7, 8, 9, 1_000_000];
 
 /// The table.
 pub fn all() -> Vec<Case> {
@@ -62,25 +63,33 @@ pub fn all() -> Vec<Case> {
     all.extend(first_faults::all().into_iter().map(faulty));
     all.extend(copied_pairs::accepted().into_iter().map(copied));
     all.extend(copied_pairs::refused().into_iter().map(faulty));
+    all.extend(helpers::all().into_iter().map(helped));
     all
 }
 
 fn faulty(of: Faulty) -> Case {
     let refusal = refusal(of.number, of.place);
-    let entries = of_qubits(of.labels, of.term);
+    let entries = written(vec![Wire::Qubit; of.labels], of.term);
     read(&of.name, &entries, Err(refusal), Err(refusal))
 }
 
 fn copied(of: Copied) -> Case {
     let Copied { steps, listing, .. } = of;
     let run = Ok(Finished { steps, listing });
-    read(of.name, &of_qubits(1, of.term), Ok(&[QUBIT]), run)
+    let entries = written(vec![Wire::Qubit], of.term);
+    read(of.name, &entries, Ok(&[QUBIT]), run)
 }
 
-/// The program of a term with so many labels, all Qubits. Each type is written
-/// anew, as in the proved table.
-fn of_qubits(labels: usize, term: Rc<Term>) -> Entries {
-    let program = Program::new(vec![Wire::Qubit; labels], term);
+fn helped(of: Helped) -> Case {
+    let Helped { steps, listing, .. } = of;
+    let run = Ok(Finished { steps, listing });
+    read(of.name, &written(of.labels, of.term), Ok(of.of), run)
+}
+
+/// The program of a term with these labels. Each type is written anew, as in the
+/// proved table.
+fn written(labels: Vec<Wire>, term: Rc<Term>) -> Entries {
+    let program = Program::new(labels, term);
     encode(&program, Positions::Fresh).expect("a file")
 }
 

@@ -9,6 +9,7 @@ pub mod counts;
 pub mod files;
 pub mod first_faults;
 pub mod guarded;
+pub mod helpers;
 pub mod known;
 pub mod lent;
 pub mod one_kind;

@@ -92,6 +92,7 @@ pub fn wires(of: &Type) -> Vec<Wire> {
     match of {
         Type::Bit => vec![Wire::Bit],
         Type::Qubit => vec![Wire::Qubit],
+        Type::Unit => vec![],
         Type::Pair(first, second) => {
             let mut list = wires(first);
             list.extend(wires(second));

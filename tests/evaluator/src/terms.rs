@@ -20,6 +20,8 @@ pub enum Form {
     Force(Rc<Term>),
     Box(Rc<Type>, Rc<Term>),
     Apply(Rc<Term>, Rc<Term>),
+    /// The value of unit.
+    UnitValue,
 }
 
 /// A term, with what follows from its parts.
@@ -42,7 +44,8 @@ impl Term {
             | Form::Lift(_)
             | Form::Label(_)
             | Form::Gate(_)
-            | Form::Constant(_) => true,
+            | Form::Constant(_)
+            | Form::UnitValue => true,
             Form::Pair(first, second) => first.is_value && second.is_value,
             _ => false,
         };
@@ -78,6 +81,7 @@ impl Term {
             Written::Force(part) => Form::Force(of(part)),
             Written::Box(at, part) => Form::Box(at.clone(), of(part)),
             Written::Apply(first, second) => Form::Apply(of(first), of(second)),
+            Written::UnitValue => Form::UnitValue,
         })
     }
 
@@ -85,9 +89,11 @@ impl Term {
     pub fn with_part(&self, at: usize, new: Rc<Term>) -> Rc<Term> {
         let mut form = self.form.clone();
         let part = match &mut form {
-            Form::Variable(_) | Form::Label(_) | Form::Gate(_) | Form::Constant(_) => {
-                unreachable!("no parts")
-            }
+            Form::Variable(_)
+            | Form::Label(_)
+            | Form::Gate(_)
+            | Form::Constant(_)
+            | Form::UnitValue => unreachable!("no parts"),
             Form::Abstraction(part) | Form::Lift(part) | Form::Force(part) | Form::Box(_, part) => {
                 part
             }
@@ -129,6 +135,7 @@ impl Term {
     pub fn labels(&self) -> Vec<usize> {
         match &self.form {
             Form::Label(number) => vec![*number],
+            Form::UnitValue => vec![],
             Form::Pair(first, second) => {
                 let mut labels = first.labels();
                 labels.extend(second.labels());
@@ -142,6 +149,7 @@ impl Term {
     pub fn relabelled(&self, new: &dyn Fn(usize) -> usize) -> Rc<Term> {
         match &self.form {
             Form::Label(number) => Term::new(Form::Label(new(*number))),
+            Form::UnitValue => Term::new(Form::UnitValue),
             Form::Pair(first, second) => {
                 Term::new(Form::Pair(first.relabelled(new), second.relabelled(new)))
             }
@@ -149,13 +157,15 @@ impl Term {
         }
     }
 
-    /// A tuple of this wire type with these labels, left to right.
+    /// A tuple of this wire type with these labels, left to right, and with the
+    /// value of unit wherever the type has unit.
     pub fn tuple(of: &Type, labels: &mut dyn Iterator<Item = usize>) -> Rc<Term> {
         Term::new(match of {
             Type::Pair(first, second) => {
                 let first = Term::tuple(first, labels);
                 Form::Pair(first, Term::tuple(second, labels))
             }
+            Type::Unit => Form::UnitValue,
             _ => Form::Label(labels.next().expect("a label for each wire")),
         })
     }
@@ -164,7 +174,11 @@ impl Term {
 /// The parts, left to right.
 fn parts_of(form: &Form) -> impl Iterator<Item = &Rc<Term>> {
     let parts = match form {
-        Form::Variable(_) | Form::Label(_) | Form::Gate(_) | Form::Constant(_) => [None, None],
+        Form::Variable(_)
+        | Form::Label(_)
+        | Form::Gate(_)
+        | Form::Constant(_)
+        | Form::UnitValue => [None, None],
         Form::Abstraction(part) | Form::Lift(part) | Form::Force(part) | Form::Box(_, part) => {
             [Some(part), None]
         }

@@ -17,6 +17,7 @@ pub enum Named {
     Lift(Box<Named>),
     Box(Rc<Type>, Box<Named>),
     Apply(Box<Named>, Box<Named>),
+    Unit,
 }
 
 // The gates by their numbers.
@@ -29,6 +30,8 @@ pub const CNOT: Named = Named::Gate(5);
 pub const MEAS: Named = Named::Gate(6);
 pub const BX: Named = Named::Gate(7);
 pub const BZ: Named = Named::Gate(8);
+pub const INIT: Named = Named::Gate(9);
+pub const DISCARD: Named = Named::Gate(10);
 
 pub fn bit() -> Rc<Type> {
     Wire::Bit.as_type()
@@ -110,6 +113,10 @@ pub enum Action {
     OnTwo(Named, [&'static str; 2]),
     OnThree(Named, [&'static str; 3]),
     Measure(&'static str),
+    /// A new Qubit has the name.
+    Come(&'static str),
+    /// The Bit of this name is gone.
+    Go(&'static str),
 }
 
 /// Actions one after the other, and then what follows.
@@ -118,6 +125,8 @@ pub fn then(actions: Vec<Action>, rest: Named) -> Named {
     actions.fold(rest, |rest, action| match action {
         Action::On(circuit, wire) => bind(wire, qubit(), apply(circuit, name(wire)), rest),
         Action::Measure(wire) => bind(wire, bit(), apply(MEAS, name(wire)), rest),
+        Action::Come(wire) => bind(wire, qubit(), apply(INIT, Named::Unit), rest),
+        Action::Go(wire) => bind(wire, types::unit(), apply(DISCARD, name(wire)), rest),
         Action::OnTwo(circuit, [first, second]) => {
             let both = pair(name(first), name(second));
             halves([first, second], apply(circuit, both), rest)
@@ -145,6 +154,7 @@ impl Named {
             }
             Named::Label(number) => terms::label(*number),
             Named::Gate(number) => terms::gate(*number),
+            Named::Unit => terms::unit_value(),
             Named::Function(name, of, body) => {
                 names.push(name);
                 let body = body.under(names);

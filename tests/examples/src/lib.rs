@@ -1,12 +1,12 @@
-//! Programs as an example: how they are built, their files, their listings and
-//! their texts in OpenQASM.
+//! Programs as an example: how they are built, their files, their listings and,
+//! where they have one, their texts in OpenQASM.
 
 mod builder;
 mod programs;
 
 use evaluator::text::{text, LIMIT};
 use evaluator::Answer;
-use program_files::{Program, Wire};
+use program_files::{Program, Refusal, Wire};
 
 pub struct Example {
     pub name: &'static str,
@@ -14,9 +14,9 @@ pub struct Example {
     pub file: Vec<u8>,
     /// The lines that `wirelist` prints.
     pub lines: String,
-    /// The listing, and its text in OpenQASM.
     pub listing: Vec<u8>,
-    pub text: Vec<u8>,
+    /// Its text in OpenQASM; none with Init or Discard, which have no word there.
+    pub text: Option<Vec<u8>>,
 }
 
 pub fn examples() -> Vec<Example> {
@@ -28,7 +28,11 @@ pub fn examples() -> Vec<Example> {
         let Answer::Finished { listing, .. } = answer else {
             panic!("{name} does not finish");
         };
-        let text = qasm::export(&listing).expect("a listing that is accepted");
+        let text = match qasm::export(&listing) {
+            Ok(text) => Some(text),
+            Err(Refusal { number: 28, .. }) => None,
+            Err(refusal) => panic!("the listing of {name} is refused: {refusal:?}"),
+        };
         Example {
             name,
             file,

@@ -1,6 +1,6 @@
 //! The example programs.
 
-use crate::builder::Action::{Measure, On, OnThree, OnTwo};
+use crate::builder::Action::{Come, Go, Measure, On, OnThree, OnTwo};
 use crate::builder::{
     apply, bind, boxed_one, boxed_three, boxed_two, define, halves, input, name, pair, qubit, then,
     three, two, two_circuits, Named, BX, BZ, CNOT, H, S, T, X, Z,
@@ -15,6 +15,7 @@ pub fn all() -> Vec<(&'static str, usize, Named)> {
         ("grover", 2, grover()),
         ("adder", 4, adder()),
         ("basis", 2, basis()),
+        ("repetition", 3, repetition()),
     ]
 }
 
@@ -172,5 +173,40 @@ fn adder() -> Named {
         qubit(),
         t_inverse(),
         define("toffoli", three(), toffoli(), inputs),
+    )
+}
+
+/// Makes an outer Qubit of the code agree with the middle one. A helper Qubit comes
+/// as 0 and takes the parity of the two; it is measured, the outer Qubit is flipped
+/// if the Bit is 1, and the Bit goes.
+fn agree() -> Named {
+    let actions = vec![
+        Come("helper"),
+        OnTwo(CNOT, ["outer", "helper"]),
+        OnTwo(CNOT, ["middle", "helper"]),
+        Measure("helper"),
+        OnTwo(BX, ["helper", "outer"]),
+        Go("helper"),
+    ];
+    let result = pair(name("outer"), name("middle"));
+    boxed_two(["outer", "middle"], then(actions, result))
+}
+
+/// Two rounds of the repetition code of three Qubits, in which 000 stands for 0 and
+/// 111 for 1. A round compares each of the two outer Qubits with the middle one, so
+/// it puts a flip of an outer Qubit right before the next round. Both comparisons
+/// are one box, and both rounds are one box.
+fn repetition() -> Named {
+    let [a, b, c] = ["a", "b", "c"];
+    let compared = vec![OnTwo(name("agree"), [a, b]), OnTwo(name("agree"), [c, b])];
+    let result = pair(name(a), pair(name(b), name(c)));
+    let round = boxed_three([a, b, c], then(compared, result));
+    let once = |code| apply(name("round"), code);
+    let rounds = once(once(pair(input(0), pair(input(1), input(2)))));
+    define(
+        "agree",
+        two(),
+        agree(),
+        define("round", three(), round, rounds),
     )
 }

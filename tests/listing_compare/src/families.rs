@@ -5,7 +5,7 @@ use crate::compare::Comparison;
 use comparing::Known;
 use evaluator::listing::{BIT_INPUT, NO_WIRE};
 use listings::broken::{broken, often_broken, Way, WAYS};
-use listings::generate::{foreign, two_wires, valid, Shape, FOREIGN};
+use listings::generate::{foreign, longest, two_wires, valid, Shape, FOREIGN};
 use listings::{Entry, Listing, Sizes};
 use program_files::{Random, GATES};
 
@@ -16,6 +16,10 @@ const SIZES: [(usize, usize, usize); 4] = [
     (300, 64, 400),
     (60, 64, 2_048),
 ];
+
+/// The same of those with Qubits that come and go.
+const HELPERS: [(usize, usize, usize); 4] =
+    [(3_000, 0, 8), (3_000, 3, 8), (600, 8, 100), (40, 64, 2_048)];
 
 /// The same for each way to break them.
 const BROKEN: [(usize, usize, usize); 3] = [(1_500, 4, 6), (500, 16, 40), (20, 64, 2_048)];
@@ -40,6 +44,17 @@ fn accepted(comparison: &mut Comparison, random: &mut Random) {
         let shape = Shape::most(random);
         comparison.accepted(&valid(random, &shape));
     }
+    comparison.group("generated of the greatest length");
+    for _ in 0..60 {
+        comparison.accepted(&longest(random));
+    }
+    comparison.group("generated with Qubits that come and go");
+    for (count, inputs, gates) in HELPERS {
+        for _ in 0..count {
+            let shape = Shape::helpers(random, inputs, gates);
+            comparison.accepted(&valid(random, &shape));
+        }
+    }
     comparison.group("that no run would write");
     for of in FOREIGN {
         for _ in 0..1_000 {
@@ -57,6 +72,16 @@ fn broken_ones(comparison: &mut Comparison, random: &mut Random) {
                 if let Some((listing, known)) = broken(random, &listing, way) {
                     comparison.listing(&listing.bytes(), &known);
                 }
+            }
+        }
+    }
+    comparison.group("with Qubits that come and go, broken in one way");
+    for way in WAYS {
+        for _ in 0..1_000 {
+            let shape = Shape::helpers(random, 3, 8);
+            let listing = valid(random, &shape);
+            if let Some((listing, known)) = broken(random, &listing, way) {
+                comparison.listing(&listing.bytes(), &known);
             }
         }
     }

@@ -3,7 +3,7 @@
 use crate::compare::Comparison;
 use comparing::Known;
 use listings::broken::{broken, WAYS};
-use listings::generate::{valid, Shape};
+use listings::generate::{self, valid, Shape};
 use listings::sizes::{LONGEST, MOST_GATES, MOST_INPUTS, MOST_OUTPUTS, MOST_WIRES};
 use listings::{Entry, Listing, Sizes};
 use program_files::{Random, Wire};
@@ -96,11 +96,12 @@ fn longer_and_shorter(comparison: &mut Comparison, random: &mut Random) {
     }
 }
 
-/// The longest listings: more outputs than wires that are there.
+/// The longest listings: more outputs than wires that are there, or the last
+/// output wrong.
 fn longest(comparison: &mut Comparison, random: &mut Random) {
     comparison.group("of the most inputs, gates and outputs");
     for _ in 0..100 {
-        let shape = Shape::most(random);
+        let shape = Shape::most(random).without_helpers();
         let mut listing = valid(random, &shape);
         let count = listing.outputs.len();
         let again = (0..MOST_OUTPUTS - count).map(|_| random.below(9_000) as u16);
@@ -109,6 +110,10 @@ fn longest(comparison: &mut Comparison, random: &mut Random) {
         let bytes = listing.bytes();
         assert_eq!(bytes.len(), LONGEST, "the longest listing");
         comparison.listing(&bytes, &Known::Refused(26, place));
+        let mut listing = generate::longest(random);
+        listing.outputs[MOST_OUTPUTS - 1] = listing.outputs[random.below(MOST_OUTPUTS - 1)];
+        let place = listing.sizes().entries() + MOST_OUTPUTS - 1;
+        comparison.listing(&listing.bytes(), &Known::Refused(26, place));
     }
 }
 
@@ -145,7 +150,7 @@ fn at_the_last_places(comparison: &mut Comparison) {
     comparison.accepted(&right);
     let last = right.sizes().entries() - 1;
     let changes: [(u8, Change); 3] = [
-        (25, |entry| entry.kind = 9),
+        (25, |entry| entry.kind = 11),
         (25, |entry| entry.slots[1] = 0),
         (26, |entry| entry.slots[0] += 1),
     ];

@@ -46,7 +46,7 @@ pub enum Fault {
     BitInputAmongGates,
     QubitInputAmongGates,
     GateAmongInputs,
-    KindNine,
+    KindEleven,
     Kind127,
     Kind130,
     OnePass,
@@ -64,9 +64,17 @@ pub enum Fault {
     ShorterTaken,
     LengthBy16Bits,
     MissingSizesZero,
+    InitNotCounted,
+    InitTakes,
+    InitSlotsNotTested,
+    DiscardedNotGone,
+    DiscardMakes,
+    DiscardTakesQubit,
+    DiscardSlotNotTested,
+    HelpersRefused,
 }
 
-pub const PLANTED: [(&str, Fault); 56] = [
+pub const PLANTED: [(&str, Fault); 64] = [
     ("a slot's wire stays there", Fault::NotGone),
     (
         "a gate's wires gone only after all its slots",
@@ -138,7 +146,7 @@ pub const PLANTED: [(&str, Fault); 56] = [
     ("kind 128 among gates", Fault::BitInputAmongGates),
     ("kind 129 among gates", Fault::QubitInputAmongGates),
     ("gates among inputs", Fault::GateAmongInputs),
-    ("kind 9 a gate", Fault::KindNine),
+    ("kind 11 a gate", Fault::KindEleven),
     ("kind 127 an input", Fault::Kind127),
     ("kind 130 an input", Fault::Kind130),
     ("25 and 26 in one pass", Fault::OnePass),
@@ -156,7 +164,25 @@ pub const PLANTED: [(&str, Fault); 56] = [
     ("a shorter listing taken", Fault::ShorterTaken),
     ("a length that fits in 16 bits taken", Fault::LengthBy16Bits),
     ("sizes that are missing are 0", Fault::MissingSizesZero),
+    (
+        "the wire that Init makes not counted",
+        Fault::InitNotCounted,
+    ),
+    ("Init takes the newest wire that is there", Fault::InitTakes),
+    ("slots of Init not tested", Fault::InitSlotsNotTested),
+    ("a discarded wire left over", Fault::DiscardedNotGone),
+    ("Discard makes a wire", Fault::DiscardMakes),
+    ("Discard takes a Qubit, too", Fault::DiscardTakesQubit),
+    (
+        "the second slot of Discard not tested",
+        Fault::DiscardSlotNotTested,
+    ),
+    ("Init and Discard refused by 25", Fault::HelpersRefused),
 ];
+
+/// The numbers of gates.
+const INIT: u8 = 9;
+const DISCARD: u8 = 10;
 
 /// What a check answers that has this fault, if any.
 pub fn check(bytes: &[u8], fault: Option<Fault>) -> Answer {
@@ -271,7 +297,16 @@ impl Plain {
             makes,
         };
         match (self.fault, entry.kind) {
-            (Some(Fault::KindNine), 9) => Some(GATES[8]),
+            (Some(Fault::KindEleven), 11) => Some(GATES[8]),
+            (Some(Fault::InitNotCounted), INIT) => Some(Gate {
+                makes: &[],
+                ..GATES[usize::from(INIT)]
+            }),
+            (Some(Fault::DiscardMakes), DISCARD) => Some(Gate {
+                makes: &[Wire::Bit],
+                ..GATES[usize::from(DISCARD)]
+            }),
+            (Some(Fault::HelpersRefused), INIT | DISCARD) => None,
             (Some(Fault::BitInputAmongGates), 128) => Some(makes_input(&[Wire::Bit])),
             (Some(Fault::QubitInputAmongGates), 129) => Some(makes_input(&[Wire::Qubit])),
             (Some(Fault::MeasuredIsQubit), 6) => Some(GATES[0]),
@@ -311,7 +346,7 @@ impl Plain {
             Some(used) => (used..entry.slots.len()).any(|slot| {
                 let wire = entry.slots[slot];
                 let allowed = wire == NO_WIRE || self.has(Fault::UnusedSlotZero) && wire == 0;
-                !allowed && self.tests_slot(is_input, slot)
+                !allowed && self.tests_slot(&entry, is_input, slot)
             }),
         };
         match is_wrong {
@@ -324,8 +359,10 @@ impl Plain {
     }
 
     /// Whether an unused slot is tested.
-    fn tests_slot(&self, is_input: bool, slot: usize) -> bool {
+    fn tests_slot(&self, entry: &Entry, is_input: bool, slot: usize) -> bool {
         match self.fault {
+            Some(Fault::InitSlotsNotTested) => is_input || entry.kind != INIT,
+            Some(Fault::DiscardSlotNotTested) => is_input || entry.kind != DISCARD,
             Some(Fault::InputSlotsNotTested) => !is_input,
             Some(Fault::InputFirstSlotOnly) => !is_input || slot == 0,
             Some(Fault::InputSecondSlotOnly) => !is_input || slot == 1,
@@ -365,6 +402,10 @@ impl Plain {
             if self.has(Fault::MadeBeforeTaken) {
                 self.make(at, gate.makes);
             }
+            if self.has(Fault::InitTakes) && entry.kind == INIT {
+                let newest = self.there.iter_mut().rev().find(|wire| wire.is_some());
+                newest.into_iter().for_each(|wire| *wire = None);
+            }
             let taken = self.take_slots(at, &entry, &gate);
             if !self.has(Fault::MadeBeforeTaken) {
                 self.make(at, gate.makes);
@@ -394,7 +435,11 @@ impl Plain {
                 false => usize::from(number),
             };
             let there = self.there.get(wire).copied().flatten();
-            if !there.is_some_and(|of| self.may_take(of, needs)) {
+            let may_take = |of| {
+                let discards = entry.kind == DISCARD && self.has(Fault::DiscardTakesQubit);
+                discards || self.may_take(of, needs)
+            };
+            if !there.is_some_and(may_take) {
                 let off = match self.has(Fault::GatePlaceWithoutInputs) {
                     true => self.sizes.inputs,
                     false => 0,
@@ -402,7 +447,8 @@ impl Plain {
                 return refuse(26, at - off);
             }
             gone.push(wire);
-            if !self.has(Fault::NotGone) && !self.has(Fault::GoneAfterAllSlots) {
+            let stays = entry.kind == DISCARD && self.has(Fault::DiscardedNotGone);
+            if !stays && !self.has(Fault::NotGone) && !self.has(Fault::GoneAfterAllSlots) {
                 self.there[wire] = None;
             }
         }

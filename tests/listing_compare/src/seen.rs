@@ -1,8 +1,9 @@
 //! What has been seen in the listings that were compared.
 
 use listings::counting::{Fault, Maker, Why};
-use listings::sizes::{LONGEST, MOST_GATES, MOST_INPUTS};
-use listings::Sizes;
+use listings::sizes::LONGEST;
+use listings::{Listing, Sizes};
+use program_files::GATES;
 use std::collections::BTreeMap;
 
 /// The places of 26, each of which so many listings must have.
@@ -26,13 +27,46 @@ const LEFT_OVER: [(Maker, &str); 3] = [
 ];
 const LEAST_PLACES: usize = 500;
 
-/// The longest that is accepted: each gate makes as many wires as it takes, so
-/// that there are as many outputs as inputs.
-const MOST_ACCEPTED: Sizes = Sizes {
-    inputs: MOST_INPUTS,
-    gates: MOST_GATES,
-    outputs: MOST_INPUTS,
-};
+/// What is seen of Init and Discard, each in so many listings.
+#[derive(Clone, Copy, PartialEq, Eq, PartialOrd, Ord, Debug)]
+enum Helped {
+    Init,
+    Discard,
+    WithoutInputs,
+    WithoutOutputs,
+    SlotOfInit,
+    SlotOfDiscard,
+    DiscardOfQubit,
+    GateAfterDiscard,
+    OutputAfterDiscard,
+    LeftOverByInit,
+}
+
+const HELPED: [(Helped, &str); 10] = [
+    (Helped::Init, "accepted with Init"),
+    (Helped::Discard, "accepted with Discard"),
+    (Helped::WithoutInputs, "accepted with gates and no input"),
+    (Helped::WithoutOutputs, "accepted with gates and no output"),
+    (Helped::SlotOfInit, "refused with 25 at Init"),
+    (Helped::SlotOfDiscard, "refused with 25 at Discard"),
+    (
+        Helped::DiscardOfQubit,
+        "refused with 26: Discard of a Qubit",
+    ),
+    (
+        Helped::GateAfterDiscard,
+        "refused with 26: a gate, its wire gone to Discard",
+    ),
+    (
+        Helped::OutputAfterDiscard,
+        "refused with 26: an output, its wire gone to Discard",
+    ),
+    (
+        Helped::LeftOverByInit,
+        "refused with 26: left over, made by Init",
+    ),
+];
+const LEAST_HELPED: usize = 300;
 
 #[derive(Default)]
 pub struct Seen {
@@ -48,6 +82,7 @@ pub struct Seen {
     most: [usize; 3],
     /// Refused with 26 although they have the greatest length.
     longest_named: usize,
+    helped: BTreeMap<Helped, usize>,
 }
 
 impl Seen {
@@ -57,10 +92,67 @@ impl Seen {
             Ok(sizes) => self.count_accepted(sizes),
             Err(fault) => self.count_refused(bytes, fault),
         }
+        if *found != Err(Fault::Sizes) {
+            self.count_helped(bytes, found);
+        }
+    }
+
+    /// Counts what is there of Init and Discard in a listing whose sizes are right.
+    fn count_helped(&mut self, bytes: &[u8], found: &Result<Sizes, Fault>) {
+        let sizes = Sizes::of_bytes(bytes).expect("sizes");
+        let listing = Listing::of_bytes(&sizes, bytes);
+        let is = |kind: u8, name: &str| {
+            let gate = GATES.get(usize::from(kind));
+            gate.is_some_and(|gate| gate.name == name)
+        };
+        let has = |name: &str| listing.gates.iter().any(|entry| is(entry.kind, name));
+        let gate_at = |place: usize| {
+            let gate = place.checked_sub(sizes.inputs)?;
+            listing.gates.get(gate)
+        };
+        let at = |place: usize, name: &str| gate_at(place).is_some_and(|gate| is(gate.kind, name));
+        // The first gate that names a wire is the one to which it has gone.
+        let gone_to_discard = |wire: u16| {
+            let mut gates = listing.gates.iter();
+            let to = gates.find(|gate| gate.slots.contains(&wire));
+            to.is_some_and(|gate| is(gate.kind, "Discard"))
+        };
+        let mut seen = Vec::new();
+        let mut see = |is_so: bool, what: Helped| seen.extend(is_so.then_some(what));
+        match *found {
+            Ok(_) => {
+                see(has("Init"), Helped::Init);
+                see(has("Discard"), Helped::Discard);
+                let gates = sizes.gates > 0;
+                see(gates && sizes.inputs == 0, Helped::WithoutInputs);
+                see(gates && sizes.outputs == 0, Helped::WithoutOutputs);
+            }
+            Err(Fault::Entry(entry)) => {
+                see(at(entry, "Init"), Helped::SlotOfInit);
+                see(at(entry, "Discard"), Helped::SlotOfDiscard);
+            }
+            Err(Fault::Named(place, Why::GateOtherType)) => {
+                see(at(place, "Discard"), Helped::DiscardOfQubit);
+            }
+            Err(Fault::Named(place, Why::GateGoneToGate)) => {
+                let slots = gate_at(place).map(|gate| gate.slots);
+                let gone = slots.iter().flatten().any(|&wire| gone_to_discard(wire));
+                see(gone, Helped::GateAfterDiscard);
+            }
+            Err(Fault::Named(place, Why::OutputGoneToGate)) => {
+                let wire = listing.outputs[place - sizes.entries()];
+                see(gone_to_discard(wire), Helped::OutputAfterDiscard);
+            }
+            Err(Fault::LeftOver(entry, _)) => see(at(entry, "Init"), Helped::LeftOverByInit),
+            Err(_) => {}
+        }
+        for what in seen {
+            *self.helped.entry(what).or_default() += 1;
+        }
     }
 
     fn count_accepted(&mut self, sizes: &Sizes) {
-        self.greatest_accepted += usize::from(*sizes == MOST_ACCEPTED);
+        self.greatest_accepted += usize::from(*sizes == Sizes::MOST);
         self.empty_accepted += usize::from(sizes.length() == 6);
         let sizes = [sizes.inputs, sizes.gates, sizes.outputs];
         for (most, size) in self.most.iter_mut().zip(sizes) {
@@ -101,6 +193,9 @@ impl Seen {
             "refused with 26 with {LONGEST} bytes: {}",
             self.longest_named
         );
+        for (what, name) in HELPED {
+            println!("{:>9} {name}", at(&self.helped, what));
+        }
     }
 
     /// Fails if too little has been seen.
@@ -112,20 +207,23 @@ impl Seen {
             let count = at(&self.left_over, maker);
             assert!(count >= LEAST_PLACES, "too few left over by {name}");
         }
-        let last = MOST_INPUTS + MOST_GATES - 1;
-        // With as many outputs as wires that are there, the next one is wrong.
-        let greatest = [0, last, last + 1 + MOST_ACCEPTED.outputs];
+        let Sizes {
+            inputs,
+            gates,
+            outputs,
+        } = Sizes::MOST;
+        let last = inputs + gates - 1;
+        let greatest = [0, last, last + outputs];
         assert_eq!(self.greatest, greatest, "greatest places not reached");
         assert!(self.longest > 65_536, "none past 16 bits");
-        let most = [
-            MOST_ACCEPTED.inputs,
-            MOST_ACCEPTED.gates,
-            MOST_ACCEPTED.outputs,
-        ];
+        let most = [inputs, gates, outputs];
         assert_eq!(self.most, most, "greatest sizes not accepted");
         assert!(self.greatest_accepted >= 50, "too few of the greatest");
         assert!(self.empty_accepted == 1, "no wire not accepted");
         assert!(self.longest_named >= 50, "too few of the longest");
+        for (what, name) in HELPED {
+            assert!(at(&self.helped, what) >= LEAST_HELPED, "too few {name}");
+        }
     }
 }
 

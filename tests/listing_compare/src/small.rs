@@ -27,7 +27,7 @@ pub fn compare(comparison: &mut Comparison) {
     }
     comparison.group("all of one input, two gates and at most two outputs");
     // One gate of each shape and type.
-    let kinds = [0, 5, 6, 7];
+    let kinds = [0, 5, 6, 7, 9, 10];
     for outputs in 0..=2 {
         let wires = [0, 1, 2, 3];
         all(

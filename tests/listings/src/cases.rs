@@ -20,6 +20,8 @@ const CNOT: u8 = 5;
 const MEASURE: u8 = 6;
 const BX: u8 = 7;
 const BZ: u8 = 8;
+const INIT: u8 = 9;
+const DISCARD: u8 = 10;
 
 /// The listing of case c2, as 01 has it.
 const C2: [u8; 18] = [
@@ -36,6 +38,7 @@ pub fn all() -> Vec<Case> {
     all.extend(wrong_gates());
     all.extend(wrong_outputs());
     all.extend(left_over());
+    all.extend(helpers());
     all
 }
 
@@ -90,10 +93,22 @@ fn chain(inputs: usize, gates: usize) -> Listing {
     chain
 }
 
-/// The longest of the listings that are accepted: today each gate makes as many
-/// wires as it takes, and so there are as many outputs as inputs.
-pub fn longest_accepted() -> Listing {
+/// The most inputs and gates, and as many outputs as inputs.
+pub fn most_gates() -> Listing {
     chain(MOST_INPUTS, MOST_GATES)
+}
+
+/// The longest of the listings that are accepted: the outputs past the inputs come
+/// from Init.
+pub fn longest_accepted() -> Listing {
+    let inits = MOST_OUTPUTS - MOST_INPUTS;
+    let mut longest = chain(MOST_INPUTS, MOST_GATES - inits);
+    for _ in 0..inits {
+        let made = MOST_INPUTS + longest.gates.len();
+        longest.gates.push(Entry::gate(INIT, &[]));
+        longest.outputs.push(made as u16);
+    }
+    longest
 }
 
 /// As many wires as there can be: each gate takes the two oldest and makes two.
@@ -110,7 +125,7 @@ pub fn most_wires() -> Listing {
 
 /// The longest listing, whose outputs past the inputs are never made.
 pub fn longest() -> Listing {
-    let mut longest = longest_accepted();
+    let mut longest = most_gates();
     longest.outputs.resize(MOST_OUTPUTS, NO_WIRE);
     longest
 }
@@ -134,7 +149,7 @@ fn accepted() -> Vec<Case> {
             &listing(&[Qubit, Qubit, Bit], &[(BZ, &[2, 0])], &[3, 1, 4]),
         ),
         right("2,048 gates on one wire", &chain(1, MOST_GATES)),
-        right("2,048 gates and 64 inputs", &longest_accepted()),
+        right("2,048 gates and 64 inputs", &most_gates()),
         right("4,160 wires", &most_wires()),
     ]
 }
@@ -179,7 +194,7 @@ fn wrong_kinds() -> Vec<Case> {
         of.inputs[1].kind = kind;
         all.push(wrong(format!("kind {kind} of an input"), &of, 25, 1));
     }
-    for kind in [9, 127, BIT_INPUT, QUBIT_INPUT, 130, 255] {
+    for kind in [11, 127, BIT_INPUT, QUBIT_INPUT, 130, 255] {
         let mut of = crossed();
         of.gates[0].kind = kind;
         all.push(wrong(format!("kind {kind} of a gate"), &of, 25, 2));
@@ -189,7 +204,7 @@ fn wrong_kinds() -> Vec<Case> {
     of.inputs[0].slots[1] = 0;
     of.inputs[1].kind = 9;
     all.push(wrong("a slot, then a kind", &of, 25, 0));
-    let mut of = listing(&[Qubit], &[(H, &[7]), (9, &[1])], &[2]);
+    let mut of = listing(&[Qubit], &[(H, &[7]), (11, &[1])], &[2]);
     all.push(wrong("a wire never made, then a kind", &of, 25, 2));
     of.gates[1].kind = H;
     all.push(wrong("a wire never made, and no kind", &of, 26, 1));
@@ -338,7 +353,7 @@ fn wrong_outputs() -> Vec<Case> {
 fn left_over() -> Vec<Case> {
     let two = [Qubit, Qubit];
     let last = MOST_INPUTS + MOST_GATES - 1;
-    let mut without_last = longest_accepted();
+    let mut without_last = most_gates();
     without_last.outputs.remove(0);
     let mut without_last_of_two = most_wires();
     without_last_of_two.outputs.pop();
@@ -384,4 +399,132 @@ fn left_over() -> Vec<Case> {
     ];
     let case = |(name, of, place)| wrong(name, &of, 26, place);
     all.into_iter().map(case).collect()
+}
+
+/// Wires that come from Init and go to Discard.
+fn helpers() -> Vec<Case> {
+    let come_and_gone: [(u8, &[u16]); 3] = [(INIT, &[]), (MEASURE, &[0]), (DISCARD, &[1])];
+    let mut all = vec![
+        right("Init", &listing(&[], &[(INIT, &[])], &[0])),
+        right(
+            "Discard of a Bit",
+            &listing(&[Bit], &[(DISCARD, &[0])], &[]),
+        ),
+        right(
+            "a Qubit that comes, is measured and goes",
+            &listing(&[], &come_and_gone, &[]),
+        ),
+        right(
+            "a Qubit that comes between two inputs",
+            &listing(
+                &[Qubit, Bit],
+                &[(INIT, &[]), (CNOT, &[0, 2]), (DISCARD, &[1])],
+                &[4, 3],
+            ),
+        ),
+        right("the longest listing that is accepted", &longest_accepted()),
+    ];
+    let wrongs: [(&str, Listing, u8, usize); 14] = [
+        (
+            "the wire of Init left over",
+            listing(&[], &[(INIT, &[])], &[]),
+            26,
+            0,
+        ),
+        (
+            "0 in the first slot of Init",
+            listing(&[], &[(INIT, &[0])], &[0]),
+            25,
+            0,
+        ),
+        (
+            "0 in the second slot of Init",
+            listing(&[Qubit], &[(INIT, &[NO_WIRE, 0])], &[0, 1]),
+            25,
+            1,
+        ),
+        (
+            "0 in the second slot of Discard",
+            listing(&[Bit, Bit], &[(DISCARD, &[0, 0])], &[1]),
+            25,
+            2,
+        ),
+        (
+            "Discard of a Qubit",
+            listing(&[Qubit], &[(DISCARD, &[0])], &[]),
+            26,
+            1,
+        ),
+        (
+            "Discard of what Init makes",
+            listing(&[], &[(INIT, &[]), (DISCARD, &[0])], &[]),
+            26,
+            1,
+        ),
+        (
+            "Discard of no wire",
+            listing(&[Bit], &[(DISCARD, &[NO_WIRE])], &[0]),
+            26,
+            1,
+        ),
+        (
+            "Discard twice of a Bit",
+            listing(&[Bit], &[(DISCARD, &[0]), (DISCARD, &[0])], &[]),
+            26,
+            2,
+        ),
+        (
+            "a discarded Bit taken by BX",
+            listing(&[Bit, Qubit], &[(DISCARD, &[0]), (BX, &[0, 1])], &[2, 3]),
+            26,
+            3,
+        ),
+        (
+            "a discarded Bit as an output",
+            listing(&[Bit], &[(DISCARD, &[0])], &[0]),
+            26,
+            2,
+        ),
+        (
+            "an output as if Discard made a wire",
+            listing(&[Bit], &[(DISCARD, &[0])], &[1]),
+            26,
+            2,
+        ),
+        (
+            "the second of two Inits left over",
+            listing(&[Qubit], &[(INIT, &[]), (X, &[0]), (INIT, &[])], &[1, 2]),
+            26,
+            3,
+        ),
+        (
+            "a Bit left over behind a Discard",
+            listing(&[Bit, Qubit], &[(DISCARD, &[0]), (MEASURE, &[1])], &[]),
+            26,
+            3,
+        ),
+        (
+            "H of a wire that Init makes later",
+            listing(&[], &[(H, &[0]), (INIT, &[])], &[0]),
+            26,
+            0,
+        ),
+    ];
+    let case =
+        |(name, of, number, place): (&str, Listing, u8, usize)| wrong(name, &of, number, place);
+    all.extend(wrongs.into_iter().map(case));
+    let inits = Listing {
+        gates: vec![Entry::gate(INIT, &[]); MOST_GATES],
+        ..most_gates()
+    };
+    all.push(wrong(
+        "2,048 Inits, of which most are left over",
+        &Listing {
+            outputs: (0..MOST_OUTPUTS as u16).collect(),
+            ..inits
+        },
+        26,
+        MOST_OUTPUTS,
+    ));
+    all
 }

@@ -1,8 +1,13 @@
 //! Listings that are accepted, from a seed: each wire goes exactly once.
 
 use crate::entries::{Entry, Listing};
-use crate::sizes::{MOST_GATES, MOST_INPUTS};
+use crate::sizes::{MOST_GATES, MOST_INPUTS, MOST_OUTPUTS};
 use program_files::{Gate, Random, Wire, GATES};
+
+/// The numbers of gates.
+const MEASURE: u8 = 6;
+const INIT: u8 = 9;
+const DISCARD: u8 = 10;
 
 /// What a listing is to be like.
 #[derive(Clone, Debug)]
@@ -44,6 +49,12 @@ pub fn all_gates() -> Vec<u8> {
     (0..GATES.len() as u8).collect()
 }
 
+/// The numbers of the gates that make as many wires as they take.
+pub fn passing_gates() -> Vec<u8> {
+    let passes = |&number: &u8| !GATES[usize::from(number)].is_helper();
+    all_gates().into_iter().filter(passes).collect()
+}
+
 /// The numbers of the gates that make two wires.
 pub fn two_wires() -> Vec<u8> {
     let makes_two = |&number: &u8| GATES[usize::from(number)].makes.len() == 2;
@@ -79,6 +90,28 @@ impl Shape {
         shape.taken = random.pick(&ORDERS);
         shape.outputs = random.pick(&ORDERS);
         shape
+    }
+
+    /// With Qubits that come, are measured and go, and with at most so many inputs
+    /// and gates.
+    pub fn helpers(random: &mut Random, inputs: usize, gates: usize) -> Shape {
+        let mut shape = Shape::any(random, inputs, gates);
+        shape.numbers = vec![INIT, MEASURE, DISCARD];
+        if random.one_in(2) {
+            shape.numbers.push(random.pick(&all_gates()));
+        }
+        shape.kept = 0;
+        shape
+    }
+
+    /// The same shape with gates that make as many wires as they take.
+    pub fn without_helpers(mut self) -> Shape {
+        let passing = passing_gates();
+        self.numbers.retain(|number| passing.contains(number));
+        if self.numbers.is_empty() {
+            self.numbers = passing;
+        }
+        self
     }
 
     /// With the most inputs, gates and wires.
@@ -158,7 +191,8 @@ impl There {
         self.next += 1;
     }
 
-    /// Whether the gate's wires are there, and enough Qubits are left.
+    /// Whether the gate's wires are there, enough Qubits are left, and no more wires
+    /// than there can be outputs.
     fn fits(&self, gate: &Gate, kept: usize) -> bool {
         let count = |wires: &[Wire], of: Wire| wires.iter().filter(|&&wire| wire == of).count();
         let (taken, made) = (
@@ -167,7 +201,10 @@ impl There {
         );
         let qubits = self.count(Wire::Qubit);
         let are_there = taken <= qubits && count(gate.takes, Wire::Bit) <= self.count(Wire::Bit);
-        are_there && (made >= taken || qubits - taken + made >= kept)
+        let left = self.wires.len() + gate.makes.len();
+        are_there
+            && left <= MOST_OUTPUTS + gate.takes.len()
+            && (made >= taken || qubits - taken + made >= kept)
     }
 
     /// Takes a wire of this type.
@@ -217,14 +254,20 @@ pub enum Foreign {
     FewTouched,
     /// Every wire measured in the end.
     Measured,
+    /// No input, and so only Qubits that come.
+    Helpers,
+    /// No output.
+    AllGone,
 }
 
-pub const FOREIGN: [Foreign; 5] = [
+pub const FOREIGN: [Foreign; 7] = [
     Foreign::Nothing,
     Foreign::Passing,
     Foreign::Bits,
     Foreign::FewTouched,
     Foreign::Measured,
+    Foreign::Helpers,
+    Foreign::AllGone,
 ];
 
 /// One that is accepted all the same.
@@ -234,7 +277,10 @@ pub fn foreign(random: &mut Random, of: Foreign) -> Listing {
     match of {
         Foreign::Nothing => shape = Shape::new(0, 0),
         Foreign::Passing => shape.gates = 0,
-        Foreign::Bits => shape.bits = shape.inputs,
+        Foreign::Bits => {
+            shape.bits = shape.inputs;
+            shape.numbers = vec![DISCARD];
+        }
         Foreign::FewTouched => {
             shape = Shape::new(inputs, random.between(1, 40));
             shape.bits = random.below(inputs);
@@ -245,17 +291,26 @@ pub fn foreign(random: &mut Random, of: Foreign) -> Listing {
             shape = Shape::new(inputs, 2 * inputs);
             shape.kept = 0;
         }
+        Foreign::Helpers => {
+            let gates = random.between(0, 40);
+            shape = Shape::helpers(random, 0, gates);
+        }
+        Foreign::AllGone => shape = Shape::any(random, 6, 12),
     }
     let mut listing = valid(random, &shape);
-    if of == Foreign::Measured {
+    if matches!(of, Foreign::Measured | Foreign::AllGone) {
         measure_outputs(&mut listing);
+    }
+    if of == Foreign::AllGone {
+        for output in listing.outputs.drain(..) {
+            listing.gates.push(Entry::gate(DISCARD, &[output]));
+        }
     }
     listing
 }
 
 /// Measures every output that is a Qubit; the outputs stand as before.
 fn measure_outputs(listing: &mut Listing) {
-    const MEASURE: u8 = 6;
     let mut types = wire_types(listing);
     for at in 0..listing.outputs.len() {
         let wire = listing.outputs[at];
@@ -265,6 +320,21 @@ fn measure_outputs(listing: &mut Listing) {
             types.push(Wire::Bit);
         }
     }
+}
+
+/// A listing of the greatest length: its last gates are Inits.
+pub fn longest(random: &mut Random) -> Listing {
+    let inits = MOST_OUTPUTS - MOST_INPUTS;
+    let mut shape = Shape::most(random).without_helpers();
+    shape.gates -= inits;
+    let mut listing = valid(random, &shape);
+    let next = wire_types(&listing).len();
+    for wire in next..next + inits {
+        listing.gates.push(Entry::gate(INIT, &[]));
+        listing.outputs.push(wire as u16);
+    }
+    shuffle(random, &mut listing.outputs);
+    listing
 }
 
 /// The types of all wires that inputs and gates make.

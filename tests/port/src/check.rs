@@ -61,7 +61,7 @@ fn is_linear(of: &Type) -> bool {
         match of {
             Type::Pair(first, second) => left.extend([&**first, &**second]),
             Type::Bit | Type::Qubit | Type::Function(..) => return true,
-            Type::Reusable(_) | Type::Circuit(..) => {}
+            Type::Reusable(_) | Type::Circuit(..) | Type::Unit => {}
         }
     }
     false
@@ -95,6 +95,7 @@ impl Check<'_> {
                 Ok(self.read.labels[number].as_type())
             }
             Term::Gate(number) => Ok(GATES[usize::from(*number)].circuit_type()),
+            Term::UnitValue => Ok(Rc::new(Type::Unit)),
             Term::Abstraction(over, body) => {
                 let to = self.under(here, &[over], body)?;
                 within(here, Type::Function(over.clone(), to))

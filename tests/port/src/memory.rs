@@ -16,6 +16,8 @@ pub const RESULT: usize = 512;
 pub const CONSTANT: u8 = 32;
 /// The word for a pair in a result.
 pub const PAIR: u16 = u16::MAX;
+/// The word for a unit in a result.
+pub const UNIT: u16 = u16::MAX - 1;
 
 #[derive(Clone, Copy, Default)]
 pub struct Node {

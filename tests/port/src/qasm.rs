@@ -34,6 +34,10 @@ pub fn export(listing: &[u8], out: &mut [u8], work: &mut [u8]) -> Result<usize, 
     let Some((_, parts)) = parts(listing) else {
         return refuse(24);
     };
+    let mut gates = parts.entries().skip(inputs);
+    if let Some((place, ..)) = gates.find(|&(_, kind, _)| GATES[usize::from(kind)].is_helper()) {
+        return Err(Refusal { number: 28, place });
+    }
     let (length, wires) = write_text(&parts, inputs, out, work);
     work[..wires].fill(0);
     Ok(length)

@@ -2,7 +2,7 @@
 //! its reduct is the first of what is still to be walked.
 
 use crate::machine::{end, parts, Machine, Stop, TooLarge};
-use crate::memory::{Closed, Frame, Node, Part, Row, BOXES, CONSTANT, GATES, PAIR, RESULT};
+use crate::memory::{Closed, Frame, Node, Part, Row, BOXES, CONSTANT, GATES, PAIR, RESULT, UNIT};
 use program_files::{kinds, GATES as GATE_TABLE};
 use std::ops::Range;
 
@@ -164,8 +164,10 @@ impl Machine<'_> {
         for wire in (0..gate.makes.len() as u16).rev() {
             self.put(kinds::LABEL, made + wire);
         }
-        if gate.makes.len() == 2 {
-            self.put(kinds::PAIR, 0);
+        match gate.makes.len() {
+            0 => self.put(kinds::UNIT_VALUE, 0),
+            2 => self.put(kinds::PAIR, 0),
+            _ => {}
         }
         Ok(())
     }
@@ -213,6 +215,10 @@ impl Machine<'_> {
                     kind: kinds::PAIR,
                     argument: 0,
                 },
+                UNIT => Node {
+                    kind: kinds::UNIT_VALUE,
+                    argument: 0,
+                },
                 wire => Node {
                     kind: kinds::LABEL,
                     argument: rename(wire),
@@ -228,25 +234,31 @@ impl Machine<'_> {
         let from = usize::from(self.memory.nodes[place].argument);
         let mut wanted = 1;
         let mut to = from;
+        let mut inputs = 0;
         while wanted > 0 {
-            wanted = match self.memory.types[to] {
-                kinds::PAIR_TYPE => wanted + 1,
-                _ => wanted - 1,
-            };
+            match self.memory.types[to] {
+                kinds::PAIR_TYPE => wanted += 1,
+                kinds::UNIT => wanted -= 1,
+                _ => {
+                    wanted -= 1;
+                    inputs += 1;
+                }
+            }
             to += 1;
         }
         let function = place + 2..self.left;
         if 1 + function.len() + (to - from) > self.room(0) {
             return Err(TooLarge);
         }
-        let inputs = (to - from).div_ceil(2);
-        let mut wire = inputs as u16;
+        let mut wire = inputs;
         for at in (from..to).rev() {
-            if self.memory.types[at] == kinds::PAIR_TYPE {
-                self.put(kinds::PAIR, 0);
-            } else {
-                wire -= 1;
-                self.put(kinds::LABEL, wire);
+            match self.memory.types[at] {
+                kinds::PAIR_TYPE => self.put(kinds::PAIR, 0),
+                kinds::UNIT => self.put(kinds::UNIT_VALUE, 0),
+                _ => {
+                    wire -= 1;
+                    self.put(kinds::LABEL, wire);
+                }
             }
         }
         self.put_before(function);
@@ -255,8 +267,8 @@ impl Machine<'_> {
         self.memory.frames[self.frames] = Frame {
             start: self.left as u16,
             gates: self.open as u16,
-            inputs: inputs as u16,
-            made: inputs as u16,
+            inputs,
+            made: inputs,
         };
         self.frames += 1;
         Ok(())
@@ -273,6 +285,7 @@ impl Machine<'_> {
         for (word, node) in result.iter_mut().zip(&memory.nodes[start..self.left]) {
             *word = match node.kind {
                 kinds::PAIR => PAIR,
+                kinds::UNIT_VALUE => UNIT,
                 _ => node.argument,
             };
         }

@@ -99,9 +99,9 @@ fn wrong_kind(entries: &mut Entries, random: &mut Random) -> usize {
         };
         let kind = match random.below(4) {
             0 => random.byte(),
-            1 => random.between(0, 6) as u8,
+            1 => random.between(0, 7) as u8,
             2 => random.between(15, 28) as u8,
-            _ => random.pick(&[1, 2, 5, 6, 15, 16, 26, 27, 128, 255]),
+            _ => random.pick(&[1, 2, 5, 6, 7, 15, 16, 26, 27, 28, 128, 255]),
         };
         if !list.is_empty() && !fits(section, kind) {
             let at = random.below(list.len());
@@ -160,7 +160,7 @@ fn type_runs_out(entries: &mut Entries, random: &mut Random) -> Option<usize> {
         entries.types.pop();
     } else {
         let leaves: Vec<usize> = (start..count)
-            .filter(|&at| entries.types[at].kind <= kinds::QUBIT)
+            .filter(|&at| kinds::type_parts(entries.types[at].kind) == Some(0))
             .collect();
         entries.types[random.pick(&leaves)].kind = random.pick(&kinds::TYPES_WITH_PARTS);
     }
@@ -183,7 +183,7 @@ fn no_wire_type(entries: &mut Entries, random: &mut Random) -> Option<usize> {
         .map(|at| skip_type(&entries.types, at))
         .collect::<Option<_>>()?;
     let kind = |at: usize| entries.types[at].kind;
-    let is_wire = |at: usize| (at..ends[at]).all(|inner| kind(inner) <= kinds::PAIR_TYPE);
+    let is_wire = |at: usize| (at..ends[at]).all(|inner| kinds::is_in_wire_types(kind(inner)));
     let positions = |fits: &dyn Fn(usize) -> bool| -> Vec<usize> {
         (0..sizes.types).filter(|&at| fits(at)).collect()
     };
@@ -203,7 +203,7 @@ fn no_wire_type(entries: &mut Entries, random: &mut Random) -> Option<usize> {
         1 => {
             let circuit = some_of(&positions(&|at| kind(at) == kinds::CIRCUIT), random)?;
             let leaves: Vec<usize> = (circuit + 1..ends[circuit])
-                .filter(|&at| kind(at) <= kinds::QUBIT)
+                .filter(|&at| kinds::type_parts(kind(at)) == Some(0))
                 .collect();
             let leaf = some_of(&leaves, random)?;
             if sizes.types == MOST_TYPES {
@@ -263,6 +263,7 @@ fn not_one_term(entries: &mut Entries, random: &mut Random) -> Option<Option<usi
                 let kind = random.pick(&[
                     kinds::VARIABLE,
                     kinds::GATE,
+                    kinds::UNIT_VALUE,
                     kinds::LIFT,
                     kinds::LET,
                     kinds::PAIR,
@@ -293,7 +294,8 @@ fn not_one_term(entries: &mut Entries, random: &mut Random) -> Option<Option<usi
         }
         _ => {
             let inner: Vec<usize> = (0..sizes.terms).filter(|at| !leaves.contains(at)).collect();
-            entries.terms[some_of(&inner, random)?] = Entry::new(kinds::GATE, 0);
+            let kind = random.pick(&[kinds::GATE, kinds::UNIT_VALUE]);
+            entries.terms[some_of(&inner, random)?] = Entry::new(kind, 0);
             Some(None)
         }
     }

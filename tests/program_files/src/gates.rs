@@ -1,4 +1,4 @@
-//! The nine gates, with their wires and types.
+//! The gates, with their wires and types.
 
 use crate::trees::{Type, Wire};
 use std::rc::Rc;
@@ -11,6 +11,8 @@ pub struct Gate {
     pub makes: &'static [Wire],
 }
 
+const NONE: &[Wire] = &[];
+const BIT: &[Wire] = &[Wire::Bit];
 const ONE: &[Wire] = &[Wire::Qubit];
 const TWO: &[Wire] = &[Wire::Qubit, Wire::Qubit];
 const UNDER: &[Wire] = &[Wire::Bit, Wire::Qubit];
@@ -20,19 +22,26 @@ const fn gate(name: &'static str, takes: &'static [Wire], makes: &'static [Wire]
 }
 
 /// A gate's number is its place here.
-pub const GATES: [Gate; 9] = [
+pub const GATES: [Gate; 11] = [
     gate("H", ONE, ONE),
     gate("X", ONE, ONE),
     gate("Z", ONE, ONE),
     gate("S", ONE, ONE),
     gate("T", ONE, ONE),
     gate("CNOT", TWO, TWO),
-    gate("Meas", ONE, &[Wire::Bit]),
+    gate("Meas", ONE, BIT),
     gate("BX", UNDER, UNDER),
     gate("BZ", UNDER, UNDER),
+    gate("Init", NONE, ONE),
+    gate("Discard", BIT, NONE),
 ];
 
 impl Gate {
+    /// Whether wires come or go in it: it makes more than it takes, or fewer.
+    pub fn is_helper(&self) -> bool {
+        self.takes.len() != self.makes.len()
+    }
+
     /// Circ from the wires taken to the wires made.
     pub fn circuit_type(&self) -> Rc<Type> {
         Rc::new(Type::Circuit(
@@ -42,11 +51,12 @@ impl Gate {
     }
 }
 
-/// The type of one wire, or the pair of two.
+/// The type of no wire, that of one, or the pair of two.
 fn wires_type(wires: &[Wire]) -> Rc<Type> {
     match wires {
+        [] => Rc::new(Type::Unit),
         [one] => one.as_type(),
         [first, second] => Rc::new(Type::Pair(first.as_type(), second.as_type())),
-        _ => unreachable!("a gate has one or two wires on each side"),
+        _ => unreachable!("a gate has at most two wires on each side"),
     }
 }

@@ -192,9 +192,10 @@ impl<'a> Generator<'a> {
     }
 
     fn leaf_type(&mut self) -> Type {
-        match any_wire(self.random) {
-            Wire::Bit => Type::Bit,
-            Wire::Qubit => Type::Qubit,
+        match self.random.below(5) {
+            0 => Type::Unit,
+            1 | 2 => Type::Bit,
+            _ => Type::Qubit,
         }
     }
 
@@ -268,15 +269,17 @@ impl<'a> Generator<'a> {
     }
 
     /// A variable, label or gate, the numbers at the ends of their ranges
-    /// more often than others.
+    /// more often than others, or the value of unit.
     fn leaf(&mut self, binders: usize) -> Term {
         let variables = if binders > 0 { 3 } else { 0 };
         let labels = if self.shape.labels > 0 { 2 } else { 0 };
-        let choice = self.random.below(variables + labels + 1);
+        let choice = self.random.below(variables + labels + 2);
         if choice < variables {
             Term::Variable(self.number(binders))
         } else if choice < variables + labels {
             Term::Label(self.number(self.shape.labels))
+        } else if choice == variables + labels {
+            Term::UnitValue
         } else {
             Term::Gate(self.number(GATES.len()))
         }

@@ -9,6 +9,7 @@ pub const PAIR_TYPE: u8 = 2;
 pub const FUNCTION: u8 = 3;
 pub const REUSABLE: u8 = 4;
 pub const CIRCUIT: u8 = 5;
+pub const UNIT: u8 = 6;
 
 // Term section.
 pub const VARIABLE: u8 = 16;
@@ -22,6 +23,7 @@ pub const FORCE: u8 = 23;
 pub const BOX: u8 = 24;
 pub const APPLY: u8 = 25;
 pub const GATE: u8 = 26;
+pub const UNIT_VALUE: u8 = 27;
 
 /// The kinds of types that have parts.
 pub const TYPES_WITH_PARTS: [u8; 4] = [PAIR_TYPE, FUNCTION, REUSABLE, CIRCUIT];
@@ -35,10 +37,15 @@ pub fn is_label_kind(kind: u8) -> bool {
     kind == BIT || kind == QUBIT
 }
 
+/// Whether a wire type may have an entry of this kind of the type section.
+pub fn is_in_wire_types(kind: u8) -> bool {
+    matches!(kind, BIT | QUBIT | PAIR_TYPE | UNIT)
+}
+
 /// How many parts a kind of the type section has; none for any other byte.
 pub fn type_parts(kind: u8) -> Option<usize> {
     match kind {
-        BIT | QUBIT => Some(0),
+        BIT | QUBIT | UNIT => Some(0),
         REUSABLE => Some(1),
         PAIR_TYPE | FUNCTION | CIRCUIT => Some(2),
         _ => None,
@@ -48,7 +55,7 @@ pub fn type_parts(kind: u8) -> Option<usize> {
 /// How many parts a kind of the term section has; none for any other byte.
 pub fn term_parts(kind: u8) -> Option<usize> {
     match kind {
-        VARIABLE | LABEL | GATE => Some(0),
+        VARIABLE | LABEL | GATE | UNIT_VALUE => Some(0),
         ABSTRACTION | LIFT | FORCE | BOX => Some(1),
         APPLICATION | PAIR | LET | APPLY => Some(2),
         _ => None,

@@ -159,6 +159,7 @@ pub fn types_at(entries: &Entries) -> Vec<Rc<Type>> {
             kinds::FUNCTION => Type::Function(first(), second()),
             kinds::REUSABLE => Type::Reusable(first()),
             kinds::CIRCUIT => Type::Circuit(first(), second()),
+            kinds::UNIT => Type::Unit,
             kind => unreachable!("kind {kind} in the type section"),
         };
         types[at] = Rc::new(here);
@@ -218,6 +219,7 @@ pub fn term_of(entries: &Entries, types: &[Rc<Type>]) -> Rc<Term> {
             kinds::FORCE => Term::Force(part()),
             kinds::BOX => Term::Box(over(), part()),
             kinds::APPLY => Term::Apply(part(), part()),
+            kinds::UNIT_VALUE => Term::UnitValue,
             kind => unreachable!("kind {kind} in the term section"),
         };
         pile.push(Rc::new(here));
@@ -243,7 +245,7 @@ fn unbound(term: &Term, binders: usize, next: &mut usize) -> Option<usize> {
     *next += 1;
     match term {
         Term::Variable(argument) => (usize::from(*argument) >= binders).then_some(here),
-        Term::Label(_) | Term::Gate(_) => None,
+        Term::Label(_) | Term::Gate(_) | Term::UnitValue => None,
         Term::Abstraction(_, body) => unbound(body, binders + 1, next),
         Term::Lift(part) | Term::Force(part) | Term::Box(_, part) => unbound(part, binders, next),
         Term::Let(first, second) => {

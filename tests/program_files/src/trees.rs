@@ -18,6 +18,7 @@ pub enum Type {
     Function(Rc<Type>, Rc<Type>),
     Reusable(Rc<Type>),
     Circuit(Rc<Type>, Rc<Type>),
+    Unit,
 }
 
 /// A variable counts the binders between it and its own. A label or gate has
@@ -35,6 +36,8 @@ pub enum Term {
     Force(Rc<Term>),
     Box(Rc<Type>, Rc<Term>),
     Apply(Rc<Term>, Rc<Term>),
+    /// The value of unit.
+    UnitValue,
 }
 
 /// What a program file says. The listed types stand first in the type section,
@@ -82,13 +85,14 @@ impl Type {
             Type::Function(..) => kinds::FUNCTION,
             Type::Reusable(..) => kinds::REUSABLE,
             Type::Circuit(..) => kinds::CIRCUIT,
+            Type::Unit => kinds::UNIT,
         }
     }
 
     /// The parts, left to right.
     pub fn parts(&self) -> Vec<&Rc<Type>> {
         match self {
-            Type::Bit | Type::Qubit => vec![],
+            Type::Bit | Type::Qubit | Type::Unit => vec![],
             Type::Reusable(part) => vec![part],
             Type::Pair(first, second)
             | Type::Function(first, second)
@@ -96,10 +100,10 @@ impl Type {
         }
     }
 
-    /// Bit, Qubit and pairs of wire types.
+    /// Bit, Qubit, unit and pairs of wire types.
     pub fn is_wire_type(&self) -> bool {
         match self {
-            Type::Bit | Type::Qubit => true,
+            Type::Bit | Type::Qubit | Type::Unit => true,
             Type::Pair(first, second) => first.is_wire_type() && second.is_wire_type(),
             Type::Function(..) | Type::Reusable(..) | Type::Circuit(..) => false,
         }
@@ -108,7 +112,7 @@ impl Type {
     /// How many entries the type has.
     pub fn size(&self) -> usize {
         match self {
-            Type::Bit | Type::Qubit => 1,
+            Type::Bit | Type::Qubit | Type::Unit => 1,
             Type::Reusable(part) => 1 + part.size(),
             Type::Pair(first, second)
             | Type::Function(first, second)
@@ -155,13 +159,14 @@ impl Term {
             Term::Force(_) => kinds::FORCE,
             Term::Box(..) => kinds::BOX,
             Term::Apply(..) => kinds::APPLY,
+            Term::UnitValue => kinds::UNIT_VALUE,
         }
     }
 
     /// The parts, left to right.
     pub fn parts(&self) -> Vec<&Rc<Term>> {
         match self {
-            Term::Variable(_) | Term::Label(_) | Term::Gate(_) => vec![],
+            Term::Variable(_) | Term::Label(_) | Term::Gate(_) | Term::UnitValue => vec![],
             Term::Abstraction(_, part)
             | Term::Lift(part)
             | Term::Force(part)

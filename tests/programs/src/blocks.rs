@@ -2,11 +2,13 @@
 //! reusable functions, each bound to a variable and used later, inside further
 //! boxes too, until all wires are given back in any order.
 
-use crate::rules::copyable;
+use crate::rules::{copyable, MOST_ENTRIES};
 use crate::sequent::{Held, Name};
 use crate::terms;
 use crate::typed::Typed;
-use crate::types::{circuit, function, pair, reusable, shuffle, wire_type};
+use crate::types::{
+    circuit, function, pair, paired, reusable, shuffle, unit, wire_type_with_units,
+};
 use program_files::{Program, Random, Term, Type, Wire, GATES};
 use std::rc::Rc;
 
@@ -19,10 +21,27 @@ pub struct Plan {
     pub boxes: usize,
     /// Whether each block opens with a box that gets most of the actions.
     pub deep: bool,
+    /// Whether wires come from Init and go to Discard, and units stand in tuples.
+    pub helpers: bool,
 }
 
-/// A program of the plan and its type, a wire type.
+const CNOT: usize = 5;
+const MEAS: usize = 6;
+const BX: usize = 7;
+const INIT: usize = 9;
+const DISCARD: usize = 10;
+
+/// A program of the plan and its type, a wire type. Wires that come several times
+/// can make a type too large: then another is made.
 pub fn blocks(random: &mut Random, plan: &Plan) -> Typed {
+    loop {
+        if let Some(typed) = some_blocks(random, plan) {
+            return typed;
+        }
+    }
+}
+
+fn some_blocks(random: &mut Random, plan: &Plan) -> Option<Typed> {
     let labels: Vec<Wire> = (0..plan.labels).map(|_| mostly_qubit(random)).collect();
     let mut hand = Hand::default();
     for (number, wire) in labels.iter().enumerate() {
@@ -31,35 +50,53 @@ pub fn blocks(random: &mut Random, plan: &Plan) -> Typed {
             of: wire.as_type(),
         });
     }
-    let mut builder = Builder { random, plan };
+    let mut builder = Builder {
+        random,
+        plan,
+        largest: 0,
+    };
     let (term, of) = builder.block(hand, plan.actions);
-    Typed {
+    let fits = builder.largest.max(of.size()) <= MOST_ENTRIES;
+    fits.then(|| Typed {
         program: Program::new(labels, term),
         of,
-    }
+    })
 }
 
 /// A program that closes a circuit with so many inputs, at most 127, which is
-/// built block by block and not used.
-pub fn wide(random: &mut Random, wires: usize, plan: &Plan) -> Typed {
-    let inputs: Vec<Wire> = (0..wires).map(|_| mostly_qubit(random)).collect();
+/// built block by block and not used. Once in so many times an input is unit;
+/// none if a type would be too large.
+pub fn wide(random: &mut Random, leaves: usize, units: usize, plan: &Plan) -> Option<Typed> {
+    let inputs: Vec<Rc<Type>> = (0..leaves)
+        .map(|_| match random.one_in(units) {
+            true => unit(),
+            false => mostly_qubit(random).as_type(),
+        })
+        .collect();
+    let others = inputs[1..].iter().cloned();
     let from = match random.below(3) {
-        0 => (1..wires).fold(inputs[0].as_type(), |of, at| pair(of, inputs[at].as_type())),
-        1 => (1..wires).fold(inputs[0].as_type(), |of, at| pair(inputs[at].as_type(), of)),
-        _ => wire_type(random, &inputs),
+        0 => others.fold(inputs[0].clone(), pair),
+        1 => others.fold(inputs[0].clone(), |of, input| pair(input, of)),
+        _ => paired(random, &inputs),
     };
     let mut hand = Hand::default();
     hand.bind(&from);
     hand.boxes = 1;
-    let mut builder = Builder { random, plan };
+    let mut builder = Builder {
+        random,
+        plan,
+        largest: 0,
+    };
     let (body, to) = builder.block(hand, plan.actions);
+    builder.sized(&reusable(function(from.clone(), to.clone())));
+    let fits = builder.largest <= MOST_ENTRIES;
     let part = terms::lift(terms::abstraction(from.clone(), body));
     let boxed = terms::boxed(from.clone(), part);
     let unused = terms::abstraction(circuit(from, to), terms::label(0));
-    Typed {
+    fits.then(|| Typed {
         program: Program::new(vec![Wire::Qubit], terms::application(unused, boxed)),
         of: Wire::Qubit.as_type(),
-    }
+    })
 }
 
 fn mostly_qubit(random: &mut Random) -> Wire {
@@ -154,9 +191,17 @@ type Made = (Rc<Term>, Rc<Type>);
 struct Builder<'a> {
     random: &'a mut Random,
     plan: &'a Plan,
+    /// How many entries the largest type of a node has that is not part of
+    /// another one.
+    largest: usize,
 }
 
 impl Builder<'_> {
+    /// Takes note of the size of a node's type.
+    fn sized(&mut self, of: &Type) {
+        self.largest = self.largest.max(of.size());
+    }
+
     /// A term that uses every wire in hand, after so many actions.
     fn block(&mut self, mut hand: Hand, actions: usize) -> Made {
         let is_wires = |held: &Held| matches!(*held.of, Type::Pair(..)) && !copyable(&held.of);
@@ -172,13 +217,15 @@ impl Builder<'_> {
             return self.new_box(hand, actions);
         }
         for _ in 0..8 {
-            let made = match self.random.below(16) {
+            let made = match self.random.below(20) {
                 0..=2 => self.gate(&mut hand),
                 3 | 4 if hand.boxes < self.plan.boxes => return self.new_box(hand, actions),
                 5 => return self.new_function(hand, actions),
                 6 => self.crossed(&mut hand),
                 7 => self.closure(&mut hand),
                 8 | 9 => self.paired(&hand),
+                10..=12 if self.plan.helpers => self.helper(&mut hand),
+                13 if self.plan.helpers => Some((self.some_unit(&hand), unit())),
                 _ => self.use_held(&mut hand),
             };
             if let Some(made) = made {
@@ -203,6 +250,7 @@ impl Builder<'_> {
         }
         hand.bind(&of);
         let (body, to) = self.block(hand, actions);
+        self.sized(&function(of.clone(), to.clone()));
         let bound = terms::application(terms::abstraction(of, body), term);
         (bound, to)
     }
@@ -210,13 +258,66 @@ impl Builder<'_> {
     /// All wires in hand as a tuple, in any order.
     fn all_wires(&mut self, hand: &Hand) -> Made {
         let mut held: Vec<Held> = hand.held.clone();
-        held.retain(|held| held.of.is_wire_type());
+        held.retain(|held| held.of.is_wire_type() && !copyable(&held.of));
         if self.random.one_in(2) {
             shuffle(self.random, &mut held);
         }
         let wires: Vec<Wire> = held.iter().flat_map(|held| wires(&held.of)).collect();
-        let of = wire_type(self.random, &wires);
-        (tuple(hand, &of, &mut held.iter()), of)
+        let of = self.type_of(&wires);
+        (self.tuple(hand, &of, &mut held.iter()), of)
+    }
+
+    /// A wire type with these wires, and with units where there are such.
+    fn type_of(&mut self, wires: &[Wire]) -> Rc<Type> {
+        let units = match self.plan.helpers {
+            true => self.random.pick(&[0, 0, 0, 1, 2]),
+            false => 0,
+        };
+        wire_type_with_units(self.random, wires, units)
+    }
+
+    /// These wires as a tuple of a wire type, left to right, and a unit for each
+    /// that the type has.
+    fn tuple<'a>(
+        &mut self,
+        hand: &Hand,
+        of: &Type,
+        wires: &mut impl Iterator<Item = &'a Held>,
+    ) -> Rc<Term> {
+        match of {
+            Type::Pair(first, second) => {
+                let first = self.tuple(hand, first, wires);
+                terms::pair(first, self.tuple(hand, second, wires))
+            }
+            Type::Unit => self.some_unit(hand),
+            _ => hand.leaf(wires.next().expect("a wire for each")),
+        }
+    }
+
+    /// A variable of unit, or its value.
+    fn some_unit(&mut self, hand: &Hand) -> Rc<Term> {
+        let held = hand.held.iter().filter(|held| *held.of == Type::Unit);
+        let held: Vec<&Held> = held.collect();
+        match held.is_empty() || self.random.one_in(3) {
+            true => terms::unit_value(),
+            false => hand.leaf(held[self.random.below(held.len())]),
+        }
+    }
+
+    /// A Qubit that comes and goes: one of those in hand has a CNOT onto it, it is
+    /// measured, an X is done under its Bit, and that goes.
+    fn helper(&mut self, hand: &mut Hand) -> Option<Made> {
+        let wire = hand.take(self.random, &[Wire::Qubit])?;
+        let new = terms::apply(terms::gate(INIT), self.some_unit(hand));
+        let both = terms::pair(hand.leaf(&wire[0]), new);
+        let parity = terms::apply(terms::gate(CNOT), both);
+        let measured = terms::apply(terms::gate(MEAS), terms::variable(0));
+        let under = terms::pair(measured, terms::variable(1));
+        let corrected = terms::apply(terms::gate(BX), under);
+        let gone = terms::apply(terms::gate(DISCARD), terms::variable(1));
+        let result = terms::pair(gone, terms::variable(0));
+        let term = terms::let_in(parity, terms::let_in(corrected, result));
+        Some((term, pair(unit(), Wire::Qubit.as_type())))
     }
 
     /// A wire type with some of the wires in hand, or one that a circuit or a
@@ -229,15 +330,22 @@ impl Builder<'_> {
         let in_hand = hand.held.iter().filter(|held| held.of.is_wire_type());
         let mut some: Vec<Wire> = in_hand.flat_map(|held| wires(&held.of)).collect();
         shuffle(self.random, &mut some);
-        some.truncate(self.random.between(1, 4));
+        let least = match self.plan.helpers && self.random.one_in(4) {
+            true => 0,
+            false => 1,
+        };
+        some.truncate(self.random.between(least, 4));
         if self.random.one_in(8) {
             some.push(mostly_qubit(self.random));
         }
-        wire_type(self.random, &some)
+        self.type_of(&some)
     }
 
     fn gate(&mut self, hand: &mut Hand) -> Option<Made> {
         let number = self.random.below(GATES.len());
+        if GATES[number].is_helper() && !self.plan.helpers {
+            return None;
+        }
         let Type::Circuit(from, to) = &*GATES[number].circuit_type() else {
             unreachable!("a gate is a circuit");
         };
@@ -248,7 +356,7 @@ impl Builder<'_> {
     /// A tuple of this wire type from wires in hand.
     fn argument(&mut self, hand: &mut Hand, of: &Rc<Type>) -> Option<Rc<Term>> {
         let taken = hand.take(self.random, &wires(of))?;
-        Some(tuple(hand, of, &mut taken.iter()))
+        Some(self.tuple(hand, of, &mut taken.iter()))
     }
 
     /// A new box, bound to a variable or applied at once. Its function gets a
@@ -263,6 +371,7 @@ impl Builder<'_> {
         };
         hand.has_box = true;
         let (body, to) = self.block(inside, share);
+        self.sized(&reusable(function(from.clone(), to.clone())));
         let part = terms::lift(terms::abstraction(from.clone(), body));
         let boxed = terms::boxed(from.clone(), part);
         let left = actions - 1 - share.min(actions - 1);
@@ -287,6 +396,7 @@ impl Builder<'_> {
         let (body, to) = self.block(hand.inside(&from), share);
         let part = terms::lift(terms::abstraction(from.clone(), body));
         let of = reusable(function(from, to));
+        self.sized(&of);
         self.bind((part, of), hand, actions - 1 - share.min(actions - 1))
     }
 
@@ -308,6 +418,7 @@ impl Builder<'_> {
         inside.held.extend(kept);
         let (body, to) = self.block(inside, 1);
         *hand = left;
+        self.sized(&function(from.clone(), to.clone()));
         let closure = terms::abstraction(from, body);
         Some((terms::application(closure, argument), to))
     }
@@ -369,10 +480,11 @@ impl Builder<'_> {
                     let of = circuit(from.clone(), to.clone());
                     Some((terms::boxed(from.clone(), leaf), of))
                 }
-                1 if from == to => Some((
-                    twice(leaf, from),
-                    reusable(function(from.clone(), to.clone())),
-                )),
+                1 if from == to => {
+                    let of = reusable(function(from.clone(), to.clone()));
+                    self.sized(&function(of.clone(), of.clone()));
+                    Some((twice(leaf, from), of))
+                }
                 _ => {
                     let argument = self.argument(hand, from)?;
                     Some((terms::application(terms::force(leaf), argument), to.clone()))
@@ -391,15 +503,4 @@ fn twice(once: Rc<Term>, of: &Rc<Type>) -> Rc<Term> {
     let double = terms::lift(terms::abstraction(of.clone(), body));
     let over = reusable(function(of.clone(), of.clone()));
     terms::application(terms::abstraction(over, double), once)
-}
-
-/// These wires as a tuple of a wire type, left to right.
-fn tuple<'a>(hand: &Hand, of: &Type, wires: &mut impl Iterator<Item = &'a Held>) -> Rc<Term> {
-    match of {
-        Type::Pair(first, second) => {
-            let first = tuple(hand, first, wires);
-            terms::pair(first, tuple(hand, second, wires))
-        }
-        _ => hand.leaf(wires.next().expect("a wire for each")),
-    }
 }

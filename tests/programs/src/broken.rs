@@ -4,7 +4,8 @@ use crate::edit::{map_leaves, replaced, shifted};
 use crate::rules::{copyable, MOST_ENTRIES};
 use crate::survey::Survey;
 use crate::terms::{
-    abstraction, application, apply, boxed, force, gate, label, let_in, lift, pair, variable,
+    abstraction, application, apply, boxed, force, gate, label, let_in, lift, pair, unit_value,
+    variable,
 };
 use crate::types::{any_type, any_wire, any_wires, one_entry_changed, wire_type};
 use program_files::entries::MOST_TERMS;
@@ -435,11 +436,15 @@ impl<'a> Breaking<'a> {
         Some(Expected::Refused(18, Spot::Node(first + 2)))
     }
 
-    /// A term of another type than the node's: a lift of it, or a gate.
+    /// A term of another type than the node's: a lift of it, a gate, or unit's
+    /// value.
     fn of_other_type(&mut self, at: usize) -> Option<Rc<Term>> {
         let of = self.of(at)?.clone();
         if self.random.one_in(2) && self.has_room(at, 1) {
             return Some(lift(self.term(at).clone()));
+        }
+        if self.random.one_in(4) {
+            return (*of != Type::Unit).then(unit_value);
         }
         let number = self.random.below(GATES.len());
         (GATES[number].circuit_type() != of).then(|| gate(number))
@@ -597,12 +602,13 @@ impl<'a> Breaking<'a> {
 
     fn any_leaf(&mut self, at: usize) -> Rc<Term> {
         let binders = self.survey.nodes[at].scope.len();
-        match self.random.below(3) {
+        match self.random.below(4) {
             0 if binders > 0 => variable(self.random.below(binders)),
             1 => match self.some_label() {
                 Some(number) => label(number),
                 None => self.any_gate(),
             },
+            2 => unit_value(),
             _ => self.any_gate(),
         }
     }

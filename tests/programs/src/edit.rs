@@ -8,7 +8,7 @@ use std::rc::Rc;
 pub fn with_parts(term: &Term, parts: &[Rc<Term>]) -> Term {
     let part = |at: usize| parts[at].clone();
     match term {
-        Term::Variable(_) | Term::Label(_) | Term::Gate(_) => term.clone(),
+        Term::Variable(_) | Term::Label(_) | Term::Gate(_) | Term::UnitValue => term.clone(),
         Term::Abstraction(over, _) => Term::Abstraction(over.clone(), part(0)),
         Term::Application(..) => Term::Application(part(0), part(1)),
         Term::Pair(..) => Term::Pair(part(0), part(1)),

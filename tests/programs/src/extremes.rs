@@ -2,14 +2,17 @@
 
 use crate::terms::{
     abstraction, application, apply, boxed, force, gate, label, let_in, lift, pair as pair_of,
-    variable,
+    unit_value, variable,
 };
 use crate::typed::Typed;
-use crate::types::{circuit, function, pair, qubit, reusable};
+use crate::types::{circuit, function, pair, qubit, reusable, unit};
 use program_files::{Program, Term, Type, Wire};
 use std::rc::Rc;
 
 const CNOT: usize = 5;
+const MEAS: usize = 6;
+const INIT: usize = 9;
+const DISCARD: usize = 10;
 
 /// The type of gate 0.
 fn one_qubit() -> Rc<Type> {
@@ -230,6 +233,102 @@ pub fn labels(terms: usize) -> Typed {
     typed(LABELS, term, of)
 }
 
+/// A Qubit that comes, is measured and goes.
+fn helper(unit: Rc<Term>) -> Rc<Term> {
+    apply(gate(DISCARD), apply(gate(MEAS), apply(gate(INIT), unit)))
+}
+
+/// Qubits that come and go, one after the other.
+pub fn helpers(terms: usize) -> Typed {
+    let term = levels((terms - 1) / 6, unit_value(), |inside, _| helper(inside));
+    typed(0, term, unit())
+}
+
+/// A box at unit whose function applies a box at unit, and so on.
+pub fn boxes_at_unit(terms: usize) -> Typed {
+    let count = terms.saturating_sub(1) / 5;
+    let end = |level: usize| {
+        if level == 0 {
+            unit_value()
+        } else {
+            variable(0)
+        }
+    };
+    let term = levels(count, end(count), |inside, level| {
+        let function = lift(abstraction(unit(), inside));
+        apply(boxed(unit(), function), end(count - 1 - level))
+    });
+    typed(0, term, unit())
+}
+
+/// Units bound by applied abstractions; the first of them is used inside a lift
+/// and outside.
+pub fn binders_of_units(terms: usize) -> Typed {
+    let count = terms.saturating_sub(7) / 3;
+    if count == 0 {
+        return typed(0, unit_value(), unit());
+    }
+    let first = || variable(count - 1);
+    let last = pair_of(force(lift(first())), pair_of(first(), unit_value()));
+    let term = levels(count, last, |inside, _| {
+        application(abstraction(unit(), inside), unit_value())
+    });
+    typed(0, term, pair(unit(), pair(unit(), unit())))
+}
+
+/// The most leaves of a type.
+const MOST_LEAVES: usize = 256;
+
+/// As many leaves in a tuple as there can be, nested to the left or to the right,
+/// each of them this term.
+fn leaves(to_the_left: bool, leaf: &Rc<Term>, of: &Rc<Type>) -> Typed {
+    let others = MOST_LEAVES - 1;
+    let term = levels(others, leaf.clone(), |inside, _| match to_the_left {
+        true => pair_of(inside, leaf.clone()),
+        false => pair_of(leaf.clone(), inside),
+    });
+    let of = around(others, of.clone(), |inside| match to_the_left {
+        true => pair(inside, of.clone()),
+        false => pair(of.clone(), inside),
+    });
+    typed(0, term, of)
+}
+
+/// A result of 256 Qubits that all come from Init.
+pub fn most_outputs() -> Typed {
+    leaves(false, &apply(gate(INIT), unit_value()), &qubit())
+}
+
+/// A result of 256 leaves: Qubits from Init, values of unit and units of which a
+/// Qubit has gone, in turn.
+pub fn some_outputs() -> Typed {
+    let leaf = |at: usize| match at % 3 {
+        0 => (apply(gate(INIT), unit_value()), qubit()),
+        1 => (unit_value(), unit()),
+        _ => (helper(unit_value()), unit()),
+    };
+    let (mut term, mut of) = leaf(0);
+    for at in 1..MOST_LEAVES {
+        let (next, of_next) = leaf(at);
+        (term, of) = (pair_of(next, term), pair(of_next, of));
+    }
+    typed(0, term, of)
+}
+
+/// All 64 labels are Bits that go, and for each of them a Qubit comes.
+fn in_place_of_bits() -> Typed {
+    const LABELS: usize = 64;
+    let wire = |number: usize| apply(gate(INIT), apply(gate(DISCARD), label(number)));
+    let (mut term, mut of) = (wire(0), qubit());
+    for number in 1..LABELS {
+        (term, of) = (pair_of(term, wire(number)), pair(of, qubit()));
+    }
+    Typed {
+        program: Program::new(vec![Wire::Bit; LABELS], term),
+        of,
+    }
+}
+
 /// All of them with about so many entries, and their names.
 pub fn all(terms: usize) -> Vec<(&'static str, Typed)> {
     vec![
@@ -249,6 +348,9 @@ pub fn all(terms: usize) -> Vec<(&'static str, Typed)> {
         ("64 labels", labels(terms)),
         ("pairs of gates in a lift", pairs_in_a_lift(terms)),
         ("pairs of gates used", pairs_used(terms)),
+        ("Qubits that come and go", helpers(terms)),
+        ("boxes at unit inside boxes", boxes_at_unit(terms)),
+        ("units bound", binders_of_units(terms)),
     ]
 }
 
@@ -298,7 +400,55 @@ pub fn at_the_type_bound() -> Vec<(&'static str, Typed)> {
             "abstractions as an argument",
             as_argument(abstractions(168)),
         ),
+        ("units to the left", leaves(true, &unit_value(), &unit())),
+        ("units to the right", leaves(false, &unit_value(), &unit())),
+        (
+            "units in a lift",
+            lifted(leaves(false, &unit_value(), &unit())),
+        ),
+        ("256 outputs", most_outputs()),
+        ("256 leaves, some of them outputs", some_outputs()),
+        ("a box at units only", box_at_units(127)),
+        ("Bits that go, Qubits that come", in_place_of_bits()),
+        ("a box to 255 Qubits", widest_box(|_| false)),
+        (
+            "a box to 255 leaves, some of them units",
+            widest_box(|at| at % 3 == 1),
+        ),
     ]
+}
+
+fn lifted(inside: Typed) -> Typed {
+    let of = reusable(inside.of);
+    typed(0, lift(inside.program.term), of)
+}
+
+/// A box whose input and result are so many pairs of units and of nothing else,
+/// applied. Its lift has a type of 512 entries with 127 pairs; its abstraction is
+/// node 3.
+pub fn box_at_units(pairs: usize) -> Typed {
+    let of = around(pairs, unit(), |of| pair(of, unit()));
+    let argument = levels(pairs, unit_value(), |inside, _| {
+        pair_of(inside, unit_value())
+    });
+    let function = lift(abstraction(of.clone(), variable(0)));
+    typed(0, apply(boxed(of.clone(), function), argument), of)
+}
+
+/// A box at unit with as large a result as there can be, of Qubits from Init and of
+/// units, applied.
+fn widest_box(is_unit: fn(usize) -> bool) -> Typed {
+    let leaf = |at: usize| match is_unit(at) {
+        true => (variable(0), unit()),
+        false => (apply(gate(INIT), variable(0)), qubit()),
+    };
+    let (mut body, mut of) = leaf(0);
+    for at in 1..MOST_LEAVES - 1 {
+        let (next, of_next) = leaf(at);
+        (body, of) = (pair_of(body, next), pair(of, of_next));
+    }
+    let function = lift(abstraction(unit(), body));
+    typed(0, apply(boxed(unit(), function), unit_value()), of)
 }
 
 fn around(count: usize, of: Rc<Type>, level: impl Fn(Rc<Type>) -> Rc<Type>) -> Rc<Type> {

@@ -3,12 +3,16 @@
 
 use crate::rules::MOST_ENTRIES;
 use crate::sequent::{is_function, is_pair, Held, Sequent};
-use crate::terms::{abstraction, application, apply, boxed, force, gate, let_in, lift, pair};
-use crate::types::{function, pieces, reusable};
+use crate::terms::{
+    abstraction, application, apply, boxed, force, gate, let_in, lift, pair, unit_value,
+};
+use crate::types::{function, pieces, reusable, unit};
 use program_files::{Random, Term, Type, GATES};
 use std::rc::Rc;
 
 const MEAS: usize = 6;
+const INIT: usize = 9;
+const DISCARD: usize = 10;
 
 /// None if this way leads to no term.
 pub fn plain(sequent: &Sequent, random: &mut Random) -> Option<Rc<Term>> {
@@ -52,7 +56,13 @@ pub fn plain(sequent: &Sequent, random: &mut Random) -> Option<Rc<Term>> {
             let leaf = sequent.leaf(&sequent.linear[0]);
             Some(apply(gate(MEAS), leaf))
         }
-        Type::Bit | Type::Qubit => drop_first(sequent, random),
+        Type::Qubit if may_come(sequent) => Some(new_qubit(sequent, random)),
+        Type::Bit if may_come(sequent) => {
+            let qubit = new_qubit(sequent, random);
+            Some(apply(gate(MEAS), qubit))
+        }
+        Type::Unit if sequent.linear.is_empty() => Some(some_unit(sequent, random)),
+        Type::Bit | Type::Qubit | Type::Unit => drop_first(sequent, random),
         Type::Reusable(_) | Type::Circuit(..) if !sequent.linear.is_empty() => {
             drop_first(sequent, random)
         }
@@ -111,6 +121,23 @@ fn is_one_qubit(sequent: &Sequent) -> bool {
     matches!(sequent.linear.as_slice(), [only] if *only.of == Type::Qubit)
 }
 
+/// Whether Init has to make a wire, since none is in hand.
+fn may_come(sequent: &Sequent) -> bool {
+    sequent.helpers && sequent.linear.is_empty()
+}
+
+fn new_qubit(sequent: &Sequent, random: &mut Random) -> Rc<Term> {
+    apply(gate(INIT), some_unit(sequent, random))
+}
+
+/// A variable of unit, or its value.
+fn some_unit(sequent: &Sequent, random: &mut Random) -> Rc<Term> {
+    match sequent.variable(&Type::Unit) {
+        Some(held) if !random.one_in(3) => sequent.leaf(held),
+        _ => unit_value(),
+    }
+}
+
 /// The functions in hand that the goal does not ask for.
 fn uncalled(sequent: &Sequent) -> Vec<usize> {
     let mut asked = pieces(&sequent.goal);
@@ -146,15 +173,29 @@ fn call_one(sequent: &Sequent, functions: &[usize], random: &mut Random) -> Opti
     None
 }
 
-/// Gives the first wire in hand to a sink; with none in hand there is no term
-/// here.
+/// Gives the first wire in hand to a sink or to Discard; with none in hand there
+/// is no term here.
 fn drop_first(sequent: &Sequent, random: &mut Random) -> Option<Rc<Term>> {
     if sequent.linear.is_empty() {
         return None;
     }
     let (held, rest) = sequent.take(0);
-    let (sink, result) = sequent.sink(&held.of)?;
-    let dropped = application(force(sequent.leaf(sink)), sequent.leaf(&held));
+    let discarded = match &*held.of {
+        _ if !sequent.helpers => None,
+        Type::Bit => Some(sequent.leaf(&held)),
+        Type::Qubit => Some(apply(gate(MEAS), sequent.leaf(&held))),
+        _ => None,
+    };
+    let sink = sequent.sink(&held.of);
+    let discards = sink.is_none() || random.one_in(2);
+    let (dropped, result) = match (discarded, sink) {
+        (Some(bit), _) if discards => (apply(gate(DISCARD), bit), unit()),
+        (_, Some((sink, result))) => {
+            let sink = force(sequent.leaf(sink));
+            (application(sink, sequent.leaf(&held)), result)
+        }
+        _ => return None,
+    };
     bind(dropped, &result, &rest, random)
 }
 

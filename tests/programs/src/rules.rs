@@ -14,7 +14,7 @@ pub fn copyable(of: &Type) -> bool {
     match of {
         Type::Bit | Type::Qubit | Type::Function(..) => false,
         Type::Pair(first, second) => copyable(first) && copyable(second),
-        Type::Reusable(_) | Type::Circuit(..) => true,
+        Type::Reusable(_) | Type::Circuit(..) | Type::Unit => true,
     }
 }
 
@@ -209,6 +209,7 @@ impl Derivation<'_> {
             Term::Gate(number) => context
                 .is_empty()
                 .then(|| GATES[usize::from(*number)].circuit_type()),
+            Term::UnitValue => context.is_empty().then(|| Rc::new(Type::Unit)),
             Term::Abstraction(over, _) => {
                 let to = self.under(&node.parts[0], context.clone(), &[over])?;
                 within(Type::Function(over.clone(), to))

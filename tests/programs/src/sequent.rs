@@ -30,14 +30,16 @@ pub struct Sequent {
     pub goal: Rc<Type>,
     /// How many boxes there are around the term.
     pub boxes: usize,
-    /// Whether all sources and sinks are in scope: then there is a term for
-    /// every goal.
+    /// Whether all sources and sinks are in scope, or wires may come and go: then
+    /// there is a term for every goal.
     pub open: bool,
+    /// Whether wires may come from Init and go to Discard.
+    pub helpers: bool,
 }
 
 impl Sequent {
     /// Nothing but these linear ones.
-    pub fn new(linear: Vec<Held>, goal: &Rc<Type>) -> Sequent {
+    pub fn new(linear: Vec<Held>, goal: &Rc<Type>, helpers: bool) -> Sequent {
         Sequent {
             binders: 0,
             copyable: Vec::new(),
@@ -45,7 +47,8 @@ impl Sequent {
             linear,
             goal: goal.clone(),
             boxes: 0,
-            open: false,
+            open: helpers,
+            helpers,
         }
     }
 
@@ -70,6 +73,7 @@ impl Sequent {
             goal: goal.clone(),
             boxes: self.boxes,
             open: self.open,
+            helpers: self.helpers,
         }
     }
 
@@ -233,7 +237,7 @@ fn needs(of: &Type) -> Option<Count> {
             let count = needs(to)?.minus(gives(from));
             (count.all >= count.qubits).then_some(count)
         }
-        Type::Reusable(_) | Type::Circuit(..) => Some(Count::default()),
+        Type::Reusable(_) | Type::Circuit(..) | Type::Unit => Some(Count::default()),
     }
 }
 
@@ -259,6 +263,6 @@ fn gives(of: &Type) -> Count {
                 all: to.all - from.all,
             }
         }
-        Type::Reusable(_) | Type::Circuit(..) => Count::default(),
+        Type::Reusable(_) | Type::Circuit(..) | Type::Unit => Count::default(),
     }
 }

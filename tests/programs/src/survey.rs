@@ -79,6 +79,7 @@ impl Survey {
             }
             Term::Label(number) => Found::Type(labels[usize::from(*number)].as_type()),
             Term::Gate(number) => Found::Type(GATES[usize::from(*number)].circuit_type()),
+            Term::UnitValue => Found::Type(Rc::new(Type::Unit)),
             Term::Abstraction(over, body) => {
                 let inside = self.bind(here, around, &[Some(over.clone())]);
                 match self.visit(labels, body, &inside) {

@@ -19,6 +19,10 @@ pub fn gate(gate: usize) -> Rc<Term> {
     Rc::new(Term::Gate(number(gate)))
 }
 
+pub fn unit_value() -> Rc<Term> {
+    Rc::new(Term::UnitValue)
+}
+
 pub fn abstraction(over: Rc<Type>, body: Rc<Term>) -> Rc<Term> {
     Rc::new(Term::Abstraction(over, body))
 }

@@ -7,8 +7,8 @@ use crate::rules::MOST_ENTRIES;
 use crate::sequent::{is_function, is_pair, Held, Name, Sequent};
 use crate::terms;
 use crate::types::{
-    any_type, any_wires, changed_wires, circuit, function, made_of, open_type, pair,
-    parameter_type, pieces, reusable, shuffle, wire_type,
+    any_type, any_wire_type, any_wires, changed_wires, circuit, function, made_of, open_type, pair,
+    parameter_type, pieces, reusable, shuffle, wire_type_with_units,
 };
 use program_files::{Lean, Program, Random, Term, Type, Wire, GATES};
 use std::collections::HashSet;
@@ -50,7 +50,8 @@ pub const RULES: [Rule; 9] = [
 
 #[derive(Clone, PartialEq, Eq, Debug)]
 pub enum Goal {
-    /// A wire type that the labels can become.
+    /// A wire type that the labels can become, any wire type where wires may
+    /// come and go.
     Wires,
     /// Any type that the labels can become.
     Made,
@@ -71,6 +72,8 @@ pub struct Plan {
     pub type_size: usize,
     /// At most so many boxes inside each other.
     pub boxes: usize,
+    /// Whether wires may come from Init and go to Discard.
+    pub helpers: bool,
     /// Pairs that may be copied are chosen on the way at most so deep, and
     /// seldom if it is 0.
     pub pairs: usize,
@@ -90,6 +93,7 @@ impl Plan {
             types: 512,
             type_size: 12,
             boxes: 8,
+            helpers: false,
             pairs: 0,
             lean: Lean::Any,
             weights: [2, 2, 2, 1, 2, 2, 2, 8, 2],
@@ -100,7 +104,7 @@ impl Plan {
     pub fn any(random: &mut Random, labels: usize, terms: usize) -> Plan {
         let labels = random.between(0, labels);
         let goal = match random.below(6) {
-            0 | 1 if labels > 0 => Goal::Wires,
+            0 | 1 => Goal::Wires,
             2 | 3 => Goal::Open(random.between(1, 24)),
             _ => Goal::Made,
         };
@@ -108,17 +112,22 @@ impl Plan {
         plan.types = random.pick(&[40, 100, 512, 512]);
         plan.type_size = random.pick(&[4, 8, 16, 30]);
         plan.boxes = random.between(1, 8);
+        plan.helpers = random.one_in(4);
         plan.weigh(random);
         plan
     }
 
     /// A program that runs: its type is a wire type.
     pub fn of_wires(random: &mut Random, labels: usize, terms: usize) -> Plan {
-        let labels = random.between(1, labels);
+        let labels = match random.below(10) {
+            0 => 0,
+            _ => random.between(1, labels),
+        };
         let labels = any_wires(random, labels);
         let mut plan = Plan::new(labels, Goal::Wires, random.between(1, terms));
         plan.type_size = random.pick(&[4, 8, 16]);
         plan.boxes = random.between(1, 8);
+        plan.helpers = random.one_in(3);
         plan.weigh(random);
         plan
     }
@@ -145,6 +154,12 @@ impl Plan {
                 *weight = 40;
             }
         }
+        self
+    }
+
+    /// Wires may come and go.
+    pub fn with_helpers(mut self) -> Plan {
+        self.helpers = true;
         self
     }
 
@@ -190,7 +205,7 @@ pub fn typed(random: &mut Random, plan: &Plan) -> Option<Typed> {
         name: Name::Label(number),
         of: wire.as_type(),
     });
-    let sequent = Sequent::new(labels.collect(), &goal);
+    let sequent = Sequent::new(labels.collect(), &goal, plan.helpers);
     let mut generator = Generator {
         random,
         plan,
@@ -214,9 +229,14 @@ pub fn typed(random: &mut Random, plan: &Plan) -> Option<Typed> {
 
 fn goal_of(random: &mut Random, plan: &Plan) -> Rc<Type> {
     match &plan.goal {
+        Goal::Wires if plan.helpers && random.one_in(2) => {
+            let leaves = random.between(1, 8);
+            any_wire_type(random, leaves)
+        }
         Goal::Wires => {
             let wires = changed_wires(random, &plan.labels, 6);
-            wire_type(random, &wires)
+            let units = random.pick(&[0, 0, 0, 1, 2]);
+            wire_type_with_units(random, &wires, units)
         }
         Goal::Made => {
             let parts: Vec<Rc<Type>> = plan.labels.iter().map(|wire| wire.as_type()).collect();
@@ -235,7 +255,7 @@ fn has_place(rule: Rule, sequent: &Sequent) -> bool {
     let mut linear = sequent.linear.iter();
     match rule {
         Rule::Introduce => match *sequent.goal {
-            Type::Bit | Type::Qubit => false,
+            Type::Bit | Type::Qubit | Type::Unit => false,
             Type::Pair(..) | Type::Function(..) => true,
             Type::Reusable(_) | Type::Circuit(..) => sequent.linear.is_empty(),
         },
@@ -301,7 +321,7 @@ impl Generator<'_> {
     /// Lists what abstractions and boxes need in a term of this type.
     fn know_goal(&mut self, goal: &Rc<Type>) -> bool {
         match &**goal {
-            Type::Bit | Type::Qubit => true,
+            Type::Bit | Type::Qubit | Type::Unit => true,
             Type::Pair(first, second) => self.know_goal(first) && self.know_goal(second),
             Type::Function(from, to) => self.know(from) && self.know_goal(to),
             Type::Reusable(of) => self.know_goal(of),
@@ -374,7 +394,7 @@ impl Generator<'_> {
 
     fn introduce(&mut self, sequent: &Sequent, size: usize) -> Option<Rc<Term>> {
         match &*sequent.goal {
-            Type::Bit | Type::Qubit => unreachable!("no rule of a wire"),
+            Type::Bit | Type::Qubit | Type::Unit => unreachable!("a type without parts"),
             Type::Pair(first, second) => {
                 let (given, rest) = self.share(sequent, first)?;
                 let first = sequent.with(given, first);
@@ -512,14 +532,22 @@ impl Generator<'_> {
                 _ => None,
             })
             .collect();
-        if wires.is_empty() {
+        if wires.is_empty() && !sequent.helpers {
             return None;
         }
+        let helpers = sequent.helpers && self.random.one_in(2);
         shuffle(self.random, &mut wires);
-        wires.truncate(self.random.between(1, 3));
-        let from = wire_type(self.random, &wires);
-        let wires = changed_wires(self.random, &wires, 8);
-        let to = wire_type(self.random, &wires);
+        wires.truncate(self.random.between(usize::from(!helpers), 3));
+        let units = self.random.pick(&[0, 0, 0, 1]);
+        let from = wire_type_with_units(self.random, &wires, units);
+        let to = if helpers {
+            let leaves = self.random.between(1, 3);
+            any_wire_type(self.random, leaves)
+        } else {
+            let units = self.random.pick(&[0, 0, 0, 1]);
+            let wires = changed_wires(self.random, &wires, 8);
+            wire_type_with_units(self.random, &wires, units)
+        };
         Some(match self.random.below(4) {
             0 => reusable(function(from, to)),
             1 => reusable(circuit(from, to)),
@@ -582,11 +610,12 @@ impl Generator<'_> {
             })
             .collect();
         if sequent.open && self.random.one_in(2) {
-            let count = self.random.between(1, 4);
+            let count = self.random.between(0, 4);
             wires = any_wires(self.random, count);
         }
         shuffle(self.random, &mut wires);
-        let from = wire_type(self.random, &wires);
+        let units = self.random.pick(&[0, 0, 0, 1]);
+        let from = wire_type_with_units(self.random, &wires, units);
         let of = circuit(from.clone(), sequent.goal.clone());
         let (given, rest) = match sequent.open {
             true => self.some(sequent),
@@ -744,7 +773,7 @@ fn pairs_of(held: &[Held]) -> impl Iterator<Item = &Held> {
 }
 
 /// The same program with exactly so many term entries: forced lifts around
-/// gates, gates around Qubit labels, and an abstraction of one variable. None
+/// gates and values of unit, gates around Qubit labels, and an abstraction of one variable. None
 /// if it is too large or has no place for them.
 pub fn padded(random: &mut Random, typed: &Typed, terms: usize) -> Option<Typed> {
     let mut typed = typed.clone();
@@ -760,7 +789,7 @@ pub fn padded(random: &mut Random, typed: &Typed, terms: usize) -> Option<Typed>
     }
     let labels = &typed.program.labels;
     let grows = |leaf: &Term| match leaf {
-        Term::Gate(_) => true,
+        Term::Gate(_) | Term::UnitValue => true,
         Term::Label(number) => labels[usize::from(*number)] == Wire::Qubit,
         _ => false,
     };
@@ -783,7 +812,7 @@ pub fn padded(random: &mut Random, typed: &Typed, terms: usize) -> Option<Typed>
         }
         let more = growth.next().expect("as many leaves");
         (0..more).fold(leaf.clone(), |inside, _| match **leaf {
-            Term::Gate(_) => terms::force(terms::lift(inside)),
+            Term::Gate(_) | Term::UnitValue => terms::force(terms::lift(inside)),
             _ => terms::apply(terms::gate(random.below(5)), inside),
         })
     });

@@ -22,6 +22,10 @@ pub fn qubit() -> Rc<Type> {
     Wire::Qubit.as_type()
 }
 
+pub fn unit() -> Rc<Type> {
+    Rc::new(Type::Unit)
+}
+
 pub fn pair(first: Rc<Type>, second: Rc<Type>) -> Rc<Type> {
     Rc::new(Type::Pair(first, second))
 }
@@ -49,11 +53,40 @@ pub fn pairs_deep(of: &Type) -> usize {
 
 /// A wire type with these wires, left to right.
 pub fn wire_type(random: &mut Random, wires: &[Wire]) -> Rc<Type> {
-    if let [only] = wires {
-        return only.as_type();
+    wire_type_with_units(random, wires, 0)
+}
+
+/// The same with so many units among the wires.
+pub fn wire_type_with_units(random: &mut Random, wires: &[Wire], units: usize) -> Rc<Type> {
+    let mut leaves: Vec<Rc<Type>> = wires.iter().map(|wire| wire.as_type()).collect();
+    for _ in 0..units {
+        leaves.insert(random.between(0, leaves.len()), unit());
     }
-    let (first, second) = wires.split_at(random.between(1, wires.len() - 1));
-    pair(wire_type(random, first), wire_type(random, second))
+    paired(random, &leaves)
+}
+
+/// Any wire type of so many wires and units.
+pub fn any_wire_type(random: &mut Random, leaves: usize) -> Rc<Type> {
+    let units = some_units(random, leaves);
+    let wires = any_wires(random, leaves - units);
+    wire_type_with_units(random, &wires, units)
+}
+
+/// How many of so many leaves are units.
+fn some_units(random: &mut Random, leaves: usize) -> usize {
+    (0..leaves).filter(|_| random.one_in(6)).count()
+}
+
+/// These types in pairs, left to right; unit if there is none.
+pub fn paired(random: &mut Random, leaves: &[Rc<Type>]) -> Rc<Type> {
+    match leaves {
+        [] => unit(),
+        [only] => only.clone(),
+        _ => {
+            let (first, second) = leaves.split_at(random.between(1, leaves.len() - 1));
+            pair(paired(random, first), paired(random, second))
+        }
+    }
 }
 
 /// What these wires can become: in another order, Qubits measured once in so
@@ -74,16 +107,15 @@ pub fn changed_wires(random: &mut Random, wires: &[Wire], measured: usize) -> Ve
 /// Any type of so many entries.
 pub fn any_type(random: &mut Random, size: usize) -> Rc<Type> {
     match size {
-        1 => any_wire(random).as_type(),
+        1 => any_wire_type(random, 1),
         2 => reusable(any_type(random, 1)),
         _ => match random.below(5) {
             0 => reusable(any_type(random, size - 1)),
             1 if size % 2 == 1 => {
-                let wires = size.div_ceil(2);
-                let first = random.between(1, wires - 1);
-                let first = any_wires(random, first);
-                let second = any_wires(random, wires - first.len());
-                circuit(wire_type(random, &first), wire_type(random, &second))
+                let leaves = size.div_ceil(2);
+                let first = random.between(1, leaves - 1);
+                let second = any_wire_type(random, leaves - first);
+                circuit(any_wire_type(random, first), second)
             }
             choice => {
                 let first = random.between(1, size - 2);
@@ -122,11 +154,13 @@ pub fn open_type(random: &mut Random, to: Rc<Type>) -> Rc<Type> {
     from.into_iter().fold(to, |to, from| function(from, to))
 }
 
-/// A type of so many entries, at least 3, that may be copied and dropped and
-/// that some closed term without labels has.
+/// A type of so many entries that may be copied and dropped and that some closed
+/// term without labels has.
 pub fn parameter_type(random: &mut Random, size: usize) -> Rc<Type> {
-    if size >= 7 && random.one_in(3) {
-        let first = random.between(3, size - 4);
+    if size == 1 {
+        unit()
+    } else if (size >= 7 && random.one_in(3)) || (size >= 3 && random.one_in(8)) {
+        let first = random.between(1, size - 2);
         pair(
             parameter_type(random, first),
             parameter_type(random, size - 1 - first),
@@ -139,19 +173,18 @@ pub fn parameter_type(random: &mut Random, size: usize) -> Rc<Type> {
     }
 }
 
-/// A type of so many entries, at least 3, that some closed term without labels
-/// has.
+/// A type of so many entries that some closed term without labels has.
 pub fn closed_type(random: &mut Random, size: usize) -> Rc<Type> {
     match random.below(8) {
         0 | 1 if size >= 7 => {
-            let first = random.between(3, size - 4);
+            let first = random.between(1, size - 2);
             pair(
                 closed_type(random, first),
                 closed_type(random, size - 1 - first),
             )
         }
         2 if size >= 7 => {
-            let first = random.between(3, size - 4);
+            let first = random.between(1, size - 2);
             function(
                 parameter_type(random, first),
                 closed_type(random, size - 1 - first),
@@ -161,11 +194,11 @@ pub fn closed_type(random: &mut Random, size: usize) -> Rc<Type> {
             let (from, to) = as_many_wires(random, size.div_ceil(4));
             function(from, to)
         }
-        4 if size.is_multiple_of(2) => {
+        4 if size >= 4 && size.is_multiple_of(2) => {
             let of = any_type(random, size / 2 - 1);
             function(reusable(of.clone()), of)
         }
-        4 => {
+        4 if size >= 3 && size % 2 == 1 => {
             let of = any_type(random, size / 2);
             function(of.clone(), of)
         }
@@ -177,12 +210,14 @@ pub fn closed_type(random: &mut Random, size: usize) -> Rc<Type> {
     }
 }
 
-/// Two wire types with so many wires each, the first of which can become the
-/// second.
+/// Two wire types with so many wires and units each, the first of which can
+/// become the second.
 pub fn as_many_wires(random: &mut Random, count: usize) -> (Rc<Type>, Rc<Type>) {
-    let from = any_wires(random, count);
+    let units = some_units(random, count);
+    let from = any_wires(random, count - units);
     let to = changed_wires(random, &from, 4);
-    (wire_type(random, &from), wire_type(random, &to))
+    let from = wire_type_with_units(random, &from, units);
+    (from, wire_type_with_units(random, &to, units))
 }
 
 /// The wires and functions of a type, left to right. What may be copied and
@@ -208,7 +243,7 @@ fn add_pieces(of: &Rc<Type>, list: &mut Vec<Rc<Type>>) {
 /// entries.
 pub fn made_of(random: &mut Random, parts: &[Rc<Type>], room: usize) -> Rc<Type> {
     if parts.is_empty() {
-        let size = random.between(3, room.max(4));
+        let size = some_size(random, room);
         return match random.below(3) {
             0 => closed_type(random, size),
             _ => parameter_type(random, size),
@@ -249,22 +284,27 @@ pub fn made_of(random: &mut Random, parts: &[Rc<Type>], room: usize) -> Rc<Type>
     }
 }
 
+/// So many entries, seldom so few that the type is unit.
+fn some_size(random: &mut Random, room: usize) -> usize {
+    match random.below(6) {
+        0 => random.between(1, 2),
+        _ => random.between(3, room.max(4)),
+    }
+}
+
 /// The type of an argument: wires, or something reusable, or a function.
 fn domain(random: &mut Random, room: usize) -> Rc<Type> {
     let wires = random.between(1, 2);
     match random.below(4) {
         0 => {
-            let size = random.between(3, room.max(4));
+            let size = some_size(random, room);
             parameter_type(random, size)
         }
         1 => {
             let (from, to) = as_many_wires(random, wires);
             function(from, to)
         }
-        _ => {
-            let wires = any_wires(random, wires);
-            wire_type(random, &wires)
-        }
+        _ => any_wire_type(random, wires),
     }
 }
 
@@ -276,11 +316,17 @@ pub fn one_entry_changed(random: &mut Random, of: &Rc<Type>) -> Rc<Type> {
     change_entry(random, of, at)
 }
 
+/// Another of the types without parts.
+fn other_leaf(random: &mut Random, of: &Rc<Type>) -> Rc<Type> {
+    let leaves = [Wire::Bit.as_type(), Wire::Qubit.as_type(), unit()];
+    let others: Vec<&Rc<Type>> = leaves.iter().filter(|leaf| *leaf != of).collect();
+    others[random.below(others.len())].clone()
+}
+
 fn change_entry(random: &mut Random, of: &Rc<Type>, at: usize) -> Rc<Type> {
     if at == 0 {
         return Rc::new(match &**of {
-            Type::Bit => Type::Qubit,
-            Type::Qubit => Type::Bit,
+            Type::Bit | Type::Qubit | Type::Unit => return other_leaf(random, of),
             Type::Reusable(part) => return part.clone(),
             Type::Pair(first, second) if random.one_in(2) => {
                 Type::Pair(second.clone(), first.clone())
@@ -293,7 +339,7 @@ fn change_entry(random: &mut Random, of: &Rc<Type>, at: usize) -> Rc<Type> {
     }
     let at = at - 1;
     Rc::new(match &**of {
-        Type::Bit | Type::Qubit => unreachable!("no parts"),
+        Type::Bit | Type::Qubit | Type::Unit => unreachable!("no parts"),
         Type::Reusable(part) => Type::Reusable(change_entry(random, part, at)),
         Type::Pair(first, second)
         | Type::Function(first, second)

@@ -8,16 +8,32 @@ use program_files::Refusal;
 /// The bytes that are written: a text or a listing.
 pub type Answer = Result<Vec<u8>, Refusal>;
 
+/// The numbers of gates.
+const INIT: u8 = 9;
+const DISCARD: u8 = 10;
+
 /// A text that is the export of no listing.
 pub const NO_EXPORT: Refusal = Refusal {
     number: 27,
     place: 0,
 };
 
-/// The text of a listing that the check accepts.
+/// The text of a listing that the check accepts, if there is a word for each of
+/// its gates.
 pub fn export(listing: &[u8]) -> Answer {
     let sizes = counting::check(listing)?;
-    Ok(print(&Listing::of_bytes(&sizes, listing)))
+    let listing = Listing::of_bytes(&sizes, listing);
+    match first_helper(&listing) {
+        Some(place) => Err(Refusal { number: 28, place }),
+        None => Ok(print(&listing)),
+    }
+}
+
+/// The first entry that is Init or Discard, for which there is no word.
+pub fn first_helper(listing: &Listing) -> Option<usize> {
+    let mut gates = listing.gates.iter();
+    let gate = gates.position(|entry| matches!(entry.kind, INIT | DISCARD))?;
+    Some(listing.inputs.len() + gate)
 }
 
 /// The listing whose text this is.

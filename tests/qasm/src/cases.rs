@@ -15,6 +15,8 @@ const CNOT: u8 = 5;
 const MEASURE: u8 = 6;
 const BX: u8 = 7;
 const BZ: u8 = 8;
+const INIT: u8 = 9;
+const DISCARD: u8 = 10;
 
 /// A listing that is accepted, and its text.
 pub struct Exported {
@@ -206,6 +208,61 @@ pub fn exports() -> Vec<Exported> {
     all
 }
 
+/// A listing that is accepted and has no text, and the entry for which there is no
+/// word.
+pub struct Wordless {
+    pub name: &'static str,
+    pub listing: Listing,
+    pub place: usize,
+}
+
+/// The table of such listings.
+pub fn wordless() -> Vec<Wordless> {
+    let all: [(&str, Listing, usize); 6] = [
+        ("Init alone", listing(&[], &[(INIT, &[])], &[0]), 0),
+        ("Discard alone", listing(&[Bit], &[(DISCARD, &[0])], &[]), 1),
+        (
+            "Init behind inputs and a gate",
+            listing(&[Qubit, Bit], &[(H, &[0]), (INIT, &[])], &[3, 1, 2]),
+            3,
+        ),
+        (
+            "Discard, then Init",
+            listing(
+                &[Bit, Qubit],
+                &[(X, &[1]), (DISCARD, &[0]), (INIT, &[]), (X, &[3])],
+                &[4, 2],
+            ),
+            3,
+        ),
+        (
+            "Init, then Discard",
+            listing(&[Bit], &[(INIT, &[]), (DISCARD, &[0])], &[1]),
+            1,
+        ),
+        (
+            "a Qubit that comes, is measured and goes",
+            listing(
+                &[Qubit],
+                &[
+                    (INIT, &[]),
+                    (CNOT, &[0, 1]),
+                    (MEASURE, &[3]),
+                    (DISCARD, &[4]),
+                ],
+                &[2],
+            ),
+            1,
+        ),
+    ];
+    let case = |(name, listing, place)| Wordless {
+        name,
+        listing,
+        place,
+    };
+    all.into_iter().map(case).collect()
+}
+
 /// The longest text that a listing has: all Qubits but the last are measured,
 /// and under the bit of the last of those are as many gates as there can be.
 pub fn longest() -> Listing {
@@ -258,7 +315,7 @@ fn refused(name: impl Into<String>, text: impl Into<Vec<u8>>) -> Refused {
 
 /// What is written in the text of the measured Qubit, and what in its place is
 /// refused.
-const CHANGES: [(&str, &str); 66] = [
+const CHANGES: [(&str, &str); 71] = [
     ("OPENQASM 2.0;", "OPENQASM 2;"),
     ("OPENQASM 2.0;", "OPENQASM 2.00;"),
     ("OPENQASM 2.0;", "OPENQASM 3.0;"),
@@ -288,6 +345,11 @@ const CHANGES: [(&str, &str); 66] = [
     ("creg c1[1];\n", "creg c1[1];\n\n"),
     ("creg c1[1];\n", "creg c1[1];\nbarrier q0[0];\n"),
     ("creg c1[1];\n", "creg c1[1];\nid q0[0];\n"),
+    ("creg c1[1];\n", "creg c1[1];\nreset q0[0];\n"),
+    ("creg c1[1];\n", "creg c1[1];\ninit q0[0];\n"),
+    ("creg c1[1];\n", "creg c1[1];\ninit q2[0];\n"),
+    (" -> c1[0];\n", " -> c1[0];\ndiscard c1[0];\n"),
+    ("if(c1==1) x q0[0];\n", "if(c1==1) x q0[0];\ndiscard c1;\n"),
     ("creg c1[1];\n", "creg c1[1];\ncx q0[0],q0[0];\n"),
     ("creg c1[1];\n", "creg c1[1];\ncx q0[0], q1[0];\n"),
     ("creg c1[1];\n", "creg c1[1];\ncx q0[0],q2[0];\n"),

@@ -1,4 +1,5 @@
-//! The text of a listing that is accepted, one line after another.
+//! The text of a listing that is accepted and whose gates all have a word, one
+//! line after another.
 
 use listings::Listing;
 use program_files::Wire;

@@ -3,7 +3,7 @@
 //! program.
 
 use comparing::packed::number;
-use listings::generate::{valid, Order, Shape};
+use listings::generate::{passing_gates, valid, Order, Shape};
 use listings::sizes::{MOST_GATES, MOST_INPUTS, MOST_WIRES};
 use listings::{Entry, Listing};
 use program_files::{Random, Wire};
@@ -36,7 +36,7 @@ fn main() {
         of_shape(gates, vec![BX], Order::Any)
     });
     row("any gates on 64 lines", |gates| {
-        of_shape(gates, (0..9).collect(), Order::Any)
+        of_shape(gates, passing_gates(), Order::Any)
     });
 }
 

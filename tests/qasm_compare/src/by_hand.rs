@@ -4,7 +4,9 @@ use crate::compare::Comparison;
 use comparing::cases::{self as programs, LIMITS};
 use comparing::Known;
 use example_programs::examples;
-use qasm::cases::{exports, longest, same_programs, texts, wrong_programs, LONGEST};
+use listings::{Listing, Sizes};
+use qasm::answer::first_helper;
+use qasm::cases::{exports, longest, same_programs, texts, wordless, wrong_programs, LONGEST};
 use qasm::{grammar, parse};
 
 pub fn compare(comparison: &mut Comparison) {
@@ -19,12 +21,21 @@ pub fn compare(comparison: &mut Comparison) {
         let text = String::from_utf8(text).expect("a text");
         assert_eq!(text, case.text, "the text of {}", case.name);
     }
+    for case in wordless() {
+        let known = Known::Refused(28, case.place);
+        comparison.listing(&case.listing.bytes(), &known);
+        assert_eq!(
+            first_helper(&case.listing),
+            Some(case.place),
+            "{}",
+            case.name
+        );
+    }
     for case in listings::cases::all() {
-        let known = match case.answer {
-            Ok(_) => Known::Accepted,
-            Err(refusal) => Known::refused(refusal),
-        };
-        comparison.listing(&case.bytes, &known);
+        match case.answer {
+            Ok(sizes) => comparison.sound(&Listing::of_bytes(&sizes, &case.bytes)),
+            Err(refusal) => comparison.listing(&case.bytes, &Known::refused(refusal)),
+        }
     }
     for case in texts() {
         assert_eq!(parse(&case.text), None, "{}", case.name);
@@ -36,11 +47,17 @@ pub fn compare(comparison: &mut Comparison) {
     for program in programs::all() {
         for limit in LIMITS {
             if let Ok(finished) = program.run(limit) {
-                comparison.listing(finished.listing.bytes, &Known::Accepted);
+                comparison.sound(&parts(finished.listing.bytes));
             }
         }
     }
     for example in examples() {
-        comparison.listing(&example.listing, &Known::Accepted);
+        comparison.sound(&parts(&example.listing));
     }
+}
+
+/// The parts of a listing that is accepted.
+fn parts(bytes: &[u8]) -> Listing {
+    let sizes = Sizes::of_bytes(bytes).expect("sizes");
+    Listing::of_bytes(&sizes, bytes)
 }

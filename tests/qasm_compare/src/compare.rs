@@ -1,6 +1,7 @@
 //! One listing or text at a time to the export or import under test and to the
 //! printer or parser; what has been seen is counted.
 
+use crate::exports::{self, Export};
 use crate::memory::{self, Operation};
 use crate::seen::Seen;
 use comparing::packed::SHORT;
@@ -8,7 +9,7 @@ use comparing::{Counts, Expected, Known, Lent, Planted};
 use listings::{counting, Listing};
 use planted::{Parse, Print, PARSERS, PRINTERS};
 use program_files::Random;
-use qasm::answer::{self, Answer};
+use qasm::answer::{self, first_helper, Answer};
 use qasm::{lengths, traced};
 use qasm_compare::under_test;
 use std::collections::hash_map::DefaultHasher;
@@ -17,7 +18,7 @@ use std::hash::{Hash, Hasher};
 
 /// The least number of distinct listings and texts, and of each answer.
 const LEAST_EXPORTED: usize = 15_000;
-const LEAST_LISTINGS_REFUSED: [(u8, usize); 3] = [(24, 500), (25, 2_000), (26, 2_000)];
+const LEAST_LISTINGS_REFUSED: [(u8, usize); 4] = [(24, 500), (25, 2_000), (26, 2_000), (28, 5_000)];
 const LEAST_IMPORTED: usize = 30_000;
 const LEAST_TEXTS_REFUSED: [(u8, usize); 1] = [(27, 200_000)];
 
@@ -39,7 +40,9 @@ pub struct Comparison {
     export: Lent<2>,
     import: Lent<5>,
     random: Random,
-    /// Faults in the printer and the parser, and in the use of memory.
+    /// Faults in the printer and the parser, in the refusal of Init and Discard, and
+    /// in the use of memory.
+    exports: Planted<Export>,
     printers: [Planted<Print>; 2],
     parsers: [Planted<Parse>; 2],
     export_memory: Planted<memory::Fault>,
@@ -66,9 +69,10 @@ impl Comparison {
             export: Lent::new(1, export, answer::in_words),
             import: Lent::new(2, import, answer::in_words),
             random: Random::new(3),
+            exports: Planted::new(LEAST_FOUND, exports::PLANTED),
             printers: planted(PRINTERS),
             parsers: planted(PARSERS),
-            export_memory: Planted::new(LEAST_FOUND, memory::faults(&export, &[24, 25, 26])),
+            export_memory: Planted::new(LEAST_FOUND, memory::faults(&export, &[24, 25, 26, 28])),
             import_memory: Planted::new(LEAST_FOUND, memory::faults(&import, &[27])),
             seen: Seen::default(),
         }
@@ -106,6 +110,15 @@ impl Comparison {
         qasm::print(listing)
     }
 
+    /// A listing that the check accepts, with Init and Discard or without.
+    pub fn sound(&mut self, listing: &Listing) {
+        let known = match first_helper(listing) {
+            Some(place) => Known::Refused(28, place),
+            None => Known::Accepted,
+        };
+        self.listing(&listing.bytes(), &known);
+    }
+
     /// Compares the export of these bytes, and the import of the text.
     pub fn listing(&mut self, bytes: &[u8], known: &Known) {
         let answer = qasm::export(bytes);
@@ -120,6 +133,9 @@ impl Comparison {
         self.listings.count(bytes, number);
         let lengths = self.some_lengths(lengths::EXPORT);
         self.export(bytes, lengths, &answer);
+        self.exports
+            .look(self.listings.all(), |export| export(bytes) != answer);
+        self.seen.refused(bytes, &answer);
         let Ok(text) = answer else {
             return;
         };
@@ -242,6 +258,7 @@ impl Comparison {
         println!("{:>9} calls", self.calls);
         println!("{:>9} of them refused with 19", self.short);
         self.seen.report();
+        self.exports.report("listing");
         self.printers.iter().for_each(|of| of.report("listing"));
         self.parsers.iter().for_each(|of| of.report("text"));
         self.export_memory.report("call");

@@ -24,7 +24,7 @@ pub fn compare(comparison: &mut Comparison) {
         .map(|case| case.text.into_bytes())
         .collect();
     for _ in 0..SMALL {
-        let mut shape = Shape::any(&mut random, 4, 4);
+        let mut shape = Shape::any(&mut random, 4, 4).without_helpers();
         (shape.inputs, shape.gates) = (random.between(2, 4), 4);
         shape.bits = random.between(0, 1);
         texts.push(print(&valid(&mut random, &shape)));
@@ -40,7 +40,7 @@ pub fn compare(comparison: &mut Comparison) {
     comparison.texts_group("with damage somewhere");
     for (count, inputs, gates) in SOMEWHERE {
         for _ in 0..count {
-            let shape = Shape::any(&mut random, inputs, gates);
+            let shape = Shape::any(&mut random, inputs, gates).without_helpers();
             let text = print(&valid(&mut random, &shape));
             comparison.text(&damaged::any(&mut random, &text), &Known::Nothing);
         }

@@ -16,6 +16,15 @@ const SIZES: [(usize, usize, usize); 4] = [
     (60, 64, 2_048),
 ];
 
+/// The same of those with Init and Discard.
+const HELPERS: [(usize, usize, usize); 5] = [
+    (4_000, 0, 8),
+    (8_000, 4, 8),
+    (3_000, 16, 60),
+    (100, 64, 400),
+    (20, 64, 2_048),
+];
+
 /// The same for each way to break them.
 const BROKEN: [(usize, usize, usize); 3] = [(600, 4, 6), (200, 16, 40), (10, 64, 2_048)];
 
@@ -24,8 +33,18 @@ pub fn compare(comparison: &mut Comparison) {
     comparison.group("generated");
     for (count, inputs, gates) in SIZES {
         for _ in 0..count {
-            let shape = Shape::any(&mut random, inputs, gates);
+            let shape = Shape::any(&mut random, inputs, gates).without_helpers();
             comparison.accepted(&valid(&mut random, &shape));
+        }
+    }
+    comparison.group("generated, with Init and Discard");
+    for (count, inputs, gates) in HELPERS {
+        for _ in 0..count {
+            let shape = match random.below(2) {
+                0 => Shape::helpers(&mut random, inputs, gates),
+                _ => Shape::any(&mut random, inputs, gates),
+            };
+            comparison.sound(&valid(&mut random, &shape));
         }
     }
     comparison.group("generated, of one gate");
@@ -35,13 +54,13 @@ pub fn compare(comparison: &mut Comparison) {
             shape.bits = lines / 2;
             shape.numbers = vec![number];
             shape.taken = random.pick(&ORDERS);
-            comparison.accepted(&valid(&mut random, &shape));
+            comparison.sound(&valid(&mut random, &shape));
         }
     }
     comparison.group("generated, of so many inputs");
     for inputs in 0..=MOST_INPUTS {
         for gates in [0, 1, 2, 40] {
-            let mut shape = Shape::any(&mut random, inputs, gates);
+            let mut shape = Shape::any(&mut random, inputs, gates).without_helpers();
             (shape.inputs, shape.gates) = (inputs, gates);
             shape.bits = random.between(0, inputs);
             comparison.accepted(&valid(&mut random, &shape));
@@ -49,7 +68,7 @@ pub fn compare(comparison: &mut Comparison) {
     }
     comparison.group("generated with the most inputs and gates");
     for _ in 0..40 {
-        let shape = Shape::most(&mut random);
+        let shape = Shape::most(&mut random).without_helpers();
         let listing = valid(&mut random, &shape);
         assert_eq!(listing.gates.len(), MOST_GATES, "so many gates");
         comparison.accepted(&listing);
@@ -57,7 +76,7 @@ pub fn compare(comparison: &mut Comparison) {
     comparison.group("that no run would write");
     for of in FOREIGN {
         for _ in 0..300 {
-            comparison.accepted(&foreign(&mut random, of));
+            comparison.sound(&foreign(&mut random, of));
         }
     }
     broken_ones(comparison, &mut random);

@@ -4,7 +4,7 @@ use crate::compare::Comparison;
 use listings::cases::all;
 use listings::generate::{valid, Shape};
 use program_files::Random;
-use qasm::cases::{exports, texts};
+use qasm::cases::{exports, texts, wordless};
 use qasm::lengths;
 
 /// So many texts and listings of the tables are tried with many lengths.
@@ -13,18 +13,20 @@ const STEP: usize = 6;
 pub fn compare(comparison: &mut Comparison) {
     comparison.group("with buffers of many lengths");
     let mut random = Random::new(6);
-    let shape = Shape::new(3, 12);
+    let shape = Shape::new(3, 12).without_helpers();
     let mut listing = valid(&mut random, &shape);
     let text = qasm::print(&listing);
     let right = listing.bytes();
     listing.outputs.pop();
     let wrong = listing.bytes();
+    let helped = wordless()[0].listing.bytes();
     for buffer in 0..lengths::EXPORT.len() {
         for length in some_lengths(&mut random, lengths::EXPORT[buffer]) {
             let mut lengths = lengths::EXPORT;
             lengths[buffer] = length;
             comparison.export_lengths(&right, lengths);
             comparison.export_lengths(&wrong, lengths);
+            comparison.export_lengths(&helped, lengths);
         }
     }
     for buffer in 0..lengths::IMPORT.len() {

@@ -54,7 +54,7 @@ pub fn compare(comparison: &mut Comparison) {
 fn long_ones(comparison: &mut Comparison, random: &mut Random) {
     comparison.group("that are long");
     let longest = print(&longest());
-    let shape = Shape::most(random);
+    let shape = Shape::most(random).without_helpers();
     let other = print(&valid(random, &shape));
     let refused = Known::Refused(27, 0);
     for length in [

@@ -5,6 +5,7 @@
 mod by_hand;
 mod compare;
 mod damage;
+mod exports;
 mod families;
 mod lending;
 mod limits;

@@ -47,7 +47,7 @@ pub fn compare() {
     let mut planted = Planted::new(LEAST_FOUND, meant);
     let mut gates = 0;
     for number in 0..LISTINGS {
-        let shape = Shape::any(&mut random, INPUTS, GATES);
+        let shape = Shape::any(&mut random, INPUTS, GATES).without_helpers();
         let listing = valid(&mut random, &shape);
         gates += listing.gates.len();
         if let Err(words) = simulate::compare(&print(&listing), &listing) {

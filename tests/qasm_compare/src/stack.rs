@@ -2,7 +2,7 @@
 //! longest listings and texts.
 
 use comparing::stack;
-use listings::cases::{longest_accepted, most_wires};
+use listings::cases::{most_gates, most_wires};
 use qasm::cases::longest;
 use qasm::{answer, lengths, print};
 use qasm_compare::under_test;
@@ -30,7 +30,7 @@ pub fn measure() {
     let mut files = Vec::new();
     for (name, listing) in [
         ("the longest text", longest()),
-        ("the longest accepted listing", longest_accepted()),
+        ("the listing of the most gates", most_gates()),
         ("the listing of the most wires", most_wires()),
     ] {
         let (bytes, text) = (listing.bytes(), print(&listing));

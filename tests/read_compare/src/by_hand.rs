@@ -8,18 +8,24 @@ use program_files::kinds::*;
 use program_files::read;
 
 /// Refused files: the number and the place.
-const REFUSED: [(u8, usize, Written); 22] = [
-    (4, 0, (&[2], &[6], &[(0, 1)])),
-    (4, 1, (&[0], &[6], &[(0, 1)])),
+const REFUSED: [(u8, usize, Written); 30] = [
+    (4, 0, (&[2], &[7], &[(0, 1)])),
+    (4, 0, (&[UNIT], &[], &[(UNIT_VALUE, 0)])),
+    (4, 1, (&[0], &[7], &[(0, 1)])),
     (4, 2, (&[0], &[5], &[(15, 1)])),
-    (4, 2, (&[0], &[5], &[(27, 0)])),
+    (4, 2, (&[0], &[5], &[(28, 0)])),
+    (4, 0, (&[], &[], &[(UNIT, 0)])),
+    (4, 0, (&[], &[UNIT_VALUE], &[(GATE, 0)])),
     (5, 2, (&[0], &[5], &[(LABEL, 1)])),
-    (5, 0, (&[], &[], &[(GATE, 9)])),
-    (5, 0, (&[], &[], &[(ABSTRACTION, 0), (GATE, 9)])),
+    (5, 0, (&[], &[], &[(GATE, 11)])),
+    (5, 0, (&[], &[], &[(ABSTRACTION, 0), (GATE, 11)])),
+    (5, 0, (&[], &[], &[(UNIT_VALUE, 1)])),
+    (5, 1, (&[], &[UNIT], &[(UNIT_VALUE, 256)])),
     (5, 1, (&[], &[REUSABLE], &[(BOX, 1)])),
     (5, 0, (&[], &[], &[(LET, 1)])),
     (6, 1, (&[1], &[PAIR_TYPE], &[(VARIABLE, 9)])),
     (6, 0, (&[], &[PAIR_TYPE, BIT, REUSABLE], &[(GATE, 0)])),
+    (6, 0, (&[], &[PAIR_TYPE, UNIT], &[(GATE, 0)])),
     (6, 2, (&[], &[BIT, QUBIT, FUNCTION, BIT], &[(GATE, 0)])),
     (
         6,
@@ -45,7 +51,13 @@ const REFUSED: [(u8, usize, Written); 22] = [
             &[(PAIR, 0), (BOX, 1), (BOX, 0), (GATE, 0)],
         ),
     ),
+    (
+        7,
+        0,
+        (&[], &[CIRCUIT, UNIT, REUSABLE, UNIT], &[(UNIT_VALUE, 0)]),
+    ),
     (8, 3, (&[0], &[0], &[(LIFT, 0)])),
+    (8, 1, (&[], &[], &[(UNIT_VALUE, 0), (UNIT_VALUE, 0)])),
     (8, 3, (&[0], &[0], &[(VARIABLE, 0), (LIFT, 0), (LIFT, 0)])),
     (9, 2, (&[0], &[0], &[(VARIABLE, 0)])),
     (
@@ -69,6 +81,24 @@ const REFUSED: [(u8, usize, Written); 22] = [
     ),
 ];
 
+/// Accepted files.
+const ACCEPTED: [Written; 6] = [
+    (&[], &[], &[(UNIT_VALUE, 0)]),
+    (&[], &[], &[(GATE, 9)]),
+    (&[], &[], &[(GATE, 10)]),
+    (&[], &[UNIT], &[(BOX, 0), (UNIT_VALUE, 0)]),
+    (
+        &[],
+        &[CIRCUIT, UNIT, PAIR_TYPE, UNIT, UNIT],
+        &[(ABSTRACTION, 0), (VARIABLE, 0)],
+    ),
+    (
+        &[],
+        &[PAIR_TYPE, UNIT, PAIR_TYPE, QUBIT, UNIT],
+        &[(PAIR, 0), (BOX, 0), (BOX, 2), (GATE, 0), (UNIT_VALUE, 0)],
+    ),
+];
+
 pub fn compare(comparison: &mut Comparison) {
     comparison.group("written by hand");
     // Cases c5 to c9 are refused only later than by read.
@@ -78,6 +108,9 @@ pub fn compare(comparison: &mut Comparison) {
         assert_eq!(sizes, case.read, "the sizes of {}", case.name);
     }
     comparison.known(&[1, 0, 0, 0, 1, 0], &Known::Refused(3, 0));
+    for written in ACCEPTED {
+        comparison.known(&file(written), &Known::Accepted);
+    }
     for (number, place, written) in REFUSED {
         comparison.known(&file(written), &Known::Refused(number, place));
     }

@@ -3,11 +3,20 @@
 use crate::library;
 use crate::planted::{Reader, PLANTED};
 use comparing::{Counts, Expected, Known, Lent, Planted};
-use program_files::read;
+use program_files::read::sections;
+use program_files::{kinds, read, Accepted, Entry};
 
 /// The least number of files in all, and for each answer.
 const LEAST_FILES: usize = 200_000;
 const LEAST_EACH: usize = 5_000;
+
+/// What accepted files have of unit, and in how many of them at least.
+const UNITS: [(&str, usize); 4] = [
+    ("unit in the type section", 20_000),
+    ("a Circ with unit inside", 3_000),
+    ("a box at a type with unit inside", 1_000),
+    ("unit's value", 20_000),
+];
 
 pub struct Comparison {
     counts: Counts,
@@ -17,6 +26,8 @@ pub struct Comparison {
     deepest_type: usize,
     least_sizes: [usize; 3],
     most_sizes: [usize; 3],
+    /// In the order of `UNITS`.
+    units: [usize; UNITS.len()],
     planted: Planted<Reader>,
 }
 
@@ -30,6 +41,7 @@ impl Comparison {
             deepest_type: 0,
             least_sizes: [usize::MAX; 3],
             most_sizes: [0; 3],
+            units: [0; UNITS.len()],
             planted: Planted::new(1, PLANTED),
         }
     }
@@ -85,6 +97,24 @@ impl Comparison {
             for of in &accepted.types {
                 self.deepest_type = self.deepest_type.max(of.depth());
             }
+            self.count_units(file, &accepted);
+        }
+    }
+
+    fn count_units(&mut self, file: &[u8], accepted: &Accepted) {
+        let entries = sections(file).expect("an accepted file");
+        let has = |at: usize| accepted.types[at].preorder().contains(&kinds::UNIT);
+        let mut types = entries.types.iter().enumerate();
+        let mut terms = entries.terms.iter();
+        let is_box = |entry: &Entry| entry.kind == kinds::BOX && has(entry.argument.into());
+        let seen = [
+            entries.types.iter().any(|entry| entry.kind == kinds::UNIT),
+            types.any(|(at, entry)| entry.kind == kinds::CIRCUIT && has(at)),
+            entries.terms.iter().any(is_box),
+            terms.any(|entry| entry.kind == kinds::UNIT_VALUE),
+        ];
+        for (count, seen) in self.units.iter_mut().zip(seen) {
+            *count += usize::from(seen);
         }
     }
 
@@ -98,6 +128,9 @@ impl Comparison {
         }
         println!("deepest term accepted: {}", self.deepest_term);
         println!("deepest type accepted: {}", self.deepest_type);
+        for ((name, _), files) in UNITS.iter().zip(self.units) {
+            println!("{files:>9} accepted with {name}");
+        }
         self.planted.report("file");
         assert!(self.counts.distinct() >= LEAST_FILES, "too few files");
         assert!(
@@ -109,5 +142,8 @@ impl Comparison {
         assert_eq!(self.most_sizes, [64, 512, 2_048], "most sizes not reached");
         assert_eq!(self.deepest_term, 2_048, "deepest term not reached");
         assert_eq!(self.deepest_type, 512, "deepest type not reached");
+        for ((name, least), files) in UNITS.iter().zip(self.units) {
+            assert!(files >= *least, "too few with {name}");
+        }
     }
 }

@@ -79,9 +79,9 @@ fn bytes_at_level(length: usize, level: usize, random: &mut Random) -> Vec<u8> {
             random.between(0, 1)
         } else if number < labels + types {
             // Leaves more often, so that not every type runs out.
-            random.pick(&[0, 0, 1, 1, 2, 3, 4, 5])
+            random.pick(&[0, 0, 1, 1, 2, 3, 4, 5, 6])
         } else {
-            random.between(16, 26)
+            random.between(16, 27)
         } as u8;
         if level >= 5 || !random.one_in(40) {
             bytes[6 + number] = kind;
@@ -112,7 +112,7 @@ fn every_kind_and_argument(comparison: &mut Comparison) {
             Entry::new(kinds::LET, 0),
             Entry::new(kinds::PAIR, 0),
             Entry::new(kinds::LABEL, 2),
-            Entry::new(kinds::GATE, 8),
+            Entry::new(kinds::GATE, 10),
             Entry::new(kinds::LIFT, 0),
             Entry::new(kinds::VARIABLE, 2),
         ],
@@ -134,7 +134,7 @@ fn every_kind_and_argument(comparison: &mut Comparison) {
             comparison.file(&with_argument(&base, number, argument).bytes());
         }
     }
-    for kind in kinds::VARIABLE..=kinds::GATE {
+    for kind in kinds::VARIABLE..=kinds::UNIT_VALUE {
         let mut whole = base.clone();
         let parts = kinds::term_parts(kind).expect("a kind of the term section");
         whole.terms.truncate(1);
@@ -178,7 +178,8 @@ fn every_list(alphabet: &[Entry], length: usize, mut visit: impl FnMut(&[Entry])
 /// position.
 fn all_small_types(comparison: &mut Comparison) {
     comparison.group("all type sections of 1 to 5 entries");
-    let alphabet: Vec<Entry> = (0..6).map(|kind| Entry::new(kind, 0)).collect();
+    let kinds = kinds::BIT..=kinds::UNIT;
+    let alphabet: Vec<Entry> = kinds.map(|kind| Entry::new(kind, 0)).collect();
     let gate = Entry::new(kinds::GATE, 0);
     for length in 1..=5 {
         every_list(&alphabet, length, |types| {
@@ -203,7 +204,7 @@ fn all_small_terms(comparison: &mut Comparison) {
     let variables: Vec<Entry> = (0..3)
         .map(|argument| Entry::new(kinds::VARIABLE, argument))
         .collect();
-    let all: Vec<Entry> = (kinds::LABEL..=kinds::GATE)
+    let all: Vec<Entry> = (kinds::LABEL..=kinds::UNIT_VALUE)
         .map(|kind| Entry::new(kind, 0))
         .collect();
     let fewer = [
@@ -343,7 +344,7 @@ fn one_kind_alone(comparison: &mut Comparison) {
     for count in [
         1, 2, 3, 4, 5, 100, 255, 256, 257, 511, 512, 1_000, 2_047, 2_048,
     ] {
-        for kind in kinds::VARIABLE..=kinds::GATE {
+        for kind in kinds::VARIABLE..=kinds::UNIT_VALUE {
             let mut entries = Entries {
                 labels: vec![bit],
                 types: vec![bit],
@@ -353,7 +354,7 @@ fn one_kind_alone(comparison: &mut Comparison) {
             entries.terms[count - 1] = gate;
             comparison.file(&entries.bytes());
         }
-        for kind in kinds::BIT..=kinds::CIRCUIT {
+        for kind in kinds::BIT..=kinds::UNIT {
             let mut entries = Entries {
                 labels: vec![bit],
                 types: vec![Entry::new(kind, 0); count],
@@ -390,9 +391,9 @@ fn change_each_byte(comparison: &mut Comparison, random: &mut Random, shape: &Sh
             let new = match way % 6 {
                 0 => old.wrapping_add(1),
                 1 => old.wrapping_sub(1),
-                2 => random.between(0, 27) as u8,
+                2 => random.between(0, 28) as u8,
                 3 => random.byte(),
-                4 => random.pick(&[0, 2, 5, 16, 18, 24, 26, 255]),
+                4 => random.pick(&[0, 2, 5, 6, 7, 16, 18, 24, 26, 27, 28, 255]),
                 _ => old ^ (1 << random.below(8)),
             };
             if new != old {

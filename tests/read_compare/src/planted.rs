@@ -1,7 +1,7 @@
 //! Readers with one fault each. The comparison must tell every one of them
 //! from the exported reader.
 
-use program_files::entries::Entries;
+use program_files::entries::{Entries, Entry};
 use program_files::kinds;
 use program_files::read::{
     read, sections, term_of, test_arguments, test_binders, test_kinds, test_one_term,
@@ -11,7 +11,7 @@ use program_files::{Refusal, Sizes, Term};
 
 pub type Reader = fn(&[u8]) -> Result<Sizes, Refusal>;
 
-pub const PLANTED: [(&str, Reader); 14] = [
+pub const PLANTED: [(&str, Reader); 21] = [
     ("test 5 before test 4", arguments_first),
     ("tests 4 and 5 in one pass", one_pass),
     ("test 7 before test 6", wire_types_first),
@@ -25,7 +25,54 @@ pub const PLANTED: [(&str, Reader); 14] = [
     ),
     ("a longer file read", longer_read),
     ("N 2,048 outside its range", most_terms_refused),
-    ("gate 9 allowed", gate_nine),
+    ("gate 11 allowed", |file| {
+        changed(file, |entries| {
+            for entry in of_kind(&mut entries.terms, kinds::GATE) {
+                entry.argument -= u16::from(entry.argument == 11);
+            }
+        })
+    }),
+    ("gate 10 refused", |file| {
+        changed(file, |entries| {
+            for entry in of_kind(&mut entries.terms, kinds::GATE) {
+                entry.argument += u16::from(entry.argument == 10);
+            }
+        })
+    }),
+    ("unit's value with argument 1 allowed", |file| {
+        changed(file, |entries| {
+            for entry in of_kind(&mut entries.terms, kinds::UNIT_VALUE) {
+                entry.argument -= u16::from(entry.argument == 1);
+            }
+        })
+    }),
+    ("term kind 28 taken for unit's value", |file| {
+        changed(file, |entries| {
+            for entry in of_kind(&mut entries.terms, kinds::UNIT_VALUE + 1) {
+                entry.kind = kinds::UNIT_VALUE;
+            }
+        })
+    }),
+    ("type kind 7 taken for unit", |file| {
+        changed(file, |entries| {
+            for entry in of_kind(&mut entries.types, kinds::UNIT + 1) {
+                entry.kind = kinds::UNIT;
+            }
+        })
+    }),
+    ("kind 6 among the labels", |file| {
+        changed(file, |entries| {
+            for entry in of_kind(&mut entries.labels, kinds::UNIT) {
+                entry.kind = kinds::BIT;
+            }
+        })
+    }),
+    ("unit is no wire type in a Circ", |file| {
+        without_units(file, false)
+    }),
+    ("unit is no wire type of a box", |file| {
+        without_units(file, true)
+    }),
     ("let binds one", let_binds_one),
     ("let binds in its first part", let_binds_in_first),
     ("the last variable with no binder", last_unbound),
@@ -73,7 +120,7 @@ fn wire_types_first(file: &[u8]) -> Result<Sizes, Refusal> {
     let entries = sections(file)?;
     let wires = |from: usize, to: usize| {
         let mut range = entries.types[from..to].iter();
-        range.all(|entry| entry.kind <= kinds::PAIR_TYPE)
+        range.all(|entry| kinds::is_in_wire_types(entry.kind))
     };
     for (at, entry) in entries.types.iter().enumerate() {
         if entry.kind == kinds::CIRCUIT
@@ -173,14 +220,53 @@ fn most_terms_refused(file: &[u8]) -> Result<Sizes, Refusal> {
     }
 }
 
-fn gate_nine(file: &[u8]) -> Result<Sizes, Refusal> {
+/// The answer for a file whose entries are changed.
+fn changed(file: &[u8], change: fn(&mut Entries)) -> Result<Sizes, Refusal> {
     let mut entries = sections(file)?;
-    for entry in &mut entries.terms {
-        if entry.kind == kinds::GATE && entry.argument == 9 {
-            entry.argument = 8;
-        }
-    }
+    change(&mut entries);
     plain(&entries.bytes())
+}
+
+fn of_kind(entries: &mut [Entry], kind: u8) -> impl Iterator<Item = &mut Entry> {
+    entries.iter_mut().filter(move |entry| entry.kind == kind)
+}
+
+/// Test 7 by which a type with unit inside is no wire type of a box, or none as a
+/// part of a Circ.
+fn without_units(file: &[u8], of_boxes: bool) -> Result<Sizes, Refusal> {
+    let answer = plain(file);
+    if matches!(answer, Err(Refusal { number: ..7, .. })) {
+        return answer;
+    }
+    let entries = sections(file)?;
+    let types = types_at(&entries);
+    let has_unit = |at: usize| types[at].preorder().contains(&kinds::UNIT);
+    let sizes = entries.sizes();
+    let circuits = (0..sizes.types).filter(|&at| entries.types[at].kind == kinds::CIRCUIT);
+    let circuits = circuits
+        .filter(|&at| has_unit(at))
+        .map(|at| sizes.labels + at);
+    let boxes = (0..sizes.terms).filter(|&at| {
+        let Entry { kind, argument } = entries.terms[at];
+        kind == kinds::BOX && has_unit(usize::from(argument))
+    });
+    let boxes = boxes.map(|at| sizes.first_term() + at);
+    let wrong = if of_boxes {
+        boxes.min()
+    } else {
+        circuits.min()
+    };
+    match (wrong, answer) {
+        (
+            Some(place),
+            Err(Refusal {
+                number: 7,
+                place: other,
+            }),
+        ) => refuse(7, place.min(other)),
+        (Some(place), _) => refuse(7, place),
+        (None, answer) => answer,
+    }
 }
 
 fn let_binds_one(file: &[u8]) -> Result<Sizes, Refusal> {

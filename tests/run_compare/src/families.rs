@@ -11,21 +11,27 @@ use program_files::faults;
 use program_files::{encode, Positions, Program, Random, Term, Type, Wire, GATES};
 use programs::blocks::{self, blocks};
 use programs::broken::{Way, WAYS};
-use programs::edit::map_leaves;
+use programs::edit::{map_leaves, shifted};
 use programs::extremes;
 use programs::rules::MOST_ENTRIES;
 use programs::terms::{
-    abstraction, application, apply, boxed, gate, label, let_in, lift, pair, variable,
+    abstraction, application, apply, boxed, gate, label, let_in, lift, pair, unit_value, variable,
 };
 use programs::typed::{padded, Plan, Typed, RULES};
-use programs::types::{self, reusable, shuffle};
+use programs::types::{self, any_wires, reusable, shuffle, unit};
 use std::rc::Rc;
+
+/// The numbers of gates.
+const MEAS: usize = 6;
+const INIT: usize = 9;
+const DISCARD: usize = 10;
 
 /// Programs that any of the typing rules may have made, and broken files.
 pub fn of_all_rules(comparison: &mut Comparison) {
     any_rules(comparison);
     one_rule(comparison);
     nested_boxes(comparison);
+    helpers(comparison);
     copies(comparison);
     no_wire_type(comparison);
     not_read(comparison);
@@ -34,6 +40,10 @@ pub fn of_all_rules(comparison: &mut Comparison) {
 /// Programs that are built to have one form.
 pub fn of_one_form(comparison: &mut Comparison) {
     circuits_in_blocks(comparison);
+    come_and_go(comparison);
+    come_at_once(comparison);
+    init_boxes(comparison);
+    small_units(comparison);
     bound_gates(comparison);
     many_boxes(comparison);
     wide_boxes(comparison);
@@ -71,6 +81,22 @@ fn nested_boxes(comparison: &mut Comparison) {
     let mut random = Random::new(3);
     planned(comparison, &mut random, 4_000, |random| {
         Plan::of_wires(random, 5, 150).with_nested_boxes()
+    });
+}
+
+fn helpers(comparison: &mut Comparison) {
+    comparison.group("of a wire type, with wires that come and go");
+    let mut random = Random::new(18);
+    planned(comparison, &mut random, 3_000, |random| {
+        Plan::of_wires(random, 4, 60).with_helpers()
+    });
+    planned(comparison, &mut random, 1_500, |random| {
+        let plan = Plan::of_wires(random, 4, 100).with_copies();
+        plan.with_helpers()
+    });
+    planned(comparison, &mut random, 1_500, |random| {
+        let plan = Plan::of_wires(random, 3, 120).with_nested_boxes();
+        plan.with_helpers()
     });
 }
 
@@ -125,9 +151,173 @@ fn in_blocks(comparison: &mut Comparison, random: &mut Random, actions: usize, d
         actions: random.between(1, actions),
         boxes: random.between(1, 8),
         deep,
+        helpers: random.one_in(3),
     };
     let typed = blocks(random, &plan);
     well_typed(comparison, random, &typed);
+}
+
+/// Boxes in which wires come and go, applied several times, and those without a
+/// wire; more than half of the programs have no input.
+fn come_and_go(comparison: &mut Comparison) {
+    comparison.group("circuits built block by block, with wires that come and go");
+    let mut random = Random::new(19);
+    for round in 0..5_000 {
+        let plan = blocks::Plan {
+            labels: match round % 2 {
+                0 => 0,
+                _ => random.between(0, 4),
+            },
+            actions: random.between(1, 30),
+            boxes: random.between(1, 6),
+            deep: random.one_in(3),
+            helpers: true,
+        };
+        let typed = blocks(&mut random, &plan);
+        well_typed(comparison, &mut random, &typed);
+    }
+}
+
+/// Many Qubits come from one box and go in another, several times.
+fn come_at_once(comparison: &mut Comparison) {
+    comparison.group("many Qubits that come at once and go");
+    let mut random = Random::new(21);
+    for count in 1..=60 {
+        let come = apply(gate(INIT), variable(0));
+        let come = in_a_row(vec![come; count], pair);
+        let coming = boxed(unit(), lift(abstraction(unit(), come)));
+        let of = qubits(count);
+        let going = boxed(of.clone(), lift(abstraction(of.clone(), all_gone(count))));
+        // One after the other: the second is variable 0, the first variable 1.
+        let times = random.between(1, 3);
+        let body = (0..times).fold(unit_value(), |unit, _| {
+            apply(variable(0), apply(variable(1), unit))
+        });
+        let body = abstraction(types::circuit(of.clone(), unit()), body);
+        let body = application(body, going);
+        let bound = abstraction(types::circuit(unit(), of), body);
+        let typed = Typed {
+            program: Program::new(Vec::new(), application(bound, coming)),
+            of: unit(),
+        };
+        well_typed(comparison, &mut random, &typed).expect("a file");
+    }
+}
+
+/// A body in which so many Qubits, pairs nested to the right in variable 0, are
+/// measured and go.
+fn all_gone(count: usize) -> Rc<Term> {
+    let gone = |wire: usize| apply(gate(DISCARD), apply(gate(MEAS), variable(wire)));
+    match count {
+        1 => gone(0),
+        _ => {
+            // What is variable 0 behind the let is variable 1 under the abstraction.
+            let rest = abstraction(unit(), shifted(&all_gone(count - 1), 1));
+            let_in(variable(0), application(rest, gone(1)))
+        }
+    }
+}
+
+/// A box at unit whose result are new Qubits and units, applied several times.
+fn init_boxes(comparison: &mut Comparison) {
+    comparison.group("boxes at unit with Init, applied several times");
+    let mut random = Random::new(22);
+    for _ in 0..400 {
+        let mut leaves = Vec::new();
+        for _ in 0..random.between(1, 4) {
+            leaves.push(match random.below(4) {
+                0 => (unit_value(), unit()),
+                1 => (variable(0), unit()),
+                _ => (apply(gate(INIT), variable(0)), qubits(1)),
+            });
+        }
+        let (terms, types): (Vec<Rc<Term>>, Vec<Rc<Type>>) = leaves.into_iter().unzip();
+        let (body, of) = (in_a_row(terms, pair), in_a_row(types, types::pair));
+        let circuit = boxed(unit(), lift(abstraction(unit(), body)));
+        let times = random.between(2, 6);
+        let applied = in_a_row(vec![apply(variable(0), unit_value()); times], pair);
+        let bound = abstraction(types::circuit(unit(), of.clone()), applied);
+        let typed = Typed {
+            program: Program::new(Vec::new(), application(bound, circuit)),
+            of: in_a_row(vec![of; times], types::pair),
+        };
+        well_typed(comparison, &mut random, &typed).expect("a file");
+    }
+}
+
+/// Boxes between small wire types with units: the wires of one are taken apart, put
+/// together as the other and led back.
+fn small_units(comparison: &mut Comparison) {
+    comparison.group("boxes from units and wires to units and wires");
+    let mut random = Random::new(20);
+    for leaves in 1..=4 {
+        for _ in 0..150 {
+            let wires = random.between(0, leaves);
+            let labels = any_wires(&mut random, wires);
+            let mut some_type =
+                || types::wire_type_with_units(&mut random, &labels, leaves - wires);
+            let (from, to) = (some_type(), some_type());
+            let typed = through_a_box(&labels, &from, &to);
+            well_typed(comparison, &mut random, &typed).expect("a file");
+        }
+    }
+}
+
+/// A box from one wire type to another with the same wires, which are taken apart
+/// and put together, applied to the labels, and a second box that leads back.
+fn through_a_box(labels: &[Wire], from: &Rc<Type>, to: &Rc<Type>) -> Typed {
+    let there = boxed(from.clone(), lift(changed(from, to)));
+    let back = boxed(to.clone(), lift(changed(to, from)));
+    let argument = tuple(from, &mut (0..labels.len()).map(label));
+    let term = apply(back, apply(there, argument));
+    Typed {
+        program: Program::new(labels.to_vec(), term),
+        of: from.clone(),
+    }
+}
+
+/// A tuple of this wire type from these wires, left to right.
+fn tuple(of: &Type, wires: &mut impl Iterator<Item = Rc<Term>>) -> Rc<Term> {
+    match of {
+        Type::Pair(first, second) => {
+            let first = tuple(first, wires);
+            pair(first, tuple(second, wires))
+        }
+        Type::Unit => unit_value(),
+        _ => wires.next().expect("a wire for each"),
+    }
+}
+
+/// The abstraction that takes a tuple of one wire type apart and gives its wires as
+/// a tuple of another.
+fn changed(from: &Rc<Type>, to: &Rc<Type>) -> Rc<Term> {
+    // What is still to be taken apart, and the wires, each by its binders outside.
+    fn body(
+        mut left: Vec<(usize, Rc<Type>)>,
+        mut wires: Vec<usize>,
+        binders: usize,
+        to: &Type,
+    ) -> Rc<Term> {
+        let Some((number, of)) = left.pop() else {
+            let mut wires = wires.into_iter().map(|wire| variable(binders - 1 - wire));
+            return tuple(to, &mut wires);
+        };
+        match &*of {
+            Type::Pair(first, second) => {
+                left.push((binders + 1, second.clone()));
+                left.push((binders, first.clone()));
+                let inside = body(left, wires, binders + 2, to);
+                let_in(variable(binders - 1 - number), inside)
+            }
+            Type::Unit => body(left, wires, binders, to),
+            _ => {
+                wires.push(number);
+                body(left, wires, binders, to)
+            }
+        }
+    }
+    let inside = body(vec![(0, from.clone())], Vec::new(), 1, to);
+    abstraction(from.clone(), inside)
 }
 
 /// A gate bound to a variable that stands wherever the gate stood.
@@ -159,6 +349,7 @@ fn bound_gates(comparison: &mut Comparison) {
             actions: random.between(1, 40),
             boxes: 8,
             deep: random.one_in(2),
+            helpers: random.one_in(3),
         };
         let mut typed = blocks(&mut random, &plan);
         for number in 0..GATES.len() {
@@ -244,9 +435,12 @@ fn wide_boxes(comparison: &mut Comparison) {
             actions: round % 20,
             boxes: 4,
             deep: false,
+            helpers: round % 2 == 0 && wires <= 100,
         };
-        let typed = blocks::wide(&mut random, wires, &plan);
-        well_typed(comparison, &mut random, &typed);
+        let units = random.pick(&[3, 20, usize::MAX]);
+        if let Some(typed) = blocks::wide(&mut random, wires, units, &plan) {
+            well_typed(comparison, &mut random, &typed);
+        }
     }
 }
 
@@ -261,6 +455,7 @@ fn last_types(comparison: &mut Comparison) {
             actions: random.between(4, 40),
             boxes: 8,
             deep: false,
+            helpers: random.one_in(2),
         };
         let typed = blocks(&mut random, &plan);
         let mut program = typed.program;
@@ -291,6 +486,7 @@ fn large(comparison: &mut Comparison) {
             actions: random.between(40, 160),
             boxes: random.between(1, 8),
             deep: random.one_in(2),
+            helpers: random.one_in(3),
         };
         let typed = blocks(&mut random, &plan);
         well_typed(comparison, &mut random, &typed);
@@ -322,8 +518,12 @@ fn extreme(comparison: &mut Comparison) {
         well_typed(comparison, &mut random, &typed).expect("a file");
     }
     for count in 1..=60 {
-        let typed = extremes::boxes(1 + 5 * count);
-        well_typed(comparison, &mut random, &typed).expect("a file");
+        for typed in [
+            extremes::boxes(1 + 5 * count),
+            extremes::boxes_at_unit(1 + 5 * count),
+        ] {
+            well_typed(comparison, &mut random, &typed).expect("a file");
+        }
     }
 }
 
@@ -339,7 +539,7 @@ fn long(comparison: &mut Comparison) {
 fn no_wire_type(comparison: &mut Comparison) {
     comparison.group("well typed, mostly of no wire type");
     let mut random = Random::new(9);
-    planned(comparison, &mut random, 8_000, |random| {
+    planned(comparison, &mut random, 10_000, |random| {
         Plan::any(random, 5, 30)
     });
     planned(comparison, &mut random, 100, |random| {
@@ -365,6 +565,7 @@ fn bases(random: &mut Random, count: usize) -> Vec<Typed> {
                     actions: random.between(1, 12),
                     boxes: 4,
                     deep: false,
+                    helpers: random.one_in(2),
                 };
                 blocks(random, &plan)
             }
@@ -432,7 +633,7 @@ fn not_read(comparison: &mut Comparison) {
                 0 => changed.truncate(at),
                 1 => changed[at] = changed[at].wrapping_add(1),
                 2 => changed[at] ^= 1 << random.below(8),
-                _ => changed[at] = random.between(0, 27) as u8,
+                _ => changed[at] = random.between(0, 28) as u8,
             }
             comparison.program(&changed, &Known::Nothing);
         }

@@ -50,6 +50,7 @@ fn files(random: &mut Random) -> Vec<(Vec<u8>, u32)> {
             actions: 4 + 4 * round,
             boxes: 4,
             deep: round % 2 == 0,
+            helpers: round % 2 == 1,
         };
         let file = blocks(random, &plan).program.bytes();
         files.push((file.clone(), 1_000_000));

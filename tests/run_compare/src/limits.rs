@@ -10,9 +10,10 @@ use program_files::entries::MOST_TERMS;
 use program_files::{Program, Term, Type, Wire};
 use programs::extremes;
 use programs::terms::{
-    abstraction, application, apply, boxed, force, gate, label, let_in, lift, pair, variable,
+    abstraction, application, apply, boxed, force, gate, label, let_in, lift, pair, unit_value,
+    variable,
 };
-use programs::types::{circuit, function, qubit, reusable};
+use programs::types::{self, circuit, function, qubit, reusable, unit};
 use std::collections::HashMap;
 use std::rc::Rc;
 
@@ -125,6 +126,8 @@ fn padded(wire: Rc<Term>, more: usize) -> Rc<Term> {
 enum Payload {
     Lifts,
     Function,
+    /// A tuple of units, at most 127 of them.
+    Units,
 }
 
 impl Payload {
@@ -137,6 +140,14 @@ impl Payload {
             Payload::Function => {
                 let body = padded(variable(0), nodes.saturating_sub(2));
                 (abstraction(qubit(), body), function(qubit(), qubit()))
+            }
+            Payload::Units => {
+                let mut tuple = (unit_value(), unit());
+                for _ in 1..nodes.div_ceil(2).min(127) {
+                    let (term, of) = tuple;
+                    tuple = (pair(unit_value(), term), types::pair(unit(), of));
+                }
+                tuple
             }
         }
     }
@@ -158,7 +169,7 @@ fn dropped(over: &[Rc<Type>], uses: usize, rest: Rc<Term>) -> Rc<Term> {
 fn nodes(comparison: &mut Comparison) {
     comparison.group("with nodes near 4,096");
     let mut found = [0; 5];
-    for payload in [Payload::Lifts, Payload::Function] {
+    for payload in [Payload::Lifts, Payload::Function, Payload::Units] {
         for uses in [3, 4, 7, 20, 60, 150] {
             // An abstraction copies its value.
             let by_application = |nodes: usize, padding: usize| {
@@ -218,23 +229,37 @@ fn qubit_box(body: Rc<Term>) -> Rc<Term> {
     boxed(qubit(), lift(abstraction(qubit(), body)))
 }
 
-/// A circuit bound, and applied so many times, one to the result of the other.
-fn applied(circuit_term: Rc<Term>, times: usize, wire: Rc<Term>) -> Rc<Term> {
+/// The same at unit.
+fn unit_box(body: Rc<Term>) -> Rc<Term> {
+    boxed(unit(), lift(abstraction(unit(), body)))
+}
+
+/// A circuit from this type to itself bound, and applied so many times, one to the
+/// result of the other.
+fn applied(of: Rc<Type>, circuit_term: Rc<Term>, times: usize, wire: Rc<Term>) -> Rc<Term> {
     let body = (0..times).fold(wire, |wire, _| apply(variable(0), wire));
-    let over = circuit(qubit(), qubit());
+    let over = circuit(of.clone(), of);
     application(abstraction(over, body), circuit_term)
+}
+
+/// A Qubit comes, is measured and goes.
+fn helper(unit: Rc<Term>) -> Rc<Term> {
+    const MEAS: usize = 6;
+    const INIT: usize = 9;
+    const DISCARD: usize = 10;
+    apply(gate(DISCARD), apply(gate(MEAS), apply(gate(INIT), unit)))
 }
 
 fn gates(comparison: &mut Comparison) {
     comparison.group("with gates near 2,048");
-    let mut found = [0; 3];
+    let mut found = [0; 4];
     for times in 1..=6 {
         for first in [1, 2, 5, 40] {
             // Each box applies the box inside it several times.
             let nested = |levels: usize| {
                 let gates = (0..first).fold(variable(0), |wire, at| apply(gate(at % 5), wire));
                 (1..levels).fold(qubit_box(gates), |inside, _| {
-                    qubit_box(applied(inside, times, variable(1)))
+                    qubit_box(applied(qubit(), inside, times, variable(1)))
                 })
             };
             let gates_around = |wire: Rc<Term>, count: usize| {
@@ -246,9 +271,19 @@ fn gates(comparison: &mut Comparison) {
                 gates_around(wire, padding)
             };
             let circuit_last = |levels: usize, padding: usize| {
-                applied(nested(levels), times, gates_around(label(0), padding))
+                let wire = gates_around(label(0), padding);
+                applied(qubit(), nested(levels), times, wire)
             };
-            let builds: [Build; 2] = [&gate_last, &circuit_last];
+            // The same with Qubits that come and go in boxes at unit.
+            let helpers = |levels: usize, padding: usize| {
+                let first = (0..first).fold(variable(0), |unit, _| helper(unit));
+                let nested = (1..levels).fold(unit_box(first), |inside, _| {
+                    unit_box(applied(unit(), inside, times, variable(1)))
+                });
+                let rest = abstraction(unit(), gates_around(label(0), padding));
+                application(rest, applied(unit(), nested, times, unit_value()))
+            };
+            let builds: [Build; 3] = [&gate_last, &circuit_last, &helpers];
             for (build, found) in builds.into_iter().zip(&mut found) {
                 let levels = if times == 1 { 60 } else { 12 };
                 *found += near(comparison, build, levels, GATES);
@@ -267,7 +302,7 @@ fn gates(comparison: &mut Comparison) {
         });
         application(abstraction(over.clone(), dropped), qubit_box(row))
     };
-    found[2] += near(comparison, &unused, 40, GATES);
+    found[3] += near(comparison, &unused, 40, GATES);
     assert!(found.iter().all(|&found| found >= 5), "too few: {found:?}");
 }
 
@@ -295,6 +330,12 @@ fn boxes(comparison: &mut Comparison) {
             application(abstraction(over.clone(), rest), identity())
         })
     };
+    // Boxes at unit, one after the other.
+    let at_unit = |count: usize, padding: usize| {
+        let units =
+            (0..count + padding).fold(unit_value(), |unit, _| apply(unit_box(variable(0)), unit));
+        application(abstraction(unit(), label(0)), units)
+    };
     // A reusable function that calls the one inside it twice.
     let doubled = |levels: usize, padding: usize| {
         let first = lift(abstraction(qubit(), apply(identity(), variable(0))));
@@ -302,11 +343,12 @@ fn boxes(comparison: &mut Comparison) {
         let wire = application(force(double), label(0));
         (0..padding).fold(wire, |wire, _| apply(identity(), wire))
     };
-    let builds: [(Build, usize); 5] = [
+    let builds: [(Build, usize); 6] = [
         (&in_turn, 300),
         (&two_in_turn, 200),
         (&forced, 300),
         (&unused, 300),
+        (&at_unit, 300),
         (&doubled, 12),
     ];
     for (build, numbers) in builds {

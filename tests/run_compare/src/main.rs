@@ -3,6 +3,7 @@
 mod by_hand;
 mod compare;
 mod families;
+mod helped;
 mod lending;
 mod limits;
 mod listed;

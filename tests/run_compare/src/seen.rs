@@ -1,5 +1,6 @@
 //! What the runs had.
 
+use crate::helped::Helped;
 use comparing::Pairs;
 use evaluator::circuits::Boxed;
 use evaluator::configurations::{MOST_BOXES, MOST_GATES, MOST_NODES};
@@ -50,6 +51,7 @@ pub struct Seen {
     uses: [usize; 3],
     /// The same of those that are pairs and may be copied.
     pairs: Pairs<4>,
+    helped: Helped,
     /// Gates of finished runs.
     gates: [usize; GATES.len()],
 }
@@ -68,6 +70,7 @@ pub struct Run {
     crossing: usize,
     uses: [usize; 3],
     pairs: Pairs<4>,
+    helped: Helped,
 }
 
 impl Run {
@@ -84,8 +87,14 @@ impl Run {
         }
         self.open = self.open.max(now.frames.len() - 1);
         let step = match redex(&now.innermost().term) {
-            None if now.is_finished() => return,
-            None => 6,
+            None if now.is_finished() => {
+                self.helped.finish(now);
+                return;
+            }
+            None => {
+                self.helped.exit(&now.innermost().term);
+                6
+            }
             Some((_, redex)) => self.look_at(&redex.form, now.frames.len()),
         };
         self.steps[step] += 1;
@@ -108,19 +117,27 @@ impl Run {
                 1
             }
             Form::Force(_) => 2,
-            Form::Apply(circuit, _) => match &circuit.form {
-                Form::Constant(constant) => {
-                    self.look_at_circuit(constant, frame);
-                    4
+            Form::Apply(circuit, argument) => {
+                self.helped.argument(argument);
+                match &circuit.form {
+                    Form::Constant(constant) => {
+                        self.look_at_circuit(constant, frame);
+                        4
+                    }
+                    _ => 3,
                 }
-                _ => 3,
-            },
-            _ => 5,
+            }
+            Form::Box(at, _) => {
+                self.helped.entry(at);
+                5
+            }
+            other => unreachable!("{other:?} is no redex"),
         }
     }
 
     fn look_at_value(&mut self, value: &Term, uses: usize) {
         self.uses[uses.min(2)] += 1;
+        self.helped.value(value, uses);
         if let Some(depth @ 1..) = copyable_pairs(value) {
             self.pairs.count(depth, uses.min(2));
         }
@@ -132,6 +149,9 @@ impl Run {
             .entry(Rc::as_ptr(constant))
             .or_insert((0, frame));
         *times += 1;
+        if *times == 2 {
+            self.helped.again(constant);
+        }
         self.in_frames |= *first != frame;
         let result = constant.result.labels();
         let passes = result.iter().any(|wire| constant.inputs.contains(wire));
@@ -144,7 +164,7 @@ impl Run {
 /// may be copied; none for another value.
 fn copyable_pairs(value: &Term) -> Option<usize> {
     match &value.form {
-        Form::Gate(_) | Form::Constant(_) | Form::Lift(_) => Some(0),
+        Form::Gate(_) | Form::Constant(_) | Form::Lift(_) | Form::UnitValue => Some(0),
         Form::Pair(first, second) => {
             let (first, second) = (copyable_pairs(first)?, copyable_pairs(second)?);
             Some(1 + first.max(second))
@@ -157,7 +177,7 @@ fn copyable_pairs(value: &Term) -> Option<usize> {
 fn uses(term: &Term, argument: usize) -> usize {
     match &term.form {
         Form::Variable(number) => usize::from(*number == argument),
-        Form::Label(_) | Form::Gate(_) | Form::Constant(_) => 0,
+        Form::Label(_) | Form::Gate(_) | Form::Constant(_) | Form::UnitValue => 0,
         Form::Abstraction(body) => uses(body, argument + 1),
         Form::Lift(part) | Form::Force(part) | Form::Box(_, part) => uses(part, argument),
         Form::Let(first, second) => uses(first, argument) + uses(second, argument + 2),
@@ -172,6 +192,7 @@ impl Seen {
         add(&mut self.steps, &run.steps);
         add(&mut self.uses, &run.uses);
         self.pairs.add(&run.pairs);
+        self.helped.add(&run.helped);
         for (most, size) in self.most.iter_mut().zip(run.most) {
             *most = (*most).max(size);
         }
@@ -208,6 +229,7 @@ impl Seen {
         self.crossing += other.crossing;
         add(&mut self.uses, &other.uses);
         self.pairs.add(&other.pairs);
+        self.helped.add(&other.helped);
         add(&mut self.gates, &other.gates);
     }
 
@@ -236,6 +258,7 @@ impl Seen {
         let [none, one, more] = self.uses;
         println!("values: {none} dropped, {one} used once, {more} copied");
         self.pairs.report(USES_OF_PAIRS);
+        self.helped.report();
         println!("gates of finished runs by number: {:?}", self.gates);
     }
 
@@ -259,6 +282,7 @@ impl Seen {
         assert!(self.crossing >= 20_000, "too few wires that cross");
         assert!(self.uses.iter().all(|&uses| uses >= 50_000), "too few uses");
         self.pairs.assert(LEAST_PAIRS);
+        self.helped.assert();
         assert!(
             self.gates.iter().all(|&gates| gates >= 5_000),
             "too few gates"

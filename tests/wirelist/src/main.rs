@@ -7,7 +7,7 @@ use evaluator::text::{text, LIMIT};
 use program_files::entries::{MOST_LABELS, MOST_TERMS, MOST_TYPES};
 use program_files::{Program, Term, Wire};
 use programs::types::qubit;
-use programs::{terms, types};
+use programs::{extremes, terms, types};
 use std::env;
 use std::fs;
 use std::path::Path;
@@ -28,6 +28,9 @@ fn main() {
         ("limit_passed", steps(limit + 1), Some(refused)),
         ("longest", longest(), None),
         ("gates", many_gates(), None),
+        ("outputs", extremes::most_outputs().program, None),
+        ("units", extremes::some_outputs().program, None),
+        ("helpers", extremes::helpers(MOST_TERMS).program, None),
     ];
     let write = |name: &str, file: &[u8], lines: String| {
         let path = Path::new(&folder).join(name);

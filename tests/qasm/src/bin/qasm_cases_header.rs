@@ -1,8 +1,8 @@
-//! Prints the tables of exports and of texts that are refused for
-//! tests/header.c: in C, the bytes of each case and one row for it, whose fields
-//! are those of its `struct text_case`.
+//! Prints the tables of exports, of texts that are refused and of listings that
+//! have no text for tests/header.c: in C, the bytes of each case and one row for
+//! it, whose fields are those of its `struct text_case` or `struct wordless_case`.
 
-use qasm::cases::{exports, texts};
+use qasm::cases::{exports, texts, wordless};
 
 /// Longer texts are left out.
 const LONGEST: usize = 2_000;
@@ -36,6 +36,22 @@ fn main() {
             "    {{{name}, {number}, text_listing_{at}, {length}, text_{at}, {}}},",
             text.len()
         );
+    }
+    println!("}};");
+    print_wordless();
+}
+
+fn print_wordless() {
+    let cases = wordless();
+    for (at, case) in cases.iter().enumerate() {
+        let listing = bytes(&case.listing.bytes());
+        println!("static const uint8_t wordless_{at}[] = {listing};");
+    }
+    println!("static const struct wordless_case wordless_cases[] = {{");
+    for (at, case) in cases.iter().enumerate() {
+        let length = case.listing.sizes().length();
+        let (name, place) = (case.name, case.place);
+        println!("    {{{name:?}, wordless_{at}, {length}, {place}}},");
     }
     println!("}};");
 }

@@ -6,7 +6,7 @@ use listings::cases;
 use listings::generate::{valid, Shape};
 use program_files::Random;
 use qasm::answer::{output, Answer};
-use qasm::cases::{exports, longest, texts};
+use qasm::cases::{exports, longest, texts, wordless};
 use qasm::{damaged, export, import, print};
 use std::env;
 use std::fs;
@@ -49,13 +49,18 @@ fn main() {
     for case in exports() {
         both(&case.listing.bytes());
     }
+    for case in wordless() {
+        both(&case.listing.bytes());
+    }
     for case in cases::all() {
         both(&case.bytes);
     }
     let mut random = Random::new(8);
     let mut generated = Vec::new();
     for _ in 0..GENERATED {
-        let shape = Shape::any(&mut random, 16, 40);
+        let shape = Shape::helpers(&mut random, 16, 40);
+        both(&valid(&mut random, &shape).bytes());
+        let shape = Shape::any(&mut random, 16, 40).without_helpers();
         generated.push(valid(&mut random, &shape));
     }
     for listing in &generated {

@@ -4,6 +4,7 @@
 use listings::generate::{foreign, valid, Shape, FOREIGN};
 use listings::Listing;
 use program_files::Random;
+use qasm::answer::first_helper;
 use qasm::cases::exports;
 use qasm::print;
 use std::env;
@@ -20,7 +21,7 @@ fn main() {
     let mut all: Vec<Listing> = exports().into_iter().map(|case| case.listing).collect();
     for (count, inputs, gates) in SIZES {
         for _ in 0..count {
-            let shape = Shape::any(&mut random, inputs, gates);
+            let shape = Shape::any(&mut random, inputs, gates).without_helpers();
             all.push(valid(&mut random, &shape));
         }
     }
@@ -29,7 +30,8 @@ fn main() {
             all.push(foreign(&mut random, of));
         }
     }
-    let shape = Shape::most(&mut random);
+    all.retain(|listing| first_helper(listing).is_none());
+    let shape = Shape::most(&mut random).without_helpers();
     all.push(valid(&mut random, &shape));
     for (at, listing) in all.iter().enumerate() {
         let path = Path::new(&folder).join(format!("sample_{at}"));
