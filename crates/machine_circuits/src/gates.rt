@@ -11,7 +11,7 @@ ghost use Rattle.rules.specs.Gates.{wiresIn};
 ghost use Rattle.rules.specs.Terms.{_on_};
 ghost use Rattle.rules.specs.Circuits.{outputs, rename, renameGate};
 ghost use Rattle.words.specs.Words.{words, putWords};
-ghost use Rattle.words.specs.Quadwords.{quadwordsIn, quadwordAt, fourWords};
+ghost use Rattle.words.specs.Quadwords.{wordIn, quadwordsIn, quadwordAt, fourWords};
 ghost use Rattle.machine_circuits.specs.Layout.{gateOf, slotOf, gateWords, gatesIn};
 ghost use Rattle.rules.specs.Slots.{no-wire};
 ghost use Rattle.machine_circuits.specs.Copies.{lowWords, CopyFits, GatesCopied, GatesMoved};
@@ -68,13 +68,22 @@ pub(crate) fn renamed(labels: &[u8], n: usize, next: usize, wire: usize) -> usiz
     next + (wire - n)
 }
 
-// The wire in a slot of the gate in a quadword, renamed; NO_WIRE where it has no such slot.
-fn renamed_slot(gates: &[u8], i: usize, slot: usize, labels: &[u8], n: usize, next: usize) -> usize
+// The wire in a slot of the gate in a quadword, which takes so many, renamed; NO_WIRE where it has no such slot. How many it takes
+// is asked once for all slots, since each lookup builds its table.
+fn renamed_slot(
+    gates: &[u8],
+    i: usize,
+    slot: usize,
+    taken: usize,
+    labels: &[u8],
+    n: usize,
+    next: usize,
+) -> usize
     requires { ⌜ next < 65536 ⌝ }
-    ensures { λ r. ⌜ (n ≤ length (words (now (labels .entry))) → r ≡ slotOf (renameGate (take n (words (now (labels .entry)))) next (gateOf (quadwordAt (quadwordsIn (now (gates .entry))) i))) slot) ⌝ }
+    ensures { λ r. ⌜ (taken ≡ wiresIn (wordIn (quadwordAt (quadwordsIn (now (gates .entry))) i) 0) → n ≤ length (words (now (labels .entry)))
+        → r ≡ slotOf (renameGate (take n (words (now (labels .entry)))) next (gateOf (quadwordAt (quadwordsIn (now (gates .entry))) i))) slot) ⌝ }
 {
-    let number = word_in(gates, i, 0);
-    if rules::wires_in(number) <= slot {
+    if taken <= slot {
         return NO_WIRE;
     }
     let wire = word_in(gates, i, 1 + slot);
@@ -88,9 +97,10 @@ fn copy_gate(gates: &mut [u8], from: usize, to: usize, labels: &[u8], n: usize, 
         (lowWords (gateWords (renameGate (take n (words (now (labels .entry)))) next (gateOf (quadwordAt (quadwordsIn (now (gates .entry))) from)))))) ⌝ }
 {
     let number = word_in(gates, from, 0);
-    let first = renamed_slot(gates, from, 0, labels, n, next);
-    let second = renamed_slot(gates, from, 1, labels, n, next);
-    let third = renamed_slot(gates, from, 2, labels, n, next);
+    let taken = rules::wires_in(number);
+    let first = renamed_slot(gates, from, 0, taken, labels, n, next);
+    let second = renamed_slot(gates, from, 1, taken, labels, n, next);
+    let third = renamed_slot(gates, from, 2, taken, labels, n, next);
     put_quadword(gates, to, number, first, second, third);
 }
 
