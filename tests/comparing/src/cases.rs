@@ -63,7 +63,14 @@ pub fn all() -> Vec<Case> {
     all.extend(first_faults::all().into_iter().map(faulty));
     all.extend(copied_pairs::accepted().into_iter().map(copied));
     all.extend(copied_pairs::refused().into_iter().map(faulty));
-    all.extend(helpers::all().into_iter().map(helped));
+    all.extend(helpers::accepted().into_iter().map(helped));
+    all.extend(helpers::refused().into_iter().map(faulty));
+    all.push(read(
+        "a function from unit to unit",
+        &written(Vec::new(), helpers::no_wires()),
+        Ok(&[FUN, UNIT, UNIT]),
+        Err(refusal(20, 0)),
+    ));
     all
 }
 

@@ -1,12 +1,14 @@
-//! The cases of 02's ticket 5, u1 to u8: unit, and wires that come and go. They
-//! are those of the proved table.
+//! The cases of 02's ticket 5: unit, and wires that come and go. They are those of
+//! the proved table.
 
 use crate::cases::{Listing, ONE_WIRE};
+use crate::first_faults::Faulty;
 use program_files::kinds::{PAIR_TYPE, QUBIT, UNIT};
 use program_files::Wire::{self, Bit, Qubit};
 use program_files::{Term, Type};
 use programs::terms::{
-    abstraction, application, apply, boxed, gate, label, lift, pair, unit_value, variable,
+    abstraction, application, apply, boxed, force, gate, label, let_in, lift, pair, unit_value,
+    variable,
 };
 use programs::types::{self, circuit, qubit, unit};
 use std::rc::Rc;
@@ -23,6 +25,7 @@ pub struct Helped {
 }
 
 const H: usize = 0;
+const CNOT: usize = 5;
 const MEAS: usize = 6;
 const INIT: usize = 9;
 const DISCARD: usize = 10;
@@ -57,6 +60,16 @@ const TWO_WIRES: Listing = Listing {
     lines: "in 0 Qubit\nin 1 Qubit\ngate H 0 : 2\ngate H 1 : 3\nout 2 3\n",
 };
 
+/// A CNOT on the second label and the first.
+const ONE_CNOT: Listing = Listing {
+    gates: 1,
+    bytes: &[
+        2, 0, 1, 0, 2, 0, 0x81, 0x81, 5, 255, 255, 255, 255, 255, 255, 255, 255, 1, 0, 0, 0, 2, 0,
+        3, 0,
+    ],
+    lines: "in 0 Qubit\nin 1 Qubit\ngate CNOT 1 0 : 2 3\nout 2 3\n",
+};
+
 /// A Qubit comes, is measured and goes, twice.
 const COME_AND_GONE: Listing = Listing {
     gates: 6,
@@ -83,8 +96,8 @@ fn applied_twice(one: Rc<Term>, other: Rc<Term>) -> Rc<Term> {
     pair(apply(variable(0), one), apply(variable(0), other))
 }
 
-/// The table.
-pub fn all() -> Vec<Helped> {
+/// The accepted ones.
+pub fn accepted() -> Vec<Helped> {
     let case = |name, labels: &[Wire], term, of, steps, listing| Helped {
         name,
         labels: labels.to_vec(),
@@ -96,6 +109,8 @@ pub fn all() -> Vec<Helped> {
     let init = |argument| apply(gate(INIT), argument);
     let come_and_gone = |argument| apply(gate(DISCARD), apply(gate(MEAS), init(argument)));
     let with_unit = pair(unit_value(), apply(gate(H), variable(0)));
+    let unit_between = || types::pair(qubit(), types::pair(unit(), qubit()));
+    let of_unit = |body| application(abstraction(unit(), body), unit_value());
     vec![
         case("u1", &[], unit_value(), &[UNIT], 0, &NOTHING),
         case("u2", &[], init(unit_value()), &[QUBIT], 1, &ONE_INIT),
@@ -133,22 +148,12 @@ pub fn all() -> Vec<Helped> {
         case(
             "u6",
             &[],
-            application(
-                abstraction(unit(), pair(variable(0), variable(0))),
-                unit_value(),
-            ),
+            of_unit(pair(variable(0), variable(0))),
             &[PAIR_TYPE, UNIT, UNIT],
             1,
             &NOTHING,
         ),
-        case(
-            "u7",
-            &[Qubit],
-            application(abstraction(unit(), label(0)), unit_value()),
-            &[QUBIT],
-            1,
-            &ONE_WIRE,
-        ),
+        case("u7", &[Qubit], of_unit(label(0)), &[QUBIT], 1, &ONE_WIRE),
         // A Qubit that comes and goes, boxed and applied twice.
         case(
             "u8",
@@ -162,5 +167,87 @@ pub fn all() -> Vec<Helped> {
             9,
             &COME_AND_GONE,
         ),
+        case(
+            "a box at a type with unit between its wires",
+            &[Qubit, Qubit],
+            apply(
+                box_of(
+                    unit_between(),
+                    let_in(
+                        variable(0),
+                        let_in(
+                            variable(0),
+                            pair(
+                                variable(1),
+                                apply(gate(CNOT), pair(variable(3), variable(0))),
+                            ),
+                        ),
+                    ),
+                ),
+                pair(label(1), pair(unit_value(), label(0))),
+            ),
+            &[PAIR_TYPE, UNIT, PAIR_TYPE, QUBIT, QUBIT],
+            7,
+            &ONE_CNOT,
+        ),
+        case(
+            "a variable of unit used inside a lift",
+            &[],
+            of_unit(force(lift(variable(0)))),
+            &[UNIT],
+            2,
+            &NOTHING,
+        ),
     ]
+}
+
+/// The function from unit to unit, which is no wire type.
+pub fn no_wires() -> Rc<Term> {
+    abstraction(unit(), variable(0))
+}
+
+/// The refused ones: Discard takes no Qubit, Init no wire; label 0 is not used; a
+/// pair of unit and a wire may be neither copied nor dropped nor used inside a lift.
+pub fn refused() -> Vec<Faulty> {
+    let over_both = |body| abstraction(types::pair(unit(), qubit()), body);
+    let all: [(&str, usize, Rc<Term>, u8, usize); 6] = [
+        (
+            "Discard of a Qubit",
+            1,
+            apply(gate(DISCARD), label(0)),
+            16,
+            1,
+        ),
+        ("Init of a Qubit", 1, apply(gate(INIT), label(0)), 16, 1),
+        ("unit's value beside a label", 1, unit_value(), 17, 0),
+        (
+            "a pair of unit and a wire used twice",
+            0,
+            over_both(pair(variable(0), variable(0))),
+            17,
+            3,
+        ),
+        (
+            "a pair of unit and a wire dropped",
+            0,
+            over_both(unit_value()),
+            17,
+            3,
+        ),
+        (
+            "a pair of unit and a wire used inside a lift",
+            0,
+            over_both(lift(variable(0))),
+            18,
+            5,
+        ),
+    ];
+    let case = |(name, labels, term, number, place): (&str, usize, Rc<Term>, u8, usize)| Faulty {
+        name: name.to_string(),
+        labels,
+        term,
+        number,
+        place,
+    };
+    all.into_iter().map(case).collect()
 }

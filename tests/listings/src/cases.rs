@@ -404,6 +404,16 @@ fn left_over() -> Vec<Case> {
 /// Wires that come from Init and go to Discard.
 fn helpers() -> Vec<Case> {
     let come_and_gone: [(u8, &[u16]); 3] = [(INIT, &[]), (MEASURE, &[0]), (DISCARD, &[1])];
+    let helper = listing(
+        &[Qubit],
+        &[
+            (INIT, &[]),
+            (CNOT, &[0, 1]),
+            (MEASURE, &[3]),
+            (DISCARD, &[4]),
+        ],
+        &[2],
+    );
     let mut all = vec![
         right("Init", &listing(&[], &[(INIT, &[])], &[0])),
         right(
@@ -422,9 +432,10 @@ fn helpers() -> Vec<Case> {
                 &[4, 3],
             ),
         ),
+        right("a helper Qubit beside an input", &helper),
         right("the longest listing that is accepted", &longest_accepted()),
     ];
-    let wrongs: [(&str, Listing, u8, usize); 14] = [
+    let wrongs: [(&str, Listing, u8, usize); 15] = [
         (
             "the wire of Init left over",
             listing(&[], &[(INIT, &[])], &[]),
@@ -439,15 +450,21 @@ fn helpers() -> Vec<Case> {
         ),
         (
             "0 in the second slot of Init",
+            listing(&[], &[(INIT, &[NO_WIRE, 0])], &[0]),
+            25,
+            0,
+        ),
+        (
+            "0 in the second slot of Init behind an input",
             listing(&[Qubit], &[(INIT, &[NO_WIRE, 0])], &[0, 1]),
             25,
             1,
         ),
         (
             "0 in the second slot of Discard",
-            listing(&[Bit, Bit], &[(DISCARD, &[0, 0])], &[1]),
+            listing(&[Bit], &[(DISCARD, &[0, 0])], &[]),
             25,
-            2,
+            1,
         ),
         (
             "Discard of a Qubit",
