@@ -58,7 +58,7 @@ pub(crate) fn leaf(
 }
 
 // The term at entry e, under so many binders and lifts, where there are so many cells. It calls itself for the parts: as
-// deep as the term is, at most 2,048 levels, of about 340 bytes of stack each as measured.
+// deep as the term is, at most 2,048 levels, of about 330 bytes of stack each as measured.
 pub(crate) fn infer(
     file: &[u8],
     work: &mut [u8],

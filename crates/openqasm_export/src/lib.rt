@@ -34,7 +34,7 @@ use wire_table::make_wire;
 use words::byte_at;
 use words::clear;
 use words::word_at;
-ghost use Prim.Native.Nat.{ℕ, _≤_, _<_};
+ghost use Prim.Native.Nat.{_≤_, _<_};
 ghost use mathlib.Core.Path.{_≡_};
 ghost use mathlib.Core.List.{[], _∷_, map};
 ghost use lib.ListN.{length};

@@ -12,7 +12,6 @@ use borrow.Author.Tests.{eq-eqb, ne-eqb}
 use Rattle.rules.specs.Types.{Wire, Bit, Qubit, wireCode}
 use Rattle.rules.specs.Gates.{gateOutputs, wiresOut}
 use Rattle.rules.specs.GateCodes.{wiresCode}
-use Rattle.rules.specs.Terms.{_on_}
 use Rattle.words.specs.Numbers.{wordAt, wordsAt}
 use Rattle.wire_table.specs.Laws.Table.{first-of, none-of}
 use Rattle.listing.specs.Laws.ReadBack.{made-fit}

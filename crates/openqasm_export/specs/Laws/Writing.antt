@@ -8,7 +8,6 @@ use lib.Dec.{T as IsTrue, eqb}
 use lib.ListN.{length, getD, take, length-append, length-map}
 use Rattle.rules.specs.Types.{Wire, Bit, Qubit, wireCode}
 use Rattle.rules.specs.Gates.{gateOutputs, wiresIn, wiresOut, nth}
-use Rattle.rules.specs.Terms.{_on_}
 use Rattle.rules.specs.Circuits.{numbers, outputs}
 use Rattle.words.specs.Numbers.{wordAt, wordsAt}
 use Rattle.text.specs.Text.{ascii, spaced}
