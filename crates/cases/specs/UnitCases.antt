@@ -4,6 +4,7 @@ use Prim.Native.Nat.{ℕ}
 use mathlib.Core.List.{List, [], _∷_, _++_}
 use mathlib.Core.Option.{some}
 use Rattle.rules.specs.Types.{Wire, Bit, unit, _⊗_, Circ}
+use Rattle.rules.specs.Gates.{Init, Discard}
 use Rattle.rules.specs.Terms.{Term, variable, label, gate, unit-value, abstraction, pair, let-in, lift, force}
 use Rattle.rules.specs.Terms.{box, apply}
 use Rattle.rules.specs.CaseTerms.{one-label, two-labels, qubit, H, CNOT, Meas}
@@ -13,13 +14,6 @@ use Rattle.run_answers.specs.Answers.{declines, ran}
 use Rattle.cases.specs.Case.{accepted, LimitedRun, limit_gives_, Case, unfinished, wirelist-limit, refusedCase}
 use Rattle.cases.specs.BaseCases.{c1-listing}
 use Rattle.cases.specs.CopiedPairs.{with-variable}
-
--- "gates 9 Init, unit to Qubit, and 10 Discard, Bit to unit".
-abbrev pub Init : ℕ
-Init = 9
-
-abbrev pub Discard : ℕ
-Discard = 10
 
 -- FINISHED
 

@@ -3,17 +3,11 @@ use Prim.Native.Nat.{ℕ, _≤_, _<_}
 use mathlib.Core.Path.{_≡_}
 use mathlib.Core.Logic.{_⊎_}
 use mathlib.Core.List.{List}
+use Rattle.rules.specs.Gates.{Init, Discard}
 use Rattle.listing.specs.Reading.{inputCount, entryCount, kindAt}
 use Rattle.wire_table.specs.WireRules.{First}
 use Rattle.listing_check.specs.declared.ListingAnswer.the-variants.{Accepted}
 use Rattle.listing_check.specs.Answers.{listingCheckOf}
-
--- "gates 9 Init, unit to Qubit, and 10 Discard, Bit to unit".
-abbrev pub Init : ℕ
-Init = 9
-
-abbrev pub Discard : ℕ
-Discard = 10
 
 -- Entry e is a gate, and one of these two.
 abbrev pub InitOrDiscard : List ℕ → ℕ → Type 0

@@ -28,6 +28,13 @@ gateTable =
     ∷ (wire Bit to unit)
     ∷ []
 
+-- The last two by name: "9 Init", "10 Discard".
+abbrev pub Init : ℕ
+Init = 9
+
+abbrev pub Discard : ℕ
+Discard = 10
+
 -- What stands at a place of a list, if anything.
 abbrev pub nth : {A : Type 0} → List A → ℕ → Option A
 nth [] n = none

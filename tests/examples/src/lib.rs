@@ -2,7 +2,10 @@
 //! where they have one, their texts in OpenQASM.
 
 mod builder;
+mod corrected;
 mod programs;
+
+pub use corrected::is_corrected;
 
 use evaluator::text::{text, LIMIT};
 use evaluator::Answer;

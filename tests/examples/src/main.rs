@@ -1,9 +1,10 @@
 //! The example programs as files, each with the lines that `wirelist` prints and,
-//! if it has one, with its text in OpenQASM, from which its listing comes back. The files in the
-//! folder `examples` of the current folder are compared with them; with the word
-//! `write` they are written.
+//! if it has one, with its text in OpenQASM, from which its listing comes back. The
+//! files in the folder `examples` of the current folder are compared with them; with
+//! the word `write` they are written. The repetition code is simulated: it puts a
+//! flip right.
 
-use example_programs::examples;
+use example_programs::{examples, is_corrected};
 use std::env;
 use std::fs;
 use std::path::Path;
@@ -36,6 +37,10 @@ fn main() {
                 println!("{} is not as it is built", path.display());
                 differences += 1;
             }
+        }
+        if example.name == "repetition" && !is_corrected(&example.listing) {
+            println!("the repetition code does not put every flip right");
+            differences += 1;
         }
         let text = example.text.as_deref();
         if text.is_some_and(|text| qasm::import(text) != Ok(example.listing)) {

@@ -133,6 +133,16 @@ fn toffoli() -> Named {
     boxed_three(["a", "b", "t"], then(actions, result))
 }
 
+/// What follows may use it by its name.
+fn with_toffoli(rest: Named) -> Named {
+    define(
+        "t inverse",
+        qubit(),
+        t_inverse(),
+        define("toffoli", three(), toffoli(), rest),
+    )
+}
+
 /// An X on each of two Qubits between a change of basis and the way back: S and
 /// its inverse, which are passed as a pair. The pair is used inside a box and
 /// outside of it.
@@ -168,45 +178,42 @@ fn adder() -> Named {
         pair(input(0), input(1)),
         halves(["c", "carry"], pair(input(2), input(3)), then(add, result)),
     );
-    define(
-        "t inverse",
-        qubit(),
-        t_inverse(),
-        define("toffoli", three(), toffoli(), inputs),
-    )
+    with_toffoli(inputs)
 }
 
-/// Makes an outer Qubit of the code agree with the middle one. A helper Qubit comes
-/// as 0 and takes the parity of the two; it is measured, the outer Qubit is flipped
-/// if the Bit is 1, and the Bit goes.
-fn agree() -> Named {
+/// One round of the repetition code on three Qubits, in which 000 stands for 0 and
+/// 111 for 1. Helper Qubits come as 0: two take the parity of two neighbours, which
+/// is the syndrome, the third is 1 if both parities are. All three are measured; then
+/// the one Qubit that differs from the other two is flipped, and the Bits go.
+fn round() -> Named {
     let actions = vec![
-        Come("helper"),
-        OnTwo(CNOT, ["outer", "helper"]),
-        OnTwo(CNOT, ["middle", "helper"]),
-        Measure("helper"),
-        OnTwo(BX, ["helper", "outer"]),
-        Go("helper"),
+        Come("left"),
+        OnTwo(CNOT, ["a", "left"]),
+        OnTwo(CNOT, ["b", "left"]),
+        Come("right"),
+        OnTwo(CNOT, ["b", "right"]),
+        OnTwo(CNOT, ["c", "right"]),
+        Come("both"),
+        OnThree(name("toffoli"), ["left", "right", "both"]),
+        Measure("left"),
+        Measure("right"),
+        Measure("both"),
+        OnTwo(BX, ["left", "a"]),
+        OnTwo(BX, ["both", "a"]),
+        OnTwo(BX, ["both", "b"]),
+        OnTwo(BX, ["both", "c"]),
+        OnTwo(BX, ["right", "c"]),
+        Go("left"),
+        Go("right"),
+        Go("both"),
     ];
-    let result = pair(name("outer"), name("middle"));
-    boxed_two(["outer", "middle"], then(actions, result))
+    let result = pair(name("a"), pair(name("b"), name("c")));
+    boxed_three(["a", "b", "c"], then(actions, result))
 }
 
-/// Two rounds of the repetition code of three Qubits, in which 000 stands for 0 and
-/// 111 for 1. A round compares each of the two outer Qubits with the middle one, so
-/// it puts a flip of an outer Qubit right before the next round. Both comparisons
-/// are one box, and both rounds are one box.
+/// Two rounds of the repetition code: one box, applied twice.
 fn repetition() -> Named {
-    let [a, b, c] = ["a", "b", "c"];
-    let compared = vec![OnTwo(name("agree"), [a, b]), OnTwo(name("agree"), [c, b])];
-    let result = pair(name(a), pair(name(b), name(c)));
-    let round = boxed_three([a, b, c], then(compared, result));
     let once = |code| apply(name("round"), code);
     let rounds = once(once(pair(input(0), pair(input(1), input(2)))));
-    define(
-        "agree",
-        two(),
-        agree(),
-        define("round", three(), round, rounds),
-    )
+    with_toffoli(define("round", three(), round(), rounds))
 }

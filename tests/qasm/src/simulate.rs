@@ -1,8 +1,9 @@
 //! What a text computes against what a listing computes: both are simulated on
 //! every choice of the inputs, the text by its registers as the language says,
-//! the listing by its wires.
+//! the listing by its wires. A listing alone may have wires that come and go.
 
 use crate::grammar::{self, Action, Element, Program};
+use evaluator::listing::NO_WIRE;
 use listings::Listing;
 use program_files::Wire;
 use std::collections::BTreeMap;
@@ -10,7 +11,7 @@ use std::f64::consts::FRAC_1_SQRT_2;
 use std::mem;
 
 /// A complex number.
-type Complex = [f64; 2];
+pub type Complex = [f64; 2];
 
 const ZERO: Complex = [0.0, 0.0];
 const ONE: Complex = [1.0, 0.0];
@@ -40,7 +41,7 @@ fn matrix(name: &str) -> [[Complex; 2]; 2] {
 type Term<N> = (Vec<bool>, BTreeMap<N, bool>);
 
 /// The amplitudes by what was measured and what the outputs have.
-type Seen = BTreeMap<(Vec<bool>, Vec<bool>), Complex>;
+pub type Seen = BTreeMap<(Vec<bool>, Vec<bool>), Complex>;
 
 /// The amplitude of each term.
 struct State<N>(BTreeMap<Term<N>, Complex>);
@@ -104,6 +105,22 @@ impl<N: Ord + Clone> State<N> {
         });
     }
 
+    /// A qubit that is 0 comes.
+    fn come(&mut self, name: &N) {
+        self.change(|(measured, mut values)| {
+            values.insert(name.clone(), false);
+            vec![((measured, values), ONE)]
+        });
+    }
+
+    /// A bit goes.
+    fn go(&mut self, name: &N) {
+        self.change(|(measured, mut values)| {
+            values.remove(name);
+            vec![((measured, values), ONE)]
+        });
+    }
+
     /// The amplitudes by what was measured and what these names have; none if
     /// two terms look the same so.
     fn seen(&self, names: &[N]) -> Option<Seen> {
@@ -132,7 +149,7 @@ pub fn compare(text: &[u8], listing: &Listing) -> Result<(), String> {
         let inputs = (0..listing.inputs.len()).map(|at| choice >> at & 1 == 1);
         let inputs: Vec<bool> = inputs.collect();
         let by_text = of_text(&program, listing, &inputs).seen(&names);
-        let by_listing = of_listing(listing, &inputs).seen(&listing.outputs);
+        let by_listing = outcomes(listing, &inputs);
         if !are_same(&by_text, &by_listing) {
             return Err(format!(
                 "with inputs {inputs:?} the text gives {by_text:?}, the listing {by_listing:?}"
@@ -142,15 +159,25 @@ pub fn compare(text: &[u8], listing: &Listing) -> Result<(), String> {
     Ok(())
 }
 
+/// What a listing computes from these inputs.
+pub fn outcomes(listing: &Listing, inputs: &[bool]) -> Option<Seen> {
+    of_listing(listing, inputs).seen(&listing.outputs)
+}
+
+/// Whether two amplitudes are the same.
+pub fn are_near(one: Complex, other: Complex) -> bool {
+    (one[0] - other[0]).abs() < SMALL && (one[1] - other[1]).abs() < SMALL
+}
+
 /// Whether there are amplitudes, and those of each term are the same.
 fn are_same(one: &Option<Seen>, other: &Option<Seen>) -> bool {
     let (Some(one), Some(other)) = (one, other) else {
         return false;
     };
     one.len() == other.len()
-        && one.iter().all(|(term, [real, imaginary])| {
+        && one.iter().all(|(term, &amplitude)| {
             let other = other.get(term).unwrap_or(&ZERO);
-            (real - other[0]).abs() < SMALL && (imaginary - other[1]).abs() < SMALL
+            are_near(amplitude, *other)
         })
 }
 
@@ -208,11 +235,16 @@ fn of_listing(listing: &Listing, inputs: &[bool]) -> State<u16> {
             6 => state.measure(&first, &first),
             7 => state.gate("x", &second, Some((&first, true))),
             8 => state.gate("z", &second, Some((&first, true))),
+            9 => state.come(&next),
+            10 => state.go(&first),
             kind => panic!("no gate {kind}"),
         }
-        let taken = gate.as_gate().map_or(0, |gate| gate.takes.len());
-        for wire in &gate.slots[..taken] {
-            state.rename(wire, &next);
+        let made = gate.as_gate().map_or(0, |gate| gate.makes.len());
+        for &wire in &gate.slots[..made] {
+            // What Init makes has its name already.
+            if wire != NO_WIRE {
+                state.rename(&wire, &next);
+            }
             next += 1;
         }
     }

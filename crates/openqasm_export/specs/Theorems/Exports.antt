@@ -7,6 +7,7 @@ use mathlib.Core.Bool.{Bool, true, false, not, _&&_, true≢false}
 use mathlib.Core.List.{List}
 use mathlib.Core.Option.{Option, none, some}
 use lib.Dec.{eqb}
+use Rattle.rules.specs.Gates.{Init, Discard}
 use Rattle.rules.specs.Laws.Wires.{Compared, equal, unequal, compared}
 use Rattle.refusals.specs.declared.Refusal.the-variants.{Run}
 use Rattle.listing.specs.Reading.{inputCount, gateCount, outputCount, kindAt}
@@ -19,7 +20,7 @@ use Rattle.listing_check.specs.Laws.Judging.{Judged, sizes-wrong, entry-wrong, 
 use Rattle.openqasm.specs.Layout.{hasStatement}
 use Rattle.openqasm.specs.Laws.Lines.{statement-told}
 use Rattle.openqasm_export.specs.Answers.{firstUnwritten, statementsJudged, exportCheckOf}
-use Rattle.openqasm_export.specs.Meaning.{Init, Discard, InitOrDiscard, UnwrittenAt}
+use Rattle.openqasm_export.specs.Meaning.{InitOrDiscard, UnwrittenAt}
 use Rattle.openqasm_export.specs.Laws.Statements.{Unwritten, unwritten-found}
 
 -- The gates that have no statement are Init and Discard.
