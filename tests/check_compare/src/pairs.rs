@@ -244,25 +244,39 @@ pub fn compare(comparison: &mut Comparison) {
     for depth in 1..=DEEPEST {
         let nestings = if depth <= DEEPEST_EVEN { 5 } else { 4 };
         for _ in 0..ROUNDS {
-            several(comparison, &mut random, &all[..nestings], depth, &mut seen);
+            several(
+                comparison,
+                &mut random,
+                &all[..nestings],
+                depth,
+                false,
+                &mut seen,
+            );
         }
     }
     comparison.group("units, and pairs of units at every depth");
+    let mut with_units = BTreeMap::new();
     for depth in 0..=DEEPEST_EVEN {
         for _ in 0..ROUNDS {
-            units(comparison, &mut random, &all, depth);
+            several(comparison, &mut random, &all, depth, true, &mut with_units);
         }
     }
     comparison.group("pairs, very deep");
     for depth in VERY_DEEP {
         for _ in 0..6 {
-            several(comparison, &mut random, &all[..3], depth, &mut seen);
+            several(comparison, &mut random, &all[..3], depth, false, &mut seen);
         }
     }
     comparison.counts_pairs = true;
     let deep = (1..=DEEPEST).map(|depth| (depth, LEAST));
     let very_deep = VERY_DEEP.map(|depth| (depth, LEAST_VERY_DEEP));
-    for (depth, least) in deep.chain(very_deep) {
+    demand(&seen, deep.chain(very_deep));
+    demand(&with_units, (0..=DEEPEST_EVEN).map(|depth| (depth, LEAST)));
+}
+
+/// Fails if there are fewer of a depth, whatever their use.
+fn demand(seen: &BTreeMap<Counted, usize>, depths: impl Iterator<Item = (usize, usize)>) {
+    for (depth, least) in depths {
         for sort in SORTS {
             for linear in [false, true] {
                 let counted = (depth, sort, linear);
@@ -273,34 +287,14 @@ pub fn compare(comparison: &mut Comparison) {
     }
 }
 
-/// Compares one program for each use and each binder of units in pairs.
-fn units(comparison: &mut Comparison, random: &mut Random, nestings: &[Nesting], depth: usize) {
-    for uses in USES {
-        for binder in BINDERS {
-            for linear in [false, true] {
-                let plan = Plan {
-                    nesting: random.pick(nestings),
-                    depth,
-                    binder,
-                    uses,
-                    linear,
-                    units: true,
-                };
-                if let Some(made) = made(random, &plan) {
-                    compared(comparison, random, made);
-                }
-            }
-        }
-    }
-}
-
 /// Compares one program for each use and each binder, with a linear leaf and
-/// without, as far as they fit.
+/// without, as far as they fit; the other leaves are units or of any type.
 fn several(
     comparison: &mut Comparison,
     random: &mut Random,
     nestings: &[Nesting],
     depth: usize,
+    units: bool,
     seen: &mut BTreeMap<Counted, usize>,
 ) {
     for uses in USES {
@@ -312,7 +306,7 @@ fn several(
                     binder,
                     uses,
                     linear,
-                    units: false,
+                    units,
                 };
                 let Some(made) = made(random, &plan) else {
                     continue;

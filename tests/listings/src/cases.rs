@@ -401,10 +401,9 @@ fn left_over() -> Vec<Case> {
     all.into_iter().map(case).collect()
 }
 
-/// Wires that come from Init and go to Discard.
-fn helpers() -> Vec<Case> {
-    let come_and_gone: [(u8, &[u16]); 3] = [(INIT, &[]), (MEASURE, &[0]), (DISCARD, &[1])];
-    let helper = listing(
+/// A Qubit that comes, is compared with the input, is measured and goes.
+pub fn helper() -> Listing {
+    listing(
         &[Qubit],
         &[
             (INIT, &[]),
@@ -413,7 +412,12 @@ fn helpers() -> Vec<Case> {
             (DISCARD, &[4]),
         ],
         &[2],
-    );
+    )
+}
+
+/// Wires that come from Init and go to Discard.
+fn helpers() -> Vec<Case> {
+    let come_and_gone: [(u8, &[u16]); 3] = [(INIT, &[]), (MEASURE, &[0]), (DISCARD, &[1])];
     let mut all = vec![
         right("Init", &listing(&[], &[(INIT, &[])], &[0])),
         right(
@@ -432,7 +436,7 @@ fn helpers() -> Vec<Case> {
                 &[4, 3],
             ),
         ),
-        right("a helper Qubit beside an input", &helper),
+        right("a helper Qubit beside an input", &helper()),
         right("the longest listing that is accepted", &longest_accepted()),
     ];
     let wrongs: [(&str, Listing, u8, usize); 15] = [

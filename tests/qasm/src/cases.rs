@@ -1,6 +1,6 @@
 //! Listings written by hand with their texts, and texts that are refused.
 
-use listings::cases::{crossed, listing};
+use listings::cases::{crossed, helper, listing};
 use listings::sizes::{MOST_GATES, MOST_INPUTS};
 use listings::{Entry, Listing};
 use program_files::Wire::{Bit, Qubit};
@@ -240,20 +240,7 @@ pub fn wordless() -> Vec<Wordless> {
             listing(&[Bit], &[(INIT, &[]), (DISCARD, &[0])], &[1]),
             1,
         ),
-        (
-            "a Qubit that comes, is measured and goes",
-            listing(
-                &[Qubit],
-                &[
-                    (INIT, &[]),
-                    (CNOT, &[0, 1]),
-                    (MEASURE, &[3]),
-                    (DISCARD, &[4]),
-                ],
-                &[2],
-            ),
-            1,
-        ),
+        ("a Qubit that comes, is measured and goes", helper(), 1),
     ];
     let case = |(name, listing, place)| Wordless {
         name,

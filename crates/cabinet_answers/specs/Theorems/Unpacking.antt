@@ -35,7 +35,7 @@ use Rattle.openqasm.specs.declared.Conversion.{Conversion}
 use Rattle.openqasm.specs.declared.Conversion.the-variants.{Written, Refused as NotConverted}
 use Rattle.openqasm_export.specs.Answers.{export-lengths, exportCheckOf, exportedAs, exportAnswer}
 use Rattle.openqasm_export.specs.Laws.Answering.{accepted-fits}
-use Rattle.openqasm_export.specs.Laws.Statements.{OfExport, ExportBounds, export-bounds}
+use Rattle.openqasm_export.specs.Laws.Statements.{export-bounds}
 use Rattle.openqasm_import.specs.Answers.{import-lengths, importOf, importedAs, importAnswer}
 use Rattle.openqasm_import.specs.Theorems.Imports.{import-means}
 use Rattle.cabinet_answers.specs.Packed.{packedRefusal, packedSizes, packedLength, packedRan, packedRead, packedCheck}
@@ -262,24 +262,19 @@ listing-back (NotListed x) h =
     let answer = packedRefusal (refusalNumber x) (refusalPlace x) in
     refusal-back (IsListed (inputsIn answer) (listedGatesIn answer) (outputsIn answer)) NotListed x h
 
--- The refusals of operations on listings, 24 to 26 and 28.
-listed-refusal : (x : Refusal) → OfExport x → refusalPlace x < most-listed → RefusalFits x
-listed-refusal (Form number place) h p = absurd h
-listed-refusal (Typing number place) h p = absurd h
-listed-refusal (Run number place) h p = (omega (arith, h .0), omega (arith, h .1), omega arith)
+-- The refusals of operations on listings.
+listed-refusal : (x : Refusal) (last : ℕ) → last < 64 → OfListing last x → refusalPlace x < most-listed → RefusalFits x
+listed-refusal (Form number place) last l h p = absurd h
+listed-refusal (Typing number place) last l h p = absurd h
+listed-refusal (Run number place) last l h p = (omega (arith, h .0), omega (arith, l, h .1), omega arith)
 
 -- The answer of a check of a listing whose working memory is long enough.
 listing-fits : (b : List ℕ) → ListingFits (listingCheckOf b)
 listing-fits b = of (listingCheckOf b) (listing-bounds b)
   where
-    of-export : (x : Refusal) → OfListing x → OfExport x
-    of-export (Form number place) h = h
-    of-export (Typing number place) h = h
-    of-export (Run number place) h = (h .0, omega (arith, h .1))
-
-    of : (a : ListingAnswer) → ListingBounds a → ListingFits a
+    of : (a : ListingAnswer) → ListingBounds 26 a → ListingFits a
     of (IsListed inputs gates outputs) h = (omega (arith, h .0), omega (arith, h .1), omega (arith, h .2))
-    of (NotListed x) h = listed-refusal x (of-export x (h .0)) (h .1)
+    of (NotListed x) h = listed-refusal x 26 (omega arith) (h .0) (h .1)
 
 -- Every answer of a check of a listing comes back, 19 too.
 pub unpacked-listing : (b : List ℕ) (buffers : List (List ℕ))
@@ -322,9 +317,9 @@ unpacked-export b buffers =
     conversion-back (exportAnswer b buffers)
     (short-fits (tooShort export-lengths buffers) (exportedAs b (exportCheckOf b)) (of (exportCheckOf b) refl (export-bounds b)))
   where
-    of : (a : ListingAnswer) → exportCheckOf b ≡ a → ExportBounds a → ConversionFits (exportedAs b a)
+    of : (a : ListingAnswer) → exportCheckOf b ≡ a → ListingBounds 28 a → ConversionFits (exportedAs b a)
     of (IsListed inputs gates outputs) e h = omega (arith, accepted-fits b e)
-    of (NotListed x) e h = listed-refusal x (h .0) (h .1)
+    of (NotListed x) e h = listed-refusal x 28 (omega arith) (h .0) (h .1)
 
 -- Every answer of an import comes back.
 pub unpacked-import : (text : List ℕ) (buffers : List (List ℕ))

@@ -53,24 +53,24 @@ broken-within (at-maker gates outs first makes) = let k = maker-within makes in 
 abbrev pub most-listed : ℕ
 most-listed = most-labels + most-gates + most-outputs
 
--- The refusals of a listing's bytes: 24, 25 and 26.
-abbrev pub OfListing : Refusal → Type 0
-OfListing (Form number place) = ⊥
-OfListing (Typing number place) = ⊥
-OfListing (Run number place) = (24 ≤ number) × (number ≤ 26)
+-- The refusals of an operation on listings, numbered from 24 to the last: for this check 24, 25 and 26.
+abbrev pub OfListing : ℕ → Refusal → Type 0
+OfListing last (Form number place) = ⊥
+OfListing last (Typing number place) = ⊥
+OfListing last (Run number place) = (24 ≤ number) × (number ≤ last)
 
 -- What an answer is bounded by.
-abbrev pub ListingBounds : ListingAnswer → Type 0
-ListingBounds (Accepted inputs gates outputs) = (inputs ≤ most-labels) × (gates ≤ most-gates) × (outputs ≤ most-outputs)
-ListingBounds (Refused x) = OfListing x × (refusalPlace x < most-listed)
+abbrev pub ListingBounds : ℕ → ListingAnswer → Type 0
+ListingBounds last (Accepted inputs gates outputs) = (inputs ≤ most-labels) × (gates ≤ most-gates) × (outputs ≤ most-outputs)
+ListingBounds last (Refused x) = OfListing last x × (refusalPlace x < most-listed)
 
 module _ (b : List ℕ) where
   -- Sizes that are not wrong are within their most.
-  sizes-within : (SizesWrong b → ⊥) → ListingBounds (Accepted (inputCount b) (gateCount b) (outputCount b))
+  sizes-within : (SizesWrong b → ⊥) → ListingBounds 26 (Accepted (inputCount b) (gateCount b) (outputCount b))
   sizes-within f =
       (at-most (λ h. f (many-inputs h)), at-most (λ h. f (many-gates h)), at-most (λ h. f (many-outputs h)))
 
-  judged-within : {a : ListingAnswer} → Judged b a → ListingBounds a
+  judged-within : {a : ListingAnswer} → Judged b a → ListingBounds 26 a
   judged-within (sizes-wrong h) = ((omega arith, omega arith), omega arith)
   judged-within (entry-wrong f first) =
       let s = sizes-within f in
@@ -85,7 +85,7 @@ module _ (b : List ℕ) where
       ((omega arith, omega arith), omega (arith, s .0, s .1, s .2, k, l, g, o))
   judged-within (all-right f n goes) = sizes-within f
 
-  pub listing-bounds : ListingBounds (listingCheckOf b)
+  pub listing-bounds : ListingBounds 26 (listingCheckOf b)
   listing-bounds = judged-within (listing-judged b)
 
 -- WHAT IS LONGER THAN THE LONGEST LISTING

@@ -8,11 +8,7 @@ use mathlib.Core.List.{List}
 use mathlib.Core.Option.{Option, none, some}
 use lib.Dec.{T as IsTrue}
 use borrow.Author.Tests.{not-true}
-use Rattle.rules.specs.Sizes.{most-labels, most-gates}
-use Rattle.refusals.specs.Refusals.{refusalPlace}
 use Rattle.refusals.specs.declared.Refusal.{Refusal}
-use Rattle.refusals.specs.declared.Refusal.the-variants.{Form, Typing, Run}
-use Rattle.listing.specs.Listing.{most-outputs}
 use Rattle.listing.specs.Reading.{inputCount, gateCount, entryCount, kindAt, firstGates, gatesOf}
 use Rattle.wire_table.specs.Wires.{firstWhere}
 use Rattle.wire_table.specs.WireRules.{NoSuch}
@@ -21,7 +17,7 @@ use Rattle.listing_check.specs.declared.ListingAnswer.{ListingAnswer}
 use Rattle.listing_check.specs.declared.ListingAnswer.the-variants.{Accepted, Refused}
 use Rattle.listing_check.specs.Answers.{listingCheckOf}
 use Rattle.listing_check.specs.Laws.Judging.{Judged, sizes-wrong, entry-wrong, wires-wrong, all-right, listing-judged}
-use Rattle.listing_check.specs.Laws.Places.{most-listed, ListingBounds, listing-bounds}
+use Rattle.listing_check.specs.Laws.Places.{ListingBounds, listing-bounds}
 use Rattle.openqasm.specs.Layout.{hasStatement, AllWritten}
 use Rattle.openqasm_export.specs.Answers.{isUnwritten, firstUnwritten, statementsJudged, exportCheckOf}
 
@@ -107,21 +103,11 @@ module _ (b : List ℕ) where
   refused-too e = ap (λ a. statementsJudged a (firstUnwritten b)) e
 
 -- The refusals of a listing that is to be exported have numbers from 24 to 28.
-abbrev pub OfExport : Refusal → Type 0
-OfExport (Form number place) = ⊥
-OfExport (Typing number place) = ⊥
-OfExport (Run number place) = (24 ≤ number) × (number ≤ 28)
-
--- What an answer is bounded by.
-abbrev pub ExportBounds : ListingAnswer → Type 0
-ExportBounds (Accepted inputs gates outputs) = (inputs ≤ most-labels) × (gates ≤ most-gates) × (outputs ≤ most-outputs)
-ExportBounds (Refused x) = OfExport x × (refusalPlace x < most-listed)
-
-pub export-bounds : (b : List ℕ) → ExportBounds (exportCheckOf b)
+pub export-bounds : (b : List ℕ) → ListingBounds 28 (exportCheckOf b)
 unfolding exportCheckOf
 export-bounds b = of (listing-judged b) (listing-bounds b) (firstUnwritten b) (unwritten-found b)
   where
-    of : {a : ListingAnswer} → Judged b a → ListingBounds a → (o : Option ℕ) → Finds (Unwritten b) o → ExportBounds (statementsJudged a o)
+    of : {a : ListingAnswer} → Judged b a → ListingBounds 26 a → (o : Option ℕ) → Finds (Unwritten b) o → ListingBounds 28 (statementsJudged a o)
     of (sizes-wrong h) s o found = ((omega arith, omega arith), s .1)
     of (entry-wrong f first) s o found = ((omega arith, omega arith), s .1)
     of (wires-wrong f n broken) s o found = ((omega arith, omega arith), s .1)

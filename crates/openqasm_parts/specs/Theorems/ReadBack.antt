@@ -43,34 +43,30 @@ gate-known p i known older =
     let many : length (wiresTaken p i) ≡ wiresIn (i .kind) = omega (arith, length-take (wiresIn (i .kind)) read) in
     (known, many, older)
 
--- So are all, however many are read at most.
-known-within : (a b c : ℕ) (text : List ℕ) → KnownGates (readWithin a b c text .gates)
-known-within a b c text =
-    items-keep isOutput withOutput known (λ p w k. k) c _
-    (items-keep isGate withGate known (λ p. gate-known p (itemIn (p .rest))) b _
-    (items-keep isInput withInput known (λ p w k. k) a (begun text) tt))
+-- What holds of no gate, and of one gate more than it holds of, holds of all that are read, however many these are at most.
+gates-within : (Of : List Gate → Type 0)
+    → ((p : Parts) → IsTrue (isGate (itemIn (p .rest) .kind)) → Of (p .gates) → Of (withGate p (itemIn (p .rest)) .gates))
+    → Of []
+    → (a b c : ℕ) (text : List ℕ) → Of (readWithin a b c text .gates)
+gates-within Of more of-none a b c text =
+    items-keep isOutput withOutput kept (λ p w k. k) c _
+    (items-keep isGate withGate kept more b _
+    (items-keep isInput withInput kept (λ p w k. k) a (begun text) of-none))
   where
-    known : Parts → Type 0
-    known p = KnownGates (p .gates)
+    kept : Parts → Type 0
+    kept p = Of (p .gates)
 
 -- Every gate that is read from a text is known.
 pub parts-known : (text : List ℕ) → KnownGates (partsRead text .gates)
 unfolding partsRead
-parts-known text = known-within most-labels most-gates most-outputs text
+parts-known text =
+    gates-within KnownGates (λ p. gate-known p (itemIn (p .rest))) tt most-labels most-gates most-outputs text
 
 -- Every gate that is read has a statement: no text gives Init or Discard.
-written-within : (a b c : ℕ) (text : List ℕ) → AllWritten (readWithin a b c text .gates)
-written-within a b c text =
-    items-keep isOutput withOutput written (λ p w k. k) c _
-    (items-keep isGate withGate written (λ p w k. (item-written (p .rest), k)) b _
-    (items-keep isInput withInput written (λ p w k. k) a (begun text) tt))
-  where
-    written : Parts → Type 0
-    written p = AllWritten (p .gates)
-
 pub parts-written : (text : List ℕ) → AllWritten (partsRead text .gates)
 unfolding partsRead
-parts-written text = written-within most-labels most-gates most-outputs text
+parts-written text =
+    gates-within AllWritten (λ p w k. (item-written (p .rest), k)) tt most-labels most-gates most-outputs text
 
 -- At most as many parts are read as are asked for.
 module _ (a b c : ℕ) (text : List ℕ) where
