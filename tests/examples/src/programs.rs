@@ -133,7 +133,7 @@ fn toffoli() -> Named {
     boxed_three(["a", "b", "t"], then(actions, result))
 }
 
-/// What follows may use it by its name.
+/// The Toffoli gate under its name in what follows.
 fn with_toffoli(rest: Named) -> Named {
     define(
         "t inverse",

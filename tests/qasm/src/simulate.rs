@@ -235,15 +235,16 @@ fn of_listing(listing: &Listing, inputs: &[bool]) -> State<u16> {
             6 => state.measure(&first, &first),
             7 => state.gate("x", &second, Some((&first, true))),
             8 => state.gate("z", &second, Some((&first, true))),
-            9 => state.come(&next),
+            9 => {}
             10 => state.go(&first),
             kind => panic!("no gate {kind}"),
         }
         let made = gate.as_gate().map_or(0, |gate| gate.makes.len());
         for &wire in &gate.slots[..made] {
-            // What Init makes has its name already.
-            if wire != NO_WIRE {
-                state.rename(&wire, &next);
+            // A wire that is made from none, by Init, comes.
+            match wire {
+                NO_WIRE => state.come(&next),
+                wire => state.rename(&wire, &next),
             }
             next += 1;
         }

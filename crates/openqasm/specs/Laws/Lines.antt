@@ -8,6 +8,7 @@ use lib.Dec.{eqb}
 use lib.ListN.{getD}
 use borrow.Author.Tests.{ne-eqb}
 use Rattle.rules.specs.Types.{Wire, Qubit}
+use Rattle.rules.specs.Gates.{Init, Discard}
 use Rattle.listing.specs.Reading.{inputType}
 use Rattle.text.specs.Text.{ascii, decimal}
 use Rattle.text.specs.Writing.{Puts}
@@ -58,7 +59,7 @@ no-line (suc (suc (suc (suc (suc (suc (suc (suc (suc (suc zero)))))))))) rs h = 
 no-line (suc (suc (suc (suc (suc (suc (suc (suc (suc (suc (suc n))))))))))) rs h = refl
 
 -- Which gates have no statement, by their numbers.
-pub statement-told : (n : ℕ) → hasStatement n ≡ not (eqb n 9) && not (eqb n 10)
+pub statement-told : (n : ℕ) → hasStatement n ≡ not (eqb n Init) && not (eqb n Discard)
 unfolding hasStatement
 statement-told zero = refl
 statement-told (suc zero) = refl
@@ -73,7 +74,7 @@ statement-told (suc (suc (suc (suc (suc (suc (suc (suc (suc zero))))))))) = refl
 statement-told (suc (suc (suc (suc (suc (suc (suc (suc (suc (suc zero)))))))))) = refl
 statement-told (suc (suc (suc (suc (suc (suc (suc (suc (suc (suc (suc n))))))))))) =
     let m = suc (suc (suc (suc (suc (suc (suc (suc (suc (suc (suc n)))))))))) in
-    sym (ap₂ (λ s t. not s && not t) (ne-eqb m 9 (λ e. omega arith)) (ne-eqb m 10 (λ e. omega arith)))
+    sym (ap₂ (λ s t. not s && not t) (ne-eqb m Init (λ e. omega arith)) (ne-eqb m Discard (λ e. omega arith)))
 
 -- The declarations of a Qubit are written.
 pub puts-qubit : (k : ℕ) {t₀ t₁ t₂ t₃ : List ℕ} {at₀ at₁ at₂ at₃ : ℕ}
