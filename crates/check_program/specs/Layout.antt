@@ -18,7 +18,7 @@ use Rattle.check_types.specs.GateCells.{gateCells}
 use Rattle.check_program.specs.Checking.{Binder, _under_}
 use Rattle.rules.specs.Sizes.{most-labels, most-terms}
 
--- The first quadword of the scope: there are never as many cells (48 of Bit, Qubit, unit and the gates, 512 of the file's types,
+-- The first quadword of the scope: there are never as many cells (59 of Bit, Qubit, unit and the gates, 512 of the file's types,
 -- 2,048 of nodes).
 abbrev pub most-cells : ℕ
 most-cells = 2700

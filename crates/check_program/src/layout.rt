@@ -7,9 +7,9 @@ use rules::sizes::MOST_LABELS;
 use rules::sizes::MOST_TERMS;
 
 // How many cells the gates' types take, with Bit, Qubit and unit: the first cell of the file's types.
-pub const GATE_CELLS: usize = 48;
+pub const GATE_CELLS: usize = 59;
 
-// The first quadword of the scope: fewer cells than this are ever made (48 + 512 + 2,048).
+// The first quadword of the scope: fewer cells than this are ever made (59 + 512 + 2,048).
 pub const SCOPE: usize = 2700;
 
 // The labels' bindings, as many as a file can have labels; the first binder's binding is behind them.

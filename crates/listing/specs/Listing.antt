@@ -5,7 +5,7 @@ use lib.ListN.{length}
 use Rattle.rules.specs.Types.{Wire, Bit, Qubit}
 use Rattle.rules.specs.Terms.{Tuple, labels, Gate, _on_}
 use Rattle.rules.specs.Circuits.{Circuit, circuit}
-use Rattle.rules.specs.Slots.{no-wire}
+use Rattle.rules.specs.Slots.{no-wire, gate-slots}
 use Rattle.rules.specs.Sizes.{most-labels, most-gates}
 
 -- 16 bits, "low byte first".
@@ -21,9 +21,9 @@ inputKind Qubit = 129
 abbrev pub gateKind : Gate → ℕ
 gateKind (n on ws) = n
 
--- "pairs of 16-bit slots": so many slots has an entry.
+-- 02, ticket 6: "Every listing entry now has three slots".
 abbrev pub entry-slots : ℕ
-entry-slots = 2
+entry-slots = gate-slots
 
 -- "slots for wires taken (65,535 where none)": so many slots, with wires in their order.
 abbrev pub slots : ℕ → List ℕ → List ℕ
@@ -51,7 +51,7 @@ sizes I gs outs = length I ∷ length gs ∷ length outs ∷ []
 abbrev pub kinds : List Wire → List Gate → List ℕ
 kinds I gs = map inputKind I ++ map gateKind (oldestFirst gs)
 
--- "L+G pairs of 16-bit slots".
+-- "L+G pairs of 16-bit slots", where 02's ticket 6 has three for a pair.
 abbrev pub allSlots : List Wire → List Gate → List ℕ
 allSlots I gs = flatMap inputSlots I ++ flatMap gateSlots (oldestFirst gs)
 
@@ -66,7 +66,7 @@ listingBytes I gs outs =
 abbrev pub listing : Circuit → Tuple → List ℕ
 listing (circuit I gs) r = listingBytes I gs (labels r)
 
--- "Length: 6 + 5(L+G) + 2O".
+-- 02, ticket 6: "the length is 6 + 7(L+G) + 2O".
 abbrev pub listingLength : ℕ → ℕ → ℕ → ℕ
 listingLength L G O = 6 + (1 + 2 * entry-slots) * (L + G) + 2 * O
 
@@ -74,6 +74,6 @@ listingLength L G O = 6 + (1 + 2 * entry-slots) * (L + G) + 2 * O
 abbrev pub most-outputs : ℕ
 most-outputs = 256
 
--- "at most 11,078".
+-- "at most 15,302".
 abbrev pub most-bytes : ℕ
 most-bytes = listingLength most-labels most-gates most-outputs

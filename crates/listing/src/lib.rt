@@ -23,7 +23,7 @@ pub const BIT_INPUT: usize = 128;
 pub const QUBIT_INPUT: usize = 129;
 
 // How many slots for wires an entry has, an input or a gate.
-pub const ENTRY_SLOTS: usize = 2;
+pub const ENTRY_SLOTS: usize = 3;
 
 // How many bytes an entry takes: its kind and its slots.
 pub const ENTRY_BYTES: usize = 1 + 2 * ENTRY_SLOTS;

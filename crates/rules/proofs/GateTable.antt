@@ -2,8 +2,8 @@
 -- `at-each` turns the test into the rule for every number. Assumes nothing.
 use Prim.Native.Nat.{ℕ, zero, suc, _≤_, _<_}
 use native.Mathlib.Omega.{arith}
-use mathlib.Core.Path.{_≡_, refl, sym, _∙_, ap}
-use mathlib.Core.Bool.{Bool, _&&_}
+use mathlib.Core.Path.{_≡_, refl, sym, _∙_, ap, subst}
+use mathlib.Core.Bool.{Bool, true, _&&_}
 use mathlib.Core.List.{List, [], _∷_, map}
 use mathlib.Core.Option.{Option, none, some}
 use lib.Dec.{T as IsTrue, leb, ltb, leb→le, leb·zero, leb·suc-zero, leb·suc-suc}
@@ -49,14 +49,43 @@ filled-at (suc k) (c ∷ codes) (suc i) h = filled-at k codes i (omega arith)
 abbrev rowOf : Option GateType → List ℕ
 rowOf g = filled most-type (circCodes g)
 
--- The code's table at a gate and a place, and what there is elsewhere.
-pub code-inside : (n i : ℕ)
+-- The code's rows, the types of these gates, and which of them each gate has.
+abbrev pub rows : List (List ℕ)
+rows = map (λ n. rowOf (gateType n)) (0 ∷ 5 ∷ 6 ∷ 7 ∷ 9 ∷ 10 ∷ 11 ∷ [])
+
+abbrev pub typeOfGate : List ℕ
+typeOfGate = 0 ∷ 0 ∷ 0 ∷ 0 ∷ 0 ∷ 1 ∷ 2 ∷ 3 ∷ 3 ∷ 4 ∷ 5 ∷ 6 ∷ []
+
+-- Which row a gate has, looked up at a gate: one of the rows, and that of the gate.
+row-at : (which : List ℕ) (n : ℕ)
+    → n < length which → getD (map (λ k. getD rows k []) which) n [] ≡ getD rows (getD which n 0) []
+row-at [] n h = absurd (omega arith)
+row-at (k ∷ which) zero h = refl
+row-at (k ∷ which) (suc n) h = row-at which n (omega arith)
+
+abbrev allBelow : ℕ → List ℕ → Bool
+allBelow m [] = true
+allBelow m (k ∷ ks) = ltb k m && allBelow m ks
+
+below-at : (m : ℕ) (ks : List ℕ) → IsTrue (allBelow m ks) → (n : ℕ) → n < length ks → getD ks n 0 < m
+below-at m [] t n h = absurd (omega arith)
+below-at m (k ∷ ks) t zero h = leb→le (suc k) m (and-left (ltb k m) (allBelow m ks) t)
+below-at m (k ∷ ks) t (suc n) h = below-at m ks (and-right (ltb k m) (allBelow m ks) t) n (omega arith)
+
+pub is-row : (n k : ℕ) → k ≡ getD typeOfGate n 0 → n < length gateTable → k < length rows
+is-row n k at below = subst (λ k. k < length rows) (sym at) (below-at (length rows) typeOfGate tt n below)
+
+-- The code's rows at a gate and a place, and what there is elsewhere.
+pub code-inside : (n i k : ℕ)
+    → k ≡ getD typeOfGate n 0
     → n < length gateTable
     → i < most-type
-    → getD (getD (map (λ g. rowOf (some g)) gateTable) n []) i 0 ≡ typeCode n i
+    → getD (getD rows k []) i 0 ≡ typeCode n i
 unfolding typeCode
-code-inside n i h k =
-    ap (λ r. getD r i 0) (entry-at rowOf [] gateTable n h) ∙ filled-at most-type (circCodes (gateType n)) i k
+code-inside n i k at below inside =
+    ap (λ r. getD r i 0)
+    (ap (λ k. getD rows k []) at ∙ sym (row-at typeOfGate n below) ∙ entry-at rowOf [] gateTable n below)
+    ∙ filled-at most-type (circCodes (gateType n)) i inside
 
 pub no-such-gate : (n i : ℕ) → length gateTable ≤ n → 255 ≡ typeCode n i
 unfolding typeCode

@@ -13,6 +13,7 @@ pub data GateType : Type 0 where
 infix 50 _to_
 -- 01: "0 H, 1 X, 2 Z, 3 S, 4 T: Qubit to Qubit. 5 CNOT: a pair of Qubits to the same. 6 Meas: Qubit to Bit.
 -- 7 BX, 8 BZ: a pair of Bit and Qubit to the same." 02, ticket 5: "gates 9 Init, unit to Qubit, and 10 Discard, Bit to unit".
+-- Ticket 6: "Gate 11, CCX, takes and gives a pair of a Qubit and a pair of Qubits."
 abbrev pub gateTable : List GateType
 gateTable =
     (wire Qubit to wire Qubit)
@@ -26,14 +27,18 @@ gateTable =
     ∷ (wire Bit ⊗ wire Qubit to wire Bit ⊗ wire Qubit)
     ∷ (unit to wire Qubit)
     ∷ (wire Bit to unit)
+    ∷ (wire Qubit ⊗ (wire Qubit ⊗ wire Qubit) to wire Qubit ⊗ (wire Qubit ⊗ wire Qubit))
     ∷ []
 
--- The last two by name: "9 Init", "10 Discard".
+-- The last three by name: "9 Init", "10 Discard", "Gate 11, CCX".
 abbrev pub Init : ℕ
 Init = 9
 
 abbrev pub Discard : ℕ
 Discard = 10
+
+abbrev pub CCX : ℕ
+CCX = 11
 
 -- What stands at a place of a list, if anything.
 abbrev pub nth : {A : Type 0} → List A → ℕ → Option A

@@ -5,6 +5,6 @@ use Prim.Native.Nat.{ℕ}
 abbrev pub no-wire : ℕ
 no-wire = 65535
 
--- The most wires that a gate may take or make, and so how many slots it has in memory; the gates have at most two.
+-- 02, ticket 6: "Every listing entry now has three slots". No gate takes or makes more wires, and a gate in memory has as many slots.
 abbrev pub gate-slots : ℕ
 gate-slots = 3

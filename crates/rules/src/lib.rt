@@ -12,53 +12,51 @@ ghost use Rattle.rules.specs.Gates.{wiresIn, wiresOut};
 ghost use Rattle.rules.specs.GateCodes.{takenCode, madeCode, typeEntries, typeCode};
 ghost use Rattle.rules.specs.Gates.{isGate};
 
-// How many gates there are, and the most entries of a gate's type.
-pub const GATES: usize = 11;
+// How many gates there are, how many types they have, and the most entries of such a type.
+pub const GATES: usize = 12;
 
-const MOST_TYPE: usize = 7;
+const GATE_TYPES: usize = 7;
+
+const MOST_TYPE: usize = 11;
 
 // The code where there is no entry or no gate.
 const NONE: u8 = 255;
 
 // How many wires each gate takes, how many it makes, and how many entries its type has. The compiled code builds a constant
 // table at each lookup, so the numbers that are asked for often stand in small tables of their own.
-const WIRES_IN: [u8; GATES] = [1, 1, 1, 1, 1, 2, 1, 2, 2, 0, 1];
+const WIRES_IN: [u8; GATES] = [1, 1, 1, 1, 1, 2, 1, 2, 2, 0, 1, 3];
 
-const WIRES_OUT: [u8; GATES] = [1, 1, 1, 1, 1, 2, 1, 2, 2, 1, 0];
+const WIRES_OUT: [u8; GATES] = [1, 1, 1, 1, 1, 2, 1, 2, 2, 1, 0, 3];
 
-const TYPE_ENTRIES: [u8; GATES] = [3, 3, 3, 3, 3, 7, 3, 7, 7, 3, 3];
+const TYPE_ENTRIES: [u8; GATES] = [3, 3, 3, 3, 3, 7, 3, 7, 7, 3, 3, 11];
 
 // The types of the wires that each gate takes and makes, in one number: digits of base 4, that of the first wire the lowest, 1 for
 // Bit and 2 for Qubit. One lookup gives all of them.
-const TAKEN_CODES: [u8; GATES] = [2, 2, 2, 2, 2, 10, 2, 9, 9, 0, 1];
+const TAKEN_CODES: [u8; GATES] = [2, 2, 2, 2, 2, 10, 2, 9, 9, 0, 1, 42];
 
-const MADE_CODES: [u8; GATES] = [2, 2, 2, 2, 2, 10, 1, 9, 9, 2, 0];
+const MADE_CODES: [u8; GATES] = [2, 2, 2, 2, 2, 10, 1, 9, 9, 2, 0, 42];
 
-// The type of each gate in preorder, by 01's type section: 0 Bit, 1 Qubit, 2 pair, 5 circuit; 6 unit.
-const TYPE_CODES: [[u8; MOST_TYPE]; GATES] = [
-    // 0 H
-    [5, 1, 1, NONE, NONE, NONE, NONE],
-    // 1 X
-    [5, 1, 1, NONE, NONE, NONE, NONE],
-    // 2 Z
-    [5, 1, 1, NONE, NONE, NONE, NONE],
-    // 3 S
-    [5, 1, 1, NONE, NONE, NONE, NONE],
-    // 4 T
-    [5, 1, 1, NONE, NONE, NONE, NONE],
-    // 5 CNOT
-    [5, 2, 1, 1, 2, 1, 1],
-    // 6 Meas
-    [5, 1, 0, NONE, NONE, NONE, NONE],
-    // 7 BX
-    [5, 2, 0, 1, 2, 0, 1],
-    // 8 BZ
-    [5, 2, 0, 1, 2, 0, 1],
-    // 9 Init
-    [5, 6, 1, NONE, NONE, NONE, NONE],
-    // 10 Discard
-    [5, 0, 6, NONE, NONE, NONE, NONE],
+// The types that gates have, in preorder, by 01's type section: 0 Bit, 1 Qubit, 2 pair, 5 circuit; 6 unit. A row for each gate
+// would make the table nearly twice as large.
+const TYPE_CODES: [[u8; MOST_TYPE]; GATE_TYPES] = [
+    // H, X, Z, S, T
+    [5, 1, 1, NONE, NONE, NONE, NONE, NONE, NONE, NONE, NONE],
+    // CNOT
+    [5, 2, 1, 1, 2, 1, 1, NONE, NONE, NONE, NONE],
+    // Meas
+    [5, 1, 0, NONE, NONE, NONE, NONE, NONE, NONE, NONE, NONE],
+    // BX, BZ
+    [5, 2, 0, 1, 2, 0, 1, NONE, NONE, NONE, NONE],
+    // Init
+    [5, 6, 1, NONE, NONE, NONE, NONE, NONE, NONE, NONE, NONE],
+    // Discard
+    [5, 0, 6, NONE, NONE, NONE, NONE, NONE, NONE, NONE, NONE],
+    // CCX
+    [5, 2, 1, 2, 1, 1, 2, 1, 2, 1, 1],
 ];
+
+// Which of them each gate has.
+const TYPE_OF_GATE: [u8; GATES] = [0, 0, 0, 0, 0, 1, 2, 3, 3, 4, 5, 6];
 
 // A byte as a number. Of `b[i] as usize` a proof would have to say that the byte fits.
 pub fn wide(x: u8) -> usize
@@ -107,7 +105,7 @@ pub fn type_code(n: usize, i: usize) -> u8
     ensures { λ r. ⌜ r ≡ typeCode n i ⌝ }
 {
     if n < GATES && i < MOST_TYPE {
-        TYPE_CODES[n][i]
+        TYPE_CODES[wide(TYPE_OF_GATE[n])][i]
     } else {
         NONE
     }

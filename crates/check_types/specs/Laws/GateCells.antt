@@ -29,7 +29,7 @@ unfolding typeEntries
 few-entries g =
     leb→le (length (circCodes (gateType g))) most-type (at-each (λ o. leb (length (circCodes o)) most-type) gateTable tt g)
 
-pub gate-start-small : (g : ℕ) → gateStart g ≤ 3 + 7 * g
+pub gate-start-small : (g : ℕ) → gateStart g ≤ 3 + most-type * g
 unfolding gateStart
 gate-start-small zero = omega arith
 gate-start-small (suc g) = omega (arith, gate-start-small g, few-entries g)
@@ -73,7 +73,7 @@ new-gate w g T U fits room e =
     let n = gateStart g in
     let k = typeEntries g in
     let size : k ≡ entries (Circ T U) = gate-entries g T U e in
-    let few : k ≤ 7 = few-entries g in
+    let few : k ≤ most-type = few-entries g in
     let place : n + (0 + k - 1 - 0) ≡ n + k - 1 = omega (arith, entries-positive (Circ T U)) in
     subst
     (λ j. Denotes (loadCodes w n (typeCode g) 0 k) (n + k) j (Circ T U))
@@ -206,7 +206,7 @@ gates-loaded w room =
       gate = λ g T U e. b .gate g T U (gate-number gateTable g (T to U) e) e;
     }
 
--- There are 48 of these cells.
-pub gate-cells : gateCells ≡ 48
+-- There are 59 of these cells.
+pub gate-cells : gateCells ≡ 59
 unfolding gateCells gateStart typeEntries
 gate-cells = refl

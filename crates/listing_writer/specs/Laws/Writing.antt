@@ -177,7 +177,7 @@ module _ (ws : List ℕ) (L : ℕ) (rs : List Quadword) (G : ℕ) where
       → l₁ ≡ over l 0 (flatMap bytesOf (L ∷ G ∷ found ∷ []))
       → l₂ ≡ over l₁ 6 (kindsRead ws L rs G)
       → l₃ ≡ over l₂ (6 + (L + G)) (slotsRead L rs G)
-      → l₄ ≡ over l₃ (6 + 5 * (L + G)) (flatMap bytesOf (outputsRead ns size))
+      → l₄ ≡ over l₃ (6 + (1 + 2 * entry-slots) * (L + G)) (flatMap bytesOf (outputsRead ns size))
       → l₄ ≡ over l 0 (listingRead ws L rs G ns size)
   parts-written ns size found l l₁ l₂ l₃ l₄ many h e₁ e₂ e₃ e₄ =
       let S = flatMap bytesOf (L ∷ G ∷ found ∷ []) in
@@ -187,9 +187,9 @@ module _ (ws : List ℕ) (L : ℕ) (rs : List Quadword) (G : ℕ) where
       let first : length S ≡ 6 = length-bytes (L ∷ G ∷ found ∷ []) in
       let last : length O ≡ found * 2 = length-bytes (outputsRead ns size) ∙ omega arith in
       let two : length (S ++ K) ≡ 6 + (L + G) = length-append S K ∙ ap₂ _+_ first kind-bytes in
-      let three : length ((S ++ K) ++ E) ≡ 6 + 5 * (L + G)
+      let three : length ((S ++ K) ++ E) ≡ 6 + (1 + 2 * entry-slots) * (L + G)
       = length-append (S ++ K) E ∙ omega (arith, slot-bytes L rs G) in
-      written-behind l l₃ l₄ 0 (6 + 5 * (L + G)) ((S ++ K) ++ E) O (omega arith) (omega arith)
+      written-behind l l₃ l₄ 0 (6 + (1 + 2 * entry-slots) * (L + G)) ((S ++ K) ++ E) O (omega arith) (omega arith)
       (written-behind l l₂ l₃ 0 (6 + (L + G)) (S ++ K) E (omega arith) (omega (arith, slot-bytes L rs G))
       (written-behind l l₁ l₂ 0 6 S K (omega arith) (omega (arith, kind-bytes)) e₁ e₂)
       e₃)

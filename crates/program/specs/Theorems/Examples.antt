@@ -57,12 +57,12 @@ pub wrong-term-kind : readOf (fileOf 1 1 1 (1 ∷ 0 ∷ 0 ∷ []) (0 ∷ 0 ∷ 0
 unfolding opened
 wrong-term-kind = refl
 
--- Label 1 in a file with one label, gate 11, an abstraction at position 1 of a type section with one entry.
+-- Label 1 in a file with one label, gate 12, an abstraction at position 1 of a type section with one entry.
 pub no-such-label : readOf (fileOf 1 0 1 (1 ∷ 17 ∷ []) (0 ∷ 1 ∷ [])) ≡ refused 5 1
 unfolding opened
 no-such-label = refl
 
-pub no-such-gate : readOf (fileOf 1 0 1 (1 ∷ 26 ∷ []) (0 ∷ 11 ∷ [])) ≡ refused 5 1
+pub no-such-gate : readOf (fileOf 1 0 1 (1 ∷ 26 ∷ []) (0 ∷ 12 ∷ [])) ≡ refused 5 1
 unfolding opened
 no-such-gate = refl
 
@@ -106,7 +106,7 @@ pub let-second-part : readOf (fileOf 1 0 3 (1 ∷ 21 ∷ 17 ∷ 16 ∷ []) (0 �
 unfolding opened
 let-second-part = refl
 
--- 02, ticket 5. Unit's value alone, in a file without labels and types; gates 9 and 10.
+-- 02, ticket 5. Unit's value alone, in a file without labels and types; gates 9 and 10. Ticket 6: gate 11.
 pub unit-alone : readOf (fileOf 0 0 1 (27 ∷ []) (0 ∷ [])) ≡ Accepted 0 0 1
 unfolding opened
 unit-alone = refl
@@ -118,6 +118,10 @@ init-alone = refl
 pub discard-alone : readOf (fileOf 0 0 1 (26 ∷ []) (10 ∷ [])) ≡ Accepted 0 0 1
 unfolding opened
 discard-alone = refl
+
+pub ccx-alone : readOf (fileOf 0 0 1 (26 ∷ []) (11 ∷ [])) ≡ Accepted 0 0 1
+unfolding opened
+ccx-alone = refl
 
 -- Unit is a wire type, alone and inside pairs: a box at unit; Circ from the pair of unit and Qubit to unit, and a box at that pair.
 pub box-at-unit : readOf (fileOf 0 1 4 (6 ∷ 24 ∷ 22 ∷ 18 ∷ 16 ∷ []) (0 ∷ 0 ∷ 0 ∷ 0 ∷ 0 ∷ [])) ≡ Accepted 0 1 4

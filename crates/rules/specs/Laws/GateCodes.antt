@@ -3,4 +3,4 @@ use Prim.Native.Nat.{ℕ}
 
 -- The most entries of a gate's type.
 abbrev pub most-type : ℕ
-most-type = 7
+most-type = 11
