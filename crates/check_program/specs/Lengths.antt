@@ -3,7 +3,7 @@ use Prim.Native.Nat.{ℕ}
 use mathlib.Core.List.{List, [], _∷_}
 use Rattle.rules.specs.Types.{most-entries}
 
--- 01: "The least output buffer is 11,078 bytes for a run and 512 for a check".
+-- 01: "The least output buffer is", for a check, 512 bytes.
 abbrev pub least-out : ℕ
 least-out = most-entries
 

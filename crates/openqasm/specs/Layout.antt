@@ -27,18 +27,19 @@ abbrev pub declaration : ℕ → Wire → List ℕ
 declaration k Bit = bitRegister k
 declaration k Qubit = joined (ascii "qreg q" ∷ decimal k ∷ ascii "[1];\n" ∷ bitRegister k ∷ [])
 
--- How a gate is written: a gate of qelib1.inc on one qubit, such as `h q0[0];`, or on two, `cx q0[0],q1[0];`; a measurement,
--- `measure q0[0] -> c0[0];`; a gate on a qubit under a bit, `if(c0==1) x q1[0];`. Or it is a gate for which the exchange format has no
--- word.
+-- How a gate is written: a gate of qelib1.inc on one qubit, such as `h q0[0];`, on two, `cx q0[0],q1[0];`, or on three,
+-- `ccx q0[0],q1[0],q2[0];`; a measurement, `measure q0[0] -> c0[0];`; a gate on a qubit under a bit, `if(c0==1) x q1[0];`. Or it is a
+-- gate for which the exchange format has no word.
 pub data Statement : Type 0 where
   on-one : String → Statement
   on-two : String → Statement
+  on-three : String → Statement
   measurement : Statement
   under-bit : String → Statement
   unwritten : Statement
 
 -- "gates use the names of qelib1.inc, Meas `measure`, BX and BZ an `if` on that bit": H, X, Z, S, T, CNOT, Meas, BX, BZ. 02, ticket 5:
--- "The exchange format has no word for a dropped bit, so export refuses both gates": Init, Discard.
+-- "The exchange format has no word for a dropped bit, so export refuses both gates": Init, Discard. Ticket 6: "Export writes ccx."
 abbrev pub statements : List Statement
 statements =
     on-one "h"
@@ -52,6 +53,7 @@ statements =
     ∷ under-bit "z"
     ∷ unwritten
     ∷ unwritten
+    ∷ on-three "ccx"
     ∷ []
 
 -- Is it written, as far as it is a gate? What is no gate is refused before this is asked.
@@ -59,6 +61,7 @@ abbrev pub isWritten : Option Statement → Bool
 isWritten none = true
 isWritten (some (on-one name)) = true
 isWritten (some (on-two name)) = true
+isWritten (some (on-three name)) = true
 isWritten (some measurement) = true
 isWritten (some (under-bit name)) = true
 isWritten (some unwritten) = false
@@ -72,21 +75,23 @@ abbrev pub AllWritten : List Gate → Type 0
 AllWritten [] = Unit {0}
 AllWritten ((n on ws) ∷ gs) = IsTrue (hasStatement n) × AllWritten gs
 
--- The line of a gate whose wires are in register r and, if there is a second one, in register s.
-abbrev pub statementLine : Option Statement → ℕ → ℕ → List ℕ
-statementLine none r s = []
-statementLine (some (on-one name)) r s = joined (ascii name ∷ ascii " q" ∷ decimal r ∷ ascii "[0];\n" ∷ [])
-statementLine (some (on-two name)) r s =
+-- The line of a gate whose wires are in register r and, as far as there are more, in registers s and t.
+abbrev pub statementLine : Option Statement → ℕ → ℕ → ℕ → List ℕ
+statementLine none r s t = []
+statementLine (some (on-one name)) r s t = joined (ascii name ∷ ascii " q" ∷ decimal r ∷ ascii "[0];\n" ∷ [])
+statementLine (some (on-two name)) r s t =
     joined (ascii name ∷ ascii " q" ∷ decimal r ∷ ascii "[0],q" ∷ decimal s ∷ ascii "[0];\n" ∷ [])
-statementLine (some measurement) r s =
+statementLine (some (on-three name)) r s t =
+    joined (ascii name ∷ ascii " q" ∷ decimal r ∷ ascii "[0],q" ∷ decimal s ∷ ascii "[0],q" ∷ decimal t ∷ ascii "[0];\n" ∷ [])
+statementLine (some measurement) r s t =
     joined (ascii "measure q" ∷ decimal r ∷ ascii "[0] -> c" ∷ decimal r ∷ ascii "[0];\n" ∷ [])
-statementLine (some (under-bit name)) r s =
+statementLine (some (under-bit name)) r s t =
     joined (ascii "if(c" ∷ decimal r ∷ ascii "==1) " ∷ ascii name ∷ ascii " q" ∷ decimal s ∷ ascii "[0];\n" ∷ [])
-statementLine (some unwritten) r s = []
+statementLine (some unwritten) r s t = []
 
 -- A gate's line, by its number and the registers of the wires that it takes.
 unfoldable pub gateLine : ℕ → List ℕ → List ℕ
-gateLine n rs = statementLine (nth statements n) (getD rs 0 0) (getD rs 1 0)
+gateLine n rs = statementLine (nth statements n) (getD rs 0 0) (getD rs 1 0) (getD rs 2 0)
 
 -- The number of the register that each wire is in, by the wire's number: input k is in register k, and what a gate makes stays in
 -- the registers of what it takes, slot by slot. For a Qubit this is the qubit register of the number, for a Bit the bit register.
@@ -125,7 +130,7 @@ exportText I gs outs = header ++ (declarations 0 I ++ (gateLines I gs ++ outputL
 abbrev pub exportOf : List ℕ → List ℕ
 exportOf b = exportText (inputsOf b) (gatesOf b) (outputsOf b)
 
--- The most bytes of a line, in which registers have at most two digits: of a Qubit's two declarations, and of a measurement.
+-- The most bytes of a line, in which registers have at most two digits: of a Qubit's two declarations, and of a measurement or ccx.
 abbrev pub declaration-bytes : ℕ
 declaration-bytes = 26
 

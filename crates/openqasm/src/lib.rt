@@ -7,9 +7,9 @@ use refusals::Refusal;
 use text::put_byte;
 use text::put_bytes;
 use text::put_decimal;
-ghost use Prim.Native.Nat.{_≤_};
+ghost use Prim.Native.Nat.{ℕ, _≤_};
 ghost use mathlib.Core.Bool.{cond};
-ghost use mathlib.Core.List.{[], _∷_, _++_};
+ghost use mathlib.Core.List.{List, [], _∷_, _++_};
 ghost use lib.ListN.{getD};
 ghost use Rattle.rules.specs.Types.{Bit, Qubit};
 ghost use Rattle.listing.specs.Reading.{inputType};
@@ -17,7 +17,7 @@ ghost use Rattle.text.specs.Text.{ascii, decimal, spaced};
 ghost use Rattle.text.specs.Writing.{Puts};
 ghost use mathlib.Core.Path.{_≡_};
 ghost use Rattle.openqasm.specs.Layout.{header, bitRegister, declaration, hasStatement, gateLine, registerName};
-ghost use Rattle.openqasm.specs.Lines.{letters, oneLine, twoLine};
+ghost use Rattle.openqasm.specs.Lines.{letters, oneLine, twoLine, registerPair, threeLine};
 
 // What an export or an import answers: how many bytes it wrote, or a refusal.
 pub enum Conversion {
@@ -25,10 +25,12 @@ pub enum Conversion {
     Refused(Refusal),
 }
 
-// The gates for which OpenQASM has no word.
+// The gates for which OpenQASM has no word, and the gate on three qubits.
 const INIT: usize = 9;
 
 const DISCARD: usize = 10;
+
+const CCX: usize = 11;
 
 // The names of the gates on one qubit: H, X, Z, S, T.
 const LETTERS: [u8; 5] = [b'h', b'x', b'z', b's', b't'];
@@ -86,15 +88,31 @@ fn write_one(text: &mut [u8], at: usize, name: u8, r: usize) -> usize
     put_bytes(text, numbered, b"[0];\n")
 }
 
-// The line of a CNOT.
-fn write_cnot(text: &mut [u8], at: usize, r: usize, s: usize) -> usize
-    ensures { λ last. ⌜ Puts (now (text .entry)) at (twoLine (ascii "cx q") r (ascii "[0],q") s) (now (text .exit)) last ⌝ }
+// Two registers, and the end of the line.
+fn write_pair(text: &mut [u8], at: usize, r: usize, s: usize) -> usize
+    ensures { λ last. ⌜ Puts (now (text .entry)) at (registerPair r s) (now (text .exit)) last ⌝ }
 {
-    let named = put_bytes(text, at, b"cx q");
-    let first = put_decimal(text, named, r);
+    let first = put_decimal(text, at, r);
     let parted = put_bytes(text, first, b"[0],q");
     let second = put_decimal(text, parted, s);
     put_bytes(text, second, b"[0];\n")
+}
+
+// The line of a CNOT.
+fn write_cnot(text: &mut [u8], at: usize, r: usize, s: usize) -> usize
+    ensures { λ last. ⌜ Puts (now (text .entry)) at (ascii "cx q" ++ registerPair r s) (now (text .exit)) last ⌝ }
+{
+    let named = put_bytes(text, at, b"cx q");
+    write_pair(text, named, r, s)
+}
+
+// The line of a CCX.
+fn write_ccx(text: &mut [u8], at: usize, r: usize, s: usize, t: usize) -> usize
+    ensures { λ last. ⌜ Puts (now (text .entry)) at (threeLine (ascii "ccx q") r s t) (now (text .exit)) last ⌝ }
+{
+    let first = put_named(text, at, b"ccx q", r);
+    let parted = put_bytes(text, first, b"[0],q");
+    write_pair(text, parted, s, t)
 }
 
 // The line of a measurement.
@@ -127,7 +145,7 @@ fn write_last(text: &mut [u8], at: usize, s: usize) -> usize
 // The line of BX or BZ.
 fn write_under_bit(text: &mut [u8], at: usize, gate: usize, r: usize, s: usize) -> usize
     requires { ⌜ (7 ≤ gate) × (gate ≤ 8) ⌝ }
-    ensures { λ last. ⌜ Puts (now (text .entry)) at (gateLine gate (r ∷ s ∷ [])) (now (text .exit)) last ⌝ }
+    ensures { λ last. ⌜ ((rs : List ℕ) → Puts (now (text .entry)) at (gateLine gate (r ∷ s ∷ rs)) (now (text .exit)) last) ⌝ }
 {
     let tested = write_test(text, at, r);
     if gate == 7 {
@@ -146,8 +164,8 @@ pub fn has_statement(gate: usize) -> bool
 }
 
 // The line of a gate whose wires are in these registers; nothing where it has no statement or there is no such gate.
-pub fn write_gate(text: &mut [u8], at: usize, gate: usize, r: usize, s: usize) -> usize
-    ensures { λ last. ⌜ Puts (now (text .entry)) at (gateLine gate (r ∷ s ∷ [])) (now (text .exit)) last ⌝ }
+pub fn write_gate(text: &mut [u8], at: usize, gate: usize, r: usize, s: usize, t: usize) -> usize
+    ensures { λ last. ⌜ Puts (now (text .entry)) at (gateLine gate (r ∷ s ∷ t ∷ [])) (now (text .exit)) last ⌝ }
 {
     if gate < 5 {
         return write_one(text, at, letter(gate), r);
@@ -160,6 +178,9 @@ pub fn write_gate(text: &mut [u8], at: usize, gate: usize, r: usize, s: usize) -
     }
     if gate < 9 {
         return write_under_bit(text, at, gate, r, s);
+    }
+    if gate == CCX {
+        return write_ccx(text, at, r, s, t);
     }
     at
 }

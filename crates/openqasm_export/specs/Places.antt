@@ -2,11 +2,11 @@
 use Prim.Native.Nat.{ℕ, _+_, _*_, _/_}
 use mathlib.Core.Path.{_≡_}
 use mathlib.Core.Bool.{cond}
-use mathlib.Core.List.{List, [], _∷_, _++_}
+use mathlib.Core.List.{List, [], _∷_, _++_, map}
 use lib.Dec.{eqb}
-use lib.ListN.{getD, take}
+use lib.ListN.{getD}
 use Rattle.rules.specs.Types.{Wire, wireCode}
-use Rattle.rules.specs.Gates.{gateOutputs, wiresOut}
+use Rattle.rules.specs.Gates.{gateOutputs}
 use Rattle.rules.specs.Terms.{Gate}
 use Rattle.rules.specs.Circuits.{outputs}
 use Rattle.openqasm.specs.Layout.{registersOf}
@@ -30,5 +30,5 @@ abbrev pub retyped : ℕ → ℕ → ℕ
 retyped place code = 2 * (place / 2) + cond (eqb code 2) 1 0
 
 -- The bytes of the wires that a gate makes, by the bytes of those that it takes.
-abbrev pub keptPlaces : ℕ → ℕ → ℕ → List ℕ
-keptPlaces gate first second = placeBytes (take (wiresOut gate) (first / 2 ∷ second / 2 ∷ [])) (gateOutputs gate)
+abbrev pub keptPlaces : ℕ → List ℕ → List ℕ
+keptPlaces gate places = placeBytes (map (λ p. p / 2) places) (gateOutputs gate)

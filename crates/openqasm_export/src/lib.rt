@@ -135,8 +135,9 @@ fn write_gates(listing: &[u8], table: &mut [u8], text: &mut [u8], at: usize) -> 
         let count = wires_in(gate);
         let first = place_at(listing, from, count, 0, table);
         let second = place_at(listing, from, count, 1, table);
-        here = write_gate(text, here, gate, first / 2, second / 2);
-        made = keep_places(gate, first, second, table, made);
+        let third = place_at(listing, from, count, 2, table);
+        here = write_gate(text, here, gate, first / 2, second / 2, third / 2);
+        made = keep_places(gate, first, second, third, table, made);
         from += 2 * ENTRY_SLOTS;
         i += 1;
     }

@@ -4,15 +4,17 @@ use rules::made_code;
 use wire_table::make_wire;
 use words::byte_at;
 use words::word_at;
-ghost use Prim.Native.Nat.{ℕ, _+_, _*_, _%_, _≤_, _<_};
+ghost use Prim.Native.Nat.{ℕ, _+_, _*_, _/_, _%_, _≤_, _<_};
 ghost use mathlib.Core.Path.{_≡_};
-ghost use mathlib.Core.List.{List, _++_, map};
-ghost use lib.ListN.{length, getD};
-ghost use Rattle.rules.specs.Types.{wireCode};
+ghost use mathlib.Core.List.{List, [], _∷_, _++_, map};
+ghost use lib.ListN.{length, getD, take};
+ghost use Rattle.rules.specs.Types.{Wire, wireCode};
 ghost use Rattle.rules.specs.Gates.{wiresOut};
+ghost use Rattle.rules.specs.GateCodes.{wiresCode};
 ghost use Rattle.words.specs.Numbers.{wordsAt};
+ghost use Rattle.listing.specs.Listing.{entry-slots};
 ghost use Rattle.listing.specs.Reading.{inputType};
-ghost use Rattle.openqasm_export.specs.Places.{Begins, retyped, keptPlaces};
+ghost use Rattle.openqasm_export.specs.Places.{placeBytes, Begins, retyped, keptPlaces};
 
 // The place of input k, by its kind.
 pub(crate) fn input_place(kind: usize, k: usize) -> u8
@@ -33,7 +35,7 @@ pub(crate) fn place_at(
     slot: usize,
     table: &[u8],
 ) -> usize
-    requires { ⌜ (from < 134217728) × (slot < 2) ⌝ }
+    requires { ⌜ (from < 134217728) × (slot < entry-slots) ⌝ }
     ensures { λ r. ⌜ r ≡ getD (map (λ w. getD (now (table .entry)) w 0) (wordsAt (now (listing .entry)) from count)) slot 0 ⌝ }
     ensures { λ r. ⌜ r < 256 ⌝ }
 {
@@ -54,31 +56,45 @@ fn retype(place: usize, code: usize) -> u8
     (2 * (place / 2)) as u8
 }
 
+// The first of the wires whose types have this code, if there is one, stays in the register of a place; it gets this number. The
+// answer is the number of the next wire.
+fn keep_place(codes: usize, place: usize, table: &mut [u8], made: usize) -> usize
+    requires { ⌜ (place < 256) × (made < 134217730) ⌝ }
+    ensures { λ r. ⌜ ((αs : List Wire) → codes ≡ wiresCode αs → r ≡ made + length (take 1 αs)) × (r ≤ made + 1) ⌝ }
+    ensures { λ r. ⌜ ((αs : List Wire) (bytes : List ℕ)
+        → codes ≡ wiresCode αs
+        → Begins (now (table .entry)) bytes
+        → made ≡ length bytes
+        → made < length (now (table .entry))
+        → Begins (now (table .exit)) (bytes ++ placeBytes (place / 2 ∷ []) (take 1 αs))) ⌝ }
+{
+    if codes == 0 {
+        return made;
+    }
+    make_wire(table, made, retype(place, codes % 4));
+    made + 1
+}
+
 // The wires that a gate makes stay in the registers of those that it takes, whose places are given; the first one gets this number.
 // The answer is the number of the next wire.
 pub(crate) fn keep_places(
     gate: usize,
     first: usize,
     second: usize,
+    third: usize,
     table: &mut [u8],
     made: usize,
 ) -> usize
-    requires { ⌜ (first < 256) × (second < 256) × (made < 134217728) ⌝ }
+    requires { ⌜ (first < 256) × (second < 256) × (third < 256) × (made < 134217728) ⌝ }
     ensures { λ r. ⌜ r ≡ made + wiresOut gate ⌝ }
     ensures { λ r. ⌜ ((bytes : List ℕ)
         → Begins (now (table .entry)) bytes
         → made ≡ length bytes
-        → made + 2 ≤ length (now (table .entry))
-        → Begins (now (table .exit)) (bytes ++ keptPlaces gate first second)) ⌝ }
+        → made + entry-slots ≤ length (now (table .entry))
+        → Begins (now (table .exit)) (bytes ++ keptPlaces gate (first ∷ second ∷ third ∷ []))) ⌝ }
 {
     let codes = made_code(gate);
-    if codes == 0 {
-        return made;
-    }
-    make_wire(table, made, retype(first, codes % 4));
-    if codes < 4 {
-        return made + 1;
-    }
-    make_wire(table, made + 1, retype(second, codes / 4 % 4));
-    made + 2
+    let one = keep_place(codes, first, table, made);
+    let two = keep_place(codes / 4, second, table, one);
+    keep_place(codes / 4 / 4, third, table, two)
 }

@@ -10,7 +10,8 @@ use Rattle.rules.specs.Terms.{Tuple, labels, Gate, _on_}
 use Rattle.rules.specs.Circuits.{Circuit, circuit, outputs, numbers}
 use Rattle.text.specs.Text.{ascii, decimal, line, joined}
 
--- 01, "Gates": "0 H, 1 X, 2 Z, 3 S, 4 T", "5 CNOT", "6 Meas", "7 BX, 8 BZ". 02, ticket 5: "9 Init", "10 Discard".
+-- 01, "Gates": "0 H, 1 X, 2 Z, 3 S, 4 T", "5 CNOT", "6 Meas", "7 BX, 8 BZ". 02, ticket 5: "9 Init", "10 Discard";
+-- ticket 6: "Gate 11, CCX".
 abbrev pub gateNames : List (List ℕ)
 gateNames =
     ascii "H"
@@ -24,6 +25,7 @@ gateNames =
     ∷ ascii "BZ"
     ∷ ascii "Init"
     ∷ ascii "Discard"
+    ∷ ascii "CCX"
     ∷ []
 
 -- The most letters of a name.

@@ -1,4 +1,4 @@
-// The names of the gates (01, "Gates"; 02, ticket 5).
+// The names of the gates (01, "Gates"; 02, tickets 5 and 6).
 use text::put_byte;
 ghost use Prim.Native.Nat.{_+_, _<_};
 ghost use mathlib.Core.Path.{_≡_};
@@ -27,6 +27,7 @@ const NAMES: [[u8; COLUMNS]; rules::GATES] = [
     [2, b'B', b'Z', NONE, NONE, NONE, NONE, NONE],
     [4, b'I', b'n', b'i', b't', NONE, NONE, NONE],
     [7, b'D', b'i', b's', b'c', b'a', b'r', b'd'],
+    [3, b'C', b'C', b'X', NONE, NONE, NONE, NONE],
 ];
 
 // What stands in a column of a gate's row.

@@ -57,7 +57,7 @@ length-all-slots I gs =
       length-oldest gs,
     )
 
--- 01: "Length: 6 + 5(L+G) + 2O".
+-- 02, ticket 6: "the length is 6 + 7(L+G) + 2O".
 pub length-listing : (I : List Wire) (gs : List Gate) (outs : List ℕ)
     → length (listingBytes I gs outs) ≡ listingLength (length I) (length gs) (length outs)
 unfolding listingBytes
@@ -77,7 +77,7 @@ length-listing I gs outs =
       length-bytes outs,
     )
 
--- 01: "at most 11,078".
+-- "at most 15,302".
 pub listing-fits : (I : List Wire) (gs : List Gate) (outs : List ℕ)
     → length I ≤ most-labels
     → length gs ≤ most-gates

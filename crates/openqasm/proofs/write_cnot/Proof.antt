@@ -10,41 +10,16 @@ slice-aggregate-put-bytes c = search needs
 put-bytes-requires : tie.Need-put-bytes-requires
 put-bytes-requires c κs = search needs
 
-put-decimal-requires : tie.Need-put-decimal-requires
-put-decimal-requires c κs = search needs
-
-slice-aggregate-put-bytes-2 : tie.Need-slice-aggregate-put-bytes-2
-slice-aggregate-put-bytes-2 c = search needs
-
-put-bytes-requires-2 : tie.Need-put-bytes-requires-2
-put-bytes-requires-2 c κs = search needs
-
-put-decimal-requires-2 : tie.Need-put-decimal-requires-2
-put-decimal-requires-2 c κs = search needs
-
-slice-aggregate-put-bytes-3 : tie.Need-slice-aggregate-put-bytes-3
-slice-aggregate-put-bytes-3 c = search needs
-
-put-bytes-requires-3 : tie.Need-put-bytes-requires-3
-put-bytes-requires-3 c κs = search needs
+write-pair-requires : tie.Need-write-pair-requires
+write-pair-requires c κs = search needs
 
 same-length : tie.Need-same-length
 same-length c = search needs
 
 returns : tie.Need-returns
-returns c = puts-both (c .before .before .before .before .before .before .before .before .before .before .before .before .before .before .before .before .before .before .before .before .put-bytes .ensures) (puts-both (c .before .before .before .before .before .before .before .before .before .before .before .before .before .before .before .before .put-decimal .ensures) (puts-both (c .before .before .before .before .before .before .before .before .before .before .before .put-bytes2 .ensures) (puts-both (c .before .before .before .before .before .before .before .put-decimal2 .ensures) (c .before .before .put-bytes3 .ensures))))
+returns c = puts-both (c .before .before .before .before .before .before .put-bytes .ensures) (c .before .before .write-pair .ensures)
 
 pub write-cnot-spec : {M : Type 1} → statement M
 write-cnot-spec =
     tie.close
-    (tie.spec
-    slice-aggregate-put-bytes
-    put-bytes-requires
-    put-decimal-requires
-    slice-aggregate-put-bytes-2
-    put-bytes-requires-2
-    put-decimal-requires-2
-    slice-aggregate-put-bytes-3
-    put-bytes-requires-3
-    same-length
-    returns)
+    (tie.spec slice-aggregate-put-bytes put-bytes-requires write-pair-requires same-length returns)

@@ -26,7 +26,7 @@ same-length : tie.Need-same-length
 same-length c = search needs
 
 returns : tie.Need-returns
-returns c = let a = c .before .before .before .before .before .before .before .before .before .before .before .before .before .before .before .args in puts-same (gate-bx (a .r) (a .s) ∙ ap (λ n. gateLine n (a .r ∷ a .s ∷ [])) (sym (c .before .before .before .before .before .before .before .before .before .if1 .taken))) (puts-two (ascii "if(c") (ascii "==1) x q") (a .r) (a .s) (c .before .before .before .before .before .before .before .before .before .before .before .before .write-test .ensures) (c .before .before .before .before .before .before .put-bytes .ensures) (c .before .before .write-last .ensures))
+returns c rs = let a = c .before .before .before .before .before .before .before .before .before .before .before .before .before .before .before .args in puts-same (gate-bx (a .r) (a .s) rs ∙ ap (λ n. gateLine n (a .r ∷ a .s ∷ rs)) (sym (c .before .before .before .before .before .before .before .before .before .if1 .taken))) (puts-two (ascii "if(c") (ascii "==1) x q") (a .r) (a .s) (c .before .before .before .before .before .before .before .before .before .before .before .before .write-test .ensures) (c .before .before .before .before .before .before .put-bytes .ensures) (c .before .before .write-last .ensures))
 
 slice-aggregate-put-bytes-2 : tie.Need-slice-aggregate-put-bytes-2
 slice-aggregate-put-bytes-2 c = search needs
@@ -41,7 +41,7 @@ same-length-2 : tie.Need-same-length-2
 same-length-2 c = search needs
 
 returns-2 : tie.Need-returns-2
-returns-2 c = let a = c .before .before .before .before .before .before .before .before .before .before .before .before .before .before .before .args in let eight : 8 ≡ a .gate = omega (arith, c .before .before .before .before .before .before .before .before .before .if1 .left, c .before .before .before .before .before .before .before .before .before .before .before .before .before .before .before .pre) in puts-same (gate-bz (a .r) (a .s) ∙ ap (λ n. gateLine n (a .r ∷ a .s ∷ [])) eight) (puts-two (ascii "if(c") (ascii "==1) z q") (a .r) (a .s) (c .before .before .before .before .before .before .before .before .before .before .before .before .write-test .ensures) (c .before .before .before .before .before .before .put-bytes2 .ensures) (c .before .before .write-last2 .ensures))
+returns-2 c rs = let a = c .before .before .before .before .before .before .before .before .before .before .before .before .before .before .before .args in let eight : 8 ≡ a .gate = omega (arith, c .before .before .before .before .before .before .before .before .before .if1 .left, c .before .before .before .before .before .before .before .before .before .before .before .before .before .before .before .pre) in puts-same (gate-bz (a .r) (a .s) rs ∙ ap (λ n. gateLine n (a .r ∷ a .s ∷ rs)) eight) (puts-two (ascii "if(c") (ascii "==1) z q") (a .r) (a .s) (c .before .before .before .before .before .before .before .before .before .before .before .before .write-test .ensures) (c .before .before .before .before .before .before .put-bytes2 .ensures) (c .before .before .write-last2 .ensures))
 
 pub write-under-bit-spec : {M : Type 1} → statement M
 write-under-bit-spec =

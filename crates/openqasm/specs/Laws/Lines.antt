@@ -8,55 +8,60 @@ use lib.Dec.{eqb}
 use lib.ListN.{getD}
 use borrow.Author.Tests.{ne-eqb}
 use Rattle.rules.specs.Types.{Wire, Qubit}
-use Rattle.rules.specs.Gates.{Init, Discard}
+use Rattle.rules.specs.Gates.{Init, Discard, CCX}
 use Rattle.listing.specs.Reading.{inputType}
 use Rattle.text.specs.Text.{ascii, decimal}
 use Rattle.text.specs.Writing.{Puts}
 use Rattle.text.specs.Laws.Writing.{puts-both, puts-same}
-use Rattle.openqasm.specs.Lines.{letters, oneLine, twoLine}
+use Rattle.openqasm.specs.Lines.{letters, oneLine, twoLine, registerPair, threeLine}
 use Rattle.openqasm.specs.Layout.{bitRegister, declaration, hasStatement, gateLine}
 
--- The lines of the gates.
-pub gate-on-one : (n r s : ℕ) → n < 5 → oneLine (getD letters n 0) r ≡ gateLine n (r ∷ s ∷ [])
+-- The lines of the gates, whatever stands behind the registers that they need.
+pub gate-on-one : (n r : ℕ) (rs : List ℕ) → n < 5 → oneLine (getD letters n 0) r ≡ gateLine n (r ∷ rs)
 unfolding gateLine
-gate-on-one zero r s h = refl
-gate-on-one (suc zero) r s h = refl
-gate-on-one (suc (suc zero)) r s h = refl
-gate-on-one (suc (suc (suc zero))) r s h = refl
-gate-on-one (suc (suc (suc (suc zero)))) r s h = refl
-gate-on-one (suc (suc (suc (suc (suc n))))) r s h = absurd (omega arith)
+gate-on-one zero r rs h = refl
+gate-on-one (suc zero) r rs h = refl
+gate-on-one (suc (suc zero)) r rs h = refl
+gate-on-one (suc (suc (suc zero))) r rs h = refl
+gate-on-one (suc (suc (suc (suc zero)))) r rs h = refl
+gate-on-one (suc (suc (suc (suc (suc n))))) r rs h = absurd (omega arith)
 
-pub gate-cnot : (r s : ℕ) → twoLine (ascii "cx q") r (ascii "[0],q") s ≡ gateLine 5 (r ∷ s ∷ [])
+pub gate-cnot : (r s : ℕ) (rs : List ℕ) → ascii "cx q" ++ registerPair r s ≡ gateLine 5 (r ∷ s ∷ rs)
 unfolding gateLine
-gate-cnot r s = refl
+gate-cnot r s rs = refl
 
-pub gate-measured : (r s : ℕ) → twoLine (ascii "measure q") r (ascii "[0] -> c") r ≡ gateLine 6 (r ∷ s ∷ [])
+pub gate-measured : (r : ℕ) (rs : List ℕ) → twoLine (ascii "measure q") r (ascii "[0] -> c") r ≡ gateLine 6 (r ∷ rs)
 unfolding gateLine
-gate-measured r s = refl
+gate-measured r rs = refl
 
-pub gate-bx : (r s : ℕ) → twoLine (ascii "if(c") r (ascii "==1) x q") s ≡ gateLine 7 (r ∷ s ∷ [])
+pub gate-bx : (r s : ℕ) (rs : List ℕ) → twoLine (ascii "if(c") r (ascii "==1) x q") s ≡ gateLine 7 (r ∷ s ∷ rs)
 unfolding gateLine
-gate-bx r s = refl
+gate-bx r s rs = refl
 
-pub gate-bz : (r s : ℕ) → twoLine (ascii "if(c") r (ascii "==1) z q") s ≡ gateLine 8 (r ∷ s ∷ [])
+pub gate-bz : (r s : ℕ) (rs : List ℕ) → twoLine (ascii "if(c") r (ascii "==1) z q") s ≡ gateLine 8 (r ∷ s ∷ rs)
 unfolding gateLine
-gate-bz r s = refl
+gate-bz r s rs = refl
+
+pub gate-ccx : (r s t : ℕ) → threeLine (ascii "ccx q") r s t ≡ gateLine CCX (r ∷ s ∷ t ∷ [])
+unfolding gateLine
+gate-ccx r s t = append-assoc (ascii "ccx q") (decimal r) (ascii "[0],q" ++ registerPair s t)
 
 -- Init and Discard have no line, and a number that is no gate has none.
-pub no-line : (n : ℕ) (rs : List ℕ) → 9 ≤ n → gateLine n rs ≡ []
+pub no-line : (n : ℕ) (rs : List ℕ) → 9 ≤ n → (n ≡ CCX → ⊥) → gateLine n rs ≡ []
 unfolding gateLine
-no-line zero rs h = absurd (omega arith)
-no-line (suc zero) rs h = absurd (omega arith)
-no-line (suc (suc zero)) rs h = absurd (omega arith)
-no-line (suc (suc (suc zero))) rs h = absurd (omega arith)
-no-line (suc (suc (suc (suc zero)))) rs h = absurd (omega arith)
-no-line (suc (suc (suc (suc (suc zero))))) rs h = absurd (omega arith)
-no-line (suc (suc (suc (suc (suc (suc zero)))))) rs h = absurd (omega arith)
-no-line (suc (suc (suc (suc (suc (suc (suc zero))))))) rs h = absurd (omega arith)
-no-line (suc (suc (suc (suc (suc (suc (suc (suc zero)))))))) rs h = absurd (omega arith)
-no-line (suc (suc (suc (suc (suc (suc (suc (suc (suc zero))))))))) rs h = refl
-no-line (suc (suc (suc (suc (suc (suc (suc (suc (suc (suc zero)))))))))) rs h = refl
-no-line (suc (suc (suc (suc (suc (suc (suc (suc (suc (suc (suc n))))))))))) rs h = refl
+no-line zero rs h other = absurd (omega arith)
+no-line (suc zero) rs h other = absurd (omega arith)
+no-line (suc (suc zero)) rs h other = absurd (omega arith)
+no-line (suc (suc (suc zero))) rs h other = absurd (omega arith)
+no-line (suc (suc (suc (suc zero)))) rs h other = absurd (omega arith)
+no-line (suc (suc (suc (suc (suc zero))))) rs h other = absurd (omega arith)
+no-line (suc (suc (suc (suc (suc (suc zero)))))) rs h other = absurd (omega arith)
+no-line (suc (suc (suc (suc (suc (suc (suc zero))))))) rs h other = absurd (omega arith)
+no-line (suc (suc (suc (suc (suc (suc (suc (suc zero)))))))) rs h other = absurd (omega arith)
+no-line (suc (suc (suc (suc (suc (suc (suc (suc (suc zero))))))))) rs h other = refl
+no-line (suc (suc (suc (suc (suc (suc (suc (suc (suc (suc zero)))))))))) rs h other = refl
+no-line (suc (suc (suc (suc (suc (suc (suc (suc (suc (suc (suc zero))))))))))) rs h other = absurd (other refl)
+no-line (suc (suc (suc (suc (suc (suc (suc (suc (suc (suc (suc (suc n)))))))))))) rs h other = refl
 
 -- Which gates have no statement, by their numbers.
 pub statement-told : (n : ℕ) → hasStatement n ≡ not (eqb n Init) && not (eqb n Discard)
@@ -72,8 +77,9 @@ statement-told (suc (suc (suc (suc (suc (suc (suc zero))))))) = refl
 statement-told (suc (suc (suc (suc (suc (suc (suc (suc zero)))))))) = refl
 statement-told (suc (suc (suc (suc (suc (suc (suc (suc (suc zero))))))))) = refl
 statement-told (suc (suc (suc (suc (suc (suc (suc (suc (suc (suc zero)))))))))) = refl
-statement-told (suc (suc (suc (suc (suc (suc (suc (suc (suc (suc (suc n))))))))))) =
-    let m = suc (suc (suc (suc (suc (suc (suc (suc (suc (suc (suc n)))))))))) in
+statement-told (suc (suc (suc (suc (suc (suc (suc (suc (suc (suc (suc zero))))))))))) = refl
+statement-told (suc (suc (suc (suc (suc (suc (suc (suc (suc (suc (suc (suc n)))))))))))) =
+    let m = suc (suc (suc (suc (suc (suc (suc (suc (suc (suc (suc (suc n))))))))))) in
     sym (ap₂ (λ s t. not s && not t) (ne-eqb m Init (λ e. omega arith)) (ne-eqb m Discard (λ e. omega arith)))
 
 -- The declarations of a Qubit are written.

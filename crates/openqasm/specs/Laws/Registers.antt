@@ -29,7 +29,8 @@ as-many (suc (suc (suc (suc (suc (suc (suc zero))))))) written = refl
 as-many (suc (suc (suc (suc (suc (suc (suc (suc zero)))))))) written = refl
 as-many (suc (suc (suc (suc (suc (suc (suc (suc (suc zero))))))))) written = absurd written
 as-many (suc (suc (suc (suc (suc (suc (suc (suc (suc (suc zero)))))))))) written = absurd written
-as-many (suc (suc (suc (suc (suc (suc (suc (suc (suc (suc (suc n))))))))))) written = refl
+as-many (suc (suc (suc (suc (suc (suc (suc (suc (suc (suc (suc zero))))))))))) written = refl
+as-many (suc (suc (suc (suc (suc (suc (suc (suc (suc (suc (suc (suc n)))))))))))) written = refl
 
 -- Each gate has as many wires as its number says.
 abbrev pub AllCounted : List Gate → Type 0

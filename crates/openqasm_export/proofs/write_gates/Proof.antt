@@ -1,6 +1,6 @@
 -- `openqasm_export::write_gates` meets its contract. Assumes nothing.
 use borrow.Author.Needs.{needs}
-use Prim.Native.Nat.{_+_, _-_, _/_, _≤_, _<_}
+use Prim.Native.Nat.{ℕ, _+_, _-_, _/_, _≤_, _<_}
 use native.Mathlib.Omega.{arith}
 use mathlib.Core.Path.{_≡_, refl, _∙_, ap, ap₂, subst}
 use mathlib.Core.List.{[], _∷_, _++_, map}
@@ -8,6 +8,7 @@ use lib.ListN.{length, getD}
 use Rattle.rules.specs.Gates.{wiresIn, wiresOut}
 use Rattle.words.specs.Numbers.{wordsAt}
 use Rattle.text.specs.Writing.{Puts}
+use Rattle.listing.specs.Listing.{entry-slots}
 use Rattle.listing.specs.Reading.{inputCount, gateCount, kindAt, slotsFrom, inputsOf, firstGates}
 use Rattle.listing_check.specs.Laws.Wires.{few-made}
 use Rattle.openqasm.specs.Layout.{gateLine}
@@ -62,46 +63,52 @@ place-at-requires c κs = (omega (arith, c .before .before .before .before .loop
 place-at-requires-2 : tie.Need-place-at-requires-2 Inv-loop μ-loop
 place-at-requires-2 c κs = (omega (arith, c .before .before .before .before .before .before .loop .inv .3, c .before .before .before .before .before .loop-test .taken, c .before .before .before .before .before .before .before .before .before .input-count .ensures, c .before .before .before .before .before .before .before .before .gate-count .ensures), omega arith)
 
+place-at-requires-3 : tie.Need-place-at-requires-3 Inv-loop μ-loop
+place-at-requires-3 c κs = (omega (arith, c .before .before .before .before .before .before .before .before .loop .inv .3, c .before .before .before .before .before .before .before .loop-test .taken, c .before .before .before .before .before .before .before .before .before .before .before .input-count .ensures, c .before .before .before .before .before .before .before .before .before .before .gate-count .ensures), omega arith)
+
 write-gate-requires : tie.Need-write-gate-requires Inv-loop μ-loop
 write-gate-requires c κs = search needs
 
 keep-places-requires : tie.Need-keep-places-requires Inv-loop μ-loop
-keep-places-requires c κs = (c .before .before .before .before .before .before .before .place-at .ensures .1, c .before .before .before .before .before .place-at2 .ensures .1, omega (arith, c .before .before .before .before .before .before .before .before .before .before .before .before .loop .inv .4 .made-is, few-made (c .before .before .before .before .before .before .before .before .before .before .before .before .before .before .before .before .before .before .before .args .listing .now) (c .before .before .before .before .before .before .before .before .before .before .before .before .loop .i), c .before .before .before .before .before .before .before .before .before .before .before .loop-test .taken, c .before .before .before .before .before .before .before .before .before .before .before .before .before .before .before .input-count .ensures, c .before .before .before .before .before .before .before .before .before .before .before .before .before .before .gate-count .ensures))
+keep-places-requires c κs = (c .before .before .before .before .before .before .before .before .before .place-at .ensures .1, c .before .before .before .before .before .before .before .place-at2 .ensures .1, c .before .before .before .before .before .place-at3 .ensures .1, omega (arith, c .before .before .before .before .before .before .before .before .before .before .before .before .before .before .loop .inv .4 .made-is, few-made (c .before .before .before .before .before .before .before .before .before .before .before .before .before .before .before .before .before .before .before .before .before .args .listing .now) (c .before .before .before .before .before .before .before .before .before .before .before .before .before .before .loop .i), c .before .before .before .before .before .before .before .before .before .before .before .before .before .loop-test .taken, c .before .before .before .before .before .before .before .before .before .before .before .before .before .before .before .before .before .input-count .ensures, c .before .before .before .before .before .before .before .before .before .before .before .before .before .before .before .before .gate-count .ensures))
 
 mul-from : tie.Need-mul-from Inv-loop μ-loop
 mul-from c = search needs
 
 add-from : tie.Need-add-from Inv-loop μ-loop
-add-from c = search (needs, c .before .before .before .before .before .before .before .before .before .before .before .before .before .before .before .loop .inv .3, c .before .before .before .before .before .before .before .before .before .before .before .before .before .before .loop-test .taken, c .before .before .before .before .before .before .before .before .before .before .before .before .before .before .before .before .before .before .input-count .ensures, c .before .before .before .before .before .before .before .before .before .before .before .before .before .before .before .before .before .gate-count .ensures)
+add-from c = search (needs, c .before .before .before .before .before .before .before .before .before .before .before .before .before .before .before .before .before .loop .inv .3, c .before .before .before .before .before .before .before .before .before .before .before .before .before .before .before .before .loop-test .taken, c .before .before .before .before .before .before .before .before .before .before .before .before .before .before .before .before .before .before .before .before .input-count .ensures, c .before .before .before .before .before .before .before .before .before .before .before .before .before .before .before .before .before .before .before .gate-count .ensures)
 
 add-i : tie.Need-add-i Inv-loop μ-loop
-add-i c = search (needs, c .before .before .before .before .before .before .before .before .before .before .before .before .before .before .loop-test .taken)
+add-i c = search (needs, c .before .before .before .before .before .before .before .before .before .before .before .before .before .before .before .before .loop-test .taken)
 
 loop-less : tie.Need-loop-less Inv-loop μ-loop
-loop-less c = omega (arith, c .before .before .before .before .before .before .before .before .before .before .before .before .before .before .loop-test .taken)
+loop-less c = omega (arith, c .before .before .before .before .before .before .before .before .before .before .before .before .before .before .before .before .loop-test .taken)
 
 loop-again : tie.Need-loop-again Inv-loop μ-loop
 loop-again c =
-    let a = c .before .before .before .before .before .before .before .before .before .before .before .before .before .before .before .before .before .before .before .before .before .before .args in
+    let a = c .before .before .before .before .before .before .before .before .before .before .before .before .before .before .before .before .before .before .before .before .before .before .before .before .args in
     let b = a .listing .now in
-    let s = c .before .before .before .before .before .before .before .before .before .before .before .before .before .before .before .loop in
+    let s = c .before .before .before .before .before .before .before .before .before .before .before .before .before .before .before .before .before .loop in
     let w = s .inv .4 in
-    let p = c .before .before .before .before .before .before .before .before .before .before .before .before .before .before .before .before .before .before .before .before .before .before .pre .1 in
-    let kind : c .before .before .before .before .before .before .before .before .before .before .before .before .before .kind-at .result ≡ kindAt b (inputCount b + s .i) = c .before .before .before .before .before .before .before .before .before .before .before .before .before .kind-at .ensures .0 ∙ ap (λ n. kindAt b (n + s .i)) (c .before .before .before .before .before .before .before .before .before .before .before .before .before .before .before .before .before .before .input-count .ensures .0) in
-    let below : s .i < gateCount b = omega (arith, c .before .before .before .before .before .before .before .before .before .before .before .before .before .before .loop-test .taken, c .before .before .before .before .before .before .before .before .before .before .before .before .before .before .before .before .before .gate-count .ensures .0) in
+    let p = c .before .before .before .before .before .before .before .before .before .before .before .before .before .before .before .before .before .before .before .before .before .before .before .before .pre .1 in
+    let kind : c .before .before .before .before .before .before .before .before .before .before .before .before .before .before .before .kind-at .result ≡ kindAt b (inputCount b + s .i) = c .before .before .before .before .before .before .before .before .before .before .before .before .before .before .before .kind-at .ensures .0 ∙ ap (λ n. kindAt b (n + s .i)) (c .before .before .before .before .before .before .before .before .before .before .before .before .before .before .before .before .before .before .before .before .input-count .ensures .0) in
+    let below : s .i < gateCount b = omega (arith, c .before .before .before .before .before .before .before .before .before .before .before .before .before .before .before .before .loop-test .taken, c .before .before .before .before .before .before .before .before .before .before .before .before .before .before .before .before .before .before .before .gate-count .ensures .0) in
     let few = few-made b (s .i) in
-    let room : s .made + 2 ≤ length (s .table) = omega (arith, few, w .made-is, s .inv .1, p .room, p .few-inputs, p .few-gates, below) in
-    let counted = c .before .before .before .before .before .before .before .before .before .before .before .before .wires-in .ensures ∙ ap wiresIn kind in
-    let first = ap₂ (λ from n. getD (map (λ v. getD (s .table) v 0) (wordsAt b from n)) 0 0) (s .inv .3) counted in
-    let second = ap₂ (λ from n. getD (map (λ v. getD (s .table) v 0) (wordsAt b from n)) 1 0) (s .inv .3) counted in (
-      omega (arith, c .before .before .before .before .before .before .before .before .before .before .before .before .before .before .loop-test .taken),
-      c .before .before .keep-places .kept .1 .1 .1 .0 ∙ s .inv .1,
+    let room : s .made + entry-slots ≤ length (s .table) = omega (arith, few, w .made-is, s .inv .1, p .room, p .few-inputs, p .few-gates, below) in
+    let counted = c .before .before .before .before .before .before .before .before .before .before .before .before .before .before .wires-in .ensures ∙ ap wiresIn kind in
+    let slot : (k : ℕ) → _ = λ k. ap₂ (λ from n. getD (map (λ v. getD (s .table) v 0) (wordsAt b from n)) k 0) (s .inv .3) counted in
+    let first = c .before .before .before .before .before .before .before .before .before .before .before .before .place-at .result in
+    let second = c .before .before .before .before .before .before .before .before .before .before .place-at2 .result in
+    let third = c .before .before .before .before .before .before .before .before .place-at3 .result in
+    let table′ = c .before .before .keep-places .last .1 .1 .1 .1 .0 in (
+      omega (arith, c .before .before .before .before .before .before .before .before .before .before .before .before .before .before .before .before .loop-test .taken),
+      c .before .before .keep-places .kept .1 .1 .1 .1 .0 ∙ s .inv .1,
       c .before .before .before .before .before .before .write-gate .kept .0 ∙ s .inv .2,
       omega (arith, s .inv .3),
-      gate-next b (a .text .now) (a .at) w (c .before .before .before .before .before .before .before .before .before .before .place-at .result) (c .before .before .before .before .before .before .before .before .place-at2 .result) (c .before .before .before .before .before .before .before .before .before .before .place-at .ensures .0 ∙ first) (c .before .before .before .before .before .before .before .before .place-at2 .ensures .0 ∙ second) (c .before .before .keep-places .last .1 .1 .1 .0) (c .before .before .keep-places .result)
-          (subst (λ n. Puts (s .text) (s .here) (gateLine n (c .before .before .before .before .before .before .before .before .before .before .place-at .result / 2 ∷ c .before .before .before .before .before .before .before .before .place-at2 .result / 2 ∷ [])) (c .before .before .before .before .before .before .write-gate .last .0) (c .before .before .before .before .before .before .write-gate .result)) kind (c .before .before .before .before .before .before .write-gate .ensures))
+      gate-next b (a .text .now) (a .at) w first second third (c .before .before .before .before .before .before .before .before .before .before .before .before .place-at .ensures .0 ∙ slot 0) (c .before .before .before .before .before .before .before .before .before .before .place-at2 .ensures .0 ∙ slot 1) (c .before .before .before .before .before .before .before .before .place-at3 .ensures .0 ∙ slot 2) table′ (c .before .before .keep-places .result)
+          (subst (λ n. Puts (s .text) (s .here) (gateLine n (first / 2 ∷ second / 2 ∷ third / 2 ∷ [])) (c .before .before .before .before .before .before .write-gate .last .0) (c .before .before .before .before .before .before .write-gate .result)) kind (c .before .before .before .before .before .before .write-gate .ensures))
           (c .before .before .keep-places .ensures .0 ∙ ap (λ n. s .made + wiresOut n) kind)
-          (λ written. subst (λ n. Begins (c .before .before .keep-places .last .1 .1 .1 .0) (placesOf (inputsOf b) (firstGates b (s .i)) ++ keptPlaces n (c .before .before .before .before .before .before .before .before .before .before .place-at .result) (c .before .before .before .before .before .before .before .before .place-at2 .result))) kind
+          (λ written. subst (λ n. Begins table′ (placesOf (inputsOf b) (firstGates b (s .i)) ++ keptPlaces n (first ∷ second ∷ third ∷ []))) kind
           (c .before .before .keep-places .ensures .1 _ (w .placed written) (places-made b (a .text .now) (a .at) w written) room)),
     )
 
@@ -129,6 +136,7 @@ write-gates-spec =
     wires-in-requires
     place-at-requires
     place-at-requires-2
+    place-at-requires-3
     write-gate-requires
     keep-places-requires
     mul-from

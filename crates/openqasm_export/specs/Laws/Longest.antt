@@ -22,8 +22,8 @@ use Rattle.listing.specs.Reading.{gatesOf, outputsOf}
 use Rattle.wire_table.specs.WireRules.{GoesOnce}
 use Rattle.listing_check.specs.Meaning.{SoundListing}
 use Rattle.listing_check.specs.Laws.Judging.{sound-known, sound-read}
-use Rattle.openqasm.specs.Layout.{header, bitRegister, declaration, Statement, on-one, on-two, measurement, under-bit, statements}
-use Rattle.openqasm.specs.Layout.{unwritten, AllWritten, statementLine, gateLine, registersOf, declarations, gateLines}
+use Rattle.openqasm.specs.Layout.{header, bitRegister, declaration, Statement, on-one, on-two, on-three, measurement, statements}
+use Rattle.openqasm.specs.Layout.{under-bit, unwritten, AllWritten, statementLine, gateLine, registersOf, declarations, gateLines}
 use Rattle.openqasm.specs.Layout.{registerName, outputName, outputLine, exportText, exportOf, declaration-bytes, statement-bytes, most-text}
 use Rattle.openqasm.specs.Laws.Registers.{as-many, AllCounted, known-counted, length-numbers, registers-few, taken-few}
 
@@ -200,28 +200,30 @@ declarations-fit k (α ∷ I) few =
       declarations-fit (suc k) I (omega arith),
     )
 
--- The name of a gate has at most two letters.
+-- The name of a gate on three qubits has at most three letters, any other at most two.
 abbrev short : Statement → Bool
 short (on-one name) = leb (length (ascii name)) 2
 short (on-two name) = leb (length (ascii name)) 2
+short (on-three name) = leb (length (ascii name)) 3
 short measurement = true
 short (under-bit name) = leb (length (ascii name)) 2
 short unwritten = true
 
 -- A line with such a name has at most statement-bytes.
-statement-fits : (s : Statement) (r r′ : ℕ)
+statement-fits : (s : Statement) (r r′ r″ : ℕ)
     → IsTrue (short s)
     → r < most-labels
     → r′ < most-labels
-    → length (statementLine (some s) r r′) ≤ statement-bytes
-statement-fits (on-one name) r r′ few l l′ =
+    → r″ < most-labels
+    → length (statementLine (some s) r r′ r″) ≤ statement-bytes
+statement-fits (on-one name) r r′ r″ few l l′ l″ =
     omega (
       arith,
       length-joined (ascii name ∷ ascii " q" ∷ decimal r ∷ ascii "[0];\n" ∷ []),
       leb→le (length (ascii name)) 2 few,
       two-digits r l,
     )
-statement-fits (on-two name) r r′ few l l′ =
+statement-fits (on-two name) r r′ r″ few l l′ l″ =
     omega (
       arith,
       length-joined (ascii name ∷ ascii " q" ∷ decimal r ∷ ascii "[0],q" ∷ decimal r′ ∷ ascii "[0];\n" ∷ []),
@@ -229,13 +231,23 @@ statement-fits (on-two name) r r′ few l l′ =
       two-digits r l,
       two-digits r′ l′,
     )
-statement-fits measurement r r′ few l l′ =
+statement-fits (on-three name) r r′ r″ few l l′ l″ =
+    omega (
+      arith,
+      length-joined
+          (ascii name ∷ ascii " q" ∷ decimal r ∷ ascii "[0],q" ∷ decimal r′ ∷ ascii "[0],q" ∷ decimal r″ ∷ ascii "[0];\n" ∷ []),
+      leb→le (length (ascii name)) 3 few,
+      two-digits r l,
+      two-digits r′ l′,
+      two-digits r″ l″,
+    )
+statement-fits measurement r r′ r″ few l l′ l″ =
     omega (
       arith,
       length-joined (ascii "measure q" ∷ decimal r ∷ ascii "[0] -> c" ∷ decimal r ∷ ascii "[0];\n" ∷ []),
       two-digits r l,
     )
-statement-fits (under-bit name) r r′ few l l′ =
+statement-fits (under-bit name) r r′ r″ few l l′ l″ =
     omega (
       arith,
       length-joined (ascii "if(c" ∷ decimal r ∷ ascii "==1) " ∷ ascii name ∷ ascii " q" ∷ decimal r′ ∷ ascii "[0];\n" ∷ []),
@@ -243,16 +255,19 @@ statement-fits (under-bit name) r r′ few l l′ =
       two-digits r l,
       two-digits r′ l′,
     )
-statement-fits unwritten r r′ few l l′ = omega arith
+statement-fits unwritten r r′ r″ few l l′ l″ = omega arith
 
 -- So has the line of any number as a gate: what is no gate has none.
 gate-fits : (n : ℕ) (rs : List ℕ) → ((k : ℕ) → getD rs k 0 < most-labels) → length (gateLine n rs) ≤ statement-bytes
 unfolding gateLine
 gate-fits n rs few = of (nth statements n) refl
   where
-    of : (o : Option Statement) → nth statements n ≡ o → length (statementLine o (getD rs 0 0) (getD rs 1 0)) ≤ statement-bytes
+    of : (o : Option Statement)
+        → nth statements n ≡ o
+        → length (statementLine o (getD rs 0 0) (getD rs 1 0) (getD rs 2 0)) ≤ statement-bytes
     of none e = omega arith
-    of (some s) e = statement-fits s (getD rs 0 0) (getD rs 1 0) (every-nth short statements n e tt) (few 0) (few 1)
+    of (some s) e =
+        statement-fits s (getD rs 0 0) (getD rs 1 0) (getD rs 2 0) (every-nth short statements n e tt) (few 0) (few 1) (few 2)
 
 -- So has each gate of a listing.
 gates-fit : (I : List Wire) (gs : List Gate)

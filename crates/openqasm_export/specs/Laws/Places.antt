@@ -6,7 +6,7 @@ use mathlib.Core.Path.{_≡_, refl, sym, _∙_, ap, ap₂, subst}
 use mathlib.Core.Bool.{cond}
 use mathlib.Core.List.{List, [], _∷_, _++_, map, append-assoc, append-nil}
 use lib.Dec.{eqb}
-use lib.ListN.{length, getD, set, take, replicate, length-append, length-set}
+use lib.ListN.{length, getD, set, take, drop, replicate, length-append}
 use lib.Seq.{getD-set-same, getD-set-other}
 use borrow.Author.Tests.{eq-eqb, ne-eqb}
 use Rattle.rules.specs.Types.{Wire, Bit, Qubit, wireCode}
@@ -14,6 +14,7 @@ use Rattle.rules.specs.Gates.{gateOutputs, wiresOut}
 use Rattle.rules.specs.GateCodes.{wiresCode}
 use Rattle.words.specs.Numbers.{wordAt, wordsAt}
 use Rattle.wire_table.specs.Laws.Table.{first-of, none-of}
+use Rattle.listing.specs.Listing.{entry-slots}
 use Rattle.listing.specs.Laws.ReadBack.{made-fit}
 use Rattle.listing_check.specs.Laws.Answering.{cleared-table}
 use Rattle.openqasm_export.specs.Places.{placeBytes, Begins, retyped}
@@ -42,6 +43,11 @@ place-type [] (α ∷ αs) w same = absurd (omega arith)
 place-type (r ∷ rs) [] w same = absurd (omega arith)
 place-type (r ∷ rs) (α ∷ αs) zero same = type-of-code r α
 place-type (r ∷ rs) (α ∷ αs) (suc w) same = place-type rs αs w (omega arith)
+
+-- There are no places of no wire.
+pub of-no-type : (rs : List ℕ) → placeBytes rs [] ≡ []
+of-no-type [] = refl
+of-no-type (r ∷ rs) = refl
 
 -- Places of more wires stand behind.
 pub places-append : (rs ss : List ℕ) (αs βs : List Wire)
@@ -110,84 +116,84 @@ retyped-is : (place code : ℕ) (α : Wire) → code ≡ suc (wireCode α) → r
 retyped-is place code Bit e = ap (λ b. 2 * (place / 2) + cond b 1 0) (ne-eqb code 2 (λ two. absurd (omega arith)))
 retyped-is place code Qubit e = ap (λ b. 2 * (place / 2) + cond b 1 0) (eq-eqb code 2 e)
 
--- The places of wires of these types, in the registers of two places.
-abbrev keptAs : List Wire → ℕ → ℕ → List ℕ
-keptAs αs first second = placeBytes (take (length αs) (first / 2 ∷ second / 2 ∷ [])) αs
+-- Where the code of the types is 0, there is no wire to place.
+pub kept-none : {m : List ℕ} (codes place : ℕ) (αs : List Wire) (bytes : List ℕ)
+    → codes ≡ 0
+    → codes ≡ wiresCode αs
+    → Begins m bytes
+    → Begins m (bytes ++ placeBytes (place / 2 ∷ []) (take 1 αs))
+kept-none codes place [] bytes none are begun = begins-same (sym (append-nil bytes)) begun
+kept-none codes place (α ∷ αs) bytes none are begun = absurd (omega arith)
 
-module _ {m bytes : List ℕ} (first second made codes : ℕ)
-    (here : made ≡ length bytes)
-    (room : made + 2 ≤ length m)
-    (begun : Begins m bytes) where
-  pub kept-none : (αs : List Wire) → codes ≡ wiresCode αs → codes ≡ 0 → Begins m (bytes ++ keptAs αs first second)
-  kept-none αs are zero-codes =
-      let nothing : αs ≡ [] = none-of codes αs are (omega arith) in
-      begins-same (sym (ap (λ l. bytes ++ keptAs l first second) nothing ∙ append-nil bytes)) begun
+pub none-made : (codes : ℕ) (αs : List Wire) → codes ≡ 0 → codes ≡ wiresCode αs → length (take 1 αs) ≡ 0
+none-made codes [] none are = refl
+none-made codes (α ∷ αs) none are = absurd (omega arith)
 
-  pub kept-one : (αs : List Wire) (x : ℕ)
-      → codes ≡ wiresCode αs
-      → (codes ≡ 0 → ⊥)
-      → codes < 4
-      → x ≡ retyped first (codes % 4)
-      → Begins (set m made x) (bytes ++ keptAs αs first second)
-  kept-one αs x are some-code few is =
-      let f = first-of codes αs are (omega arith) in
-      let no-more : f .later ≡ [] = none-of (codes / 4) (f .later) (f .code-is) (omega arith) in
-      let all : αs ≡ f .first ∷ [] = f .split ∙ ap (λ l. f .first ∷ l) no-more in
-      begins-same
-      (ap (λ y. bytes ++ (y ∷ [])) (is ∙ retyped-is first (codes % 4) (f .first) (f .byte-is))
-      ∙ sym (ap (λ l. bytes ++ keptAs l first second) all))
-      (begins-more made x here (omega arith) begun)
+-- Else there is one, whose type is the code's lowest digit.
+pub kept-one : {m : List ℕ} (codes place made x : ℕ) (αs : List Wire) (bytes : List ℕ)
+    → 0 < codes
+    → x ≡ retyped place (codes % 4)
+    → codes ≡ wiresCode αs
+    → Begins m bytes
+    → made ≡ length bytes
+    → made < length m
+    → Begins (set m made x) (bytes ++ placeBytes (place / 2 ∷ []) (take 1 αs))
+kept-one codes place made x αs bytes some-code is are begun here room =
+    let f = first-of codes αs are some-code in
+    begins-same
+    (ap (λ y. bytes ++ (y ∷ [])) (is ∙ retyped-is place (codes % 4) (f .first) (f .byte-is))
+    ∙ sym (ap (λ l. bytes ++ placeBytes (place / 2 ∷ []) (take 1 l)) (f .split)))
+    (begins-more made x here room begun)
 
-  pub kept-two : (αs : List Wire) (x y : ℕ)
-      → codes ≡ wiresCode αs
-      → length αs ≤ 2
-      → 4 ≤ codes
-      → x ≡ retyped first (codes % 4)
-      → y ≡ retyped second (codes / 4 % 4)
-      → Begins (set (set m made x) (made + 1) y) (bytes ++ keptAs αs first second)
-  kept-two αs x y are few many is-x is-y =
-      let f = first-of codes αs are (omega arith) in
-      let g = first-of (codes / 4) (f .later) (f .code-is) (omega arith) in
-      let longer : length αs ≡ suc (suc (length (g .later))) = ap length (f .split) ∙ ap (λ l. suc (length l)) (g .split) in
-      let no-more : g .later ≡ [] = empty (g .later) (omega arith) in
-      let all : αs ≡ f .first ∷ g .first ∷ []
-      = f .split ∙ ap (λ l. f .first ∷ l) (g .split ∙ ap (λ l. g .first ∷ l) no-more) in
-      let two = x ∷ y ∷ [] in
-      begins-same
-      (append-assoc bytes (x ∷ []) (y ∷ [])
-      ∙ ap₂
-      (λ u v. bytes ++ (u ∷ v ∷ []))
-      (is-x ∙ retyped-is first (codes % 4) (f .first) (f .byte-is))
-      (is-y ∙ retyped-is second (codes / 4 % 4) (g .first) (g .byte-is))
-      ∙ sym (ap (λ l. bytes ++ keptAs l first second) all))
-      (begins-more (made + 1) y
-      (omega (arith, length-append bytes (x ∷ []), here))
-      (omega (arith, length-set m made x))
-      (begins-more made x here (omega arith) begun))
-    where
-      empty : (l : List Wire) → length l ≡ 0 → l ≡ []
-      empty [] e = refl
-      empty (α ∷ l) e = absurd (omega arith)
+pub length-kept : (place : ℕ) (αs : List Wire) (bytes : List ℕ)
+    → length (bytes ++ placeBytes (place / 2 ∷ []) (take 1 αs)) ≡ length bytes + length (take 1 αs)
+length-kept place [] bytes = length-append bytes []
+length-kept place (α ∷ αs) bytes = length-append bytes ((2 * (place / 2) + wireCode α) ∷ [])
 
--- No gate makes more than two wires.
-pub two-at-most : (n : ℕ) → length (gateOutputs n) ≤ 2
+pub one-made : (codes : ℕ) (αs : List Wire) → 0 < codes → codes ≡ wiresCode αs → length (take 1 αs) ≡ 1
+one-made codes αs some-code are = ap (λ l. length (take 1 l)) (first-of codes αs are some-code .split)
+
+-- The wires behind the first have the code without its lowest digit.
+pub quarter : (codes : ℕ) (αs : List Wire) → codes ≡ wiresCode αs → codes / 4 ≡ wiresCode (drop 1 αs)
+quarter codes [] are = omega arith
+quarter codes (α ∷ αs) are = omega (arith, code-below α)
+
+-- Places one by one are those of all.
+kept-split : (place : ℕ) (places : List ℕ) (αs : List Wire)
+    → placeBytes (place / 2 ∷ []) (take 1 αs) ++ placeBytes (map (λ p. p / 2) places) (drop 1 αs)
+    ≡ placeBytes (map (λ p. p / 2) (place ∷ places)) αs
+kept-split place places [] = of-no-type (map (λ p. p / 2) places)
+kept-split place places (α ∷ αs) = refl
+
+pub kept-all : (first second third : ℕ) (αs : List Wire) (bytes : List ℕ)
+    → ((bytes ++ placeBytes (first / 2 ∷ []) (take 1 αs)) ++ placeBytes (second / 2 ∷ []) (take 1 (drop 1 αs)))
+    ++ placeBytes (third / 2 ∷ []) (take 1 (drop 1 (drop 1 αs)))
+    ≡ bytes ++ placeBytes (map (λ p. p / 2) (first ∷ second ∷ third ∷ [])) αs
+kept-all first second third αs bytes =
+    let A = placeBytes (first / 2 ∷ []) (take 1 αs) in
+    let B = placeBytes (second / 2 ∷ []) (take 1 (drop 1 αs)) in
+    let C = placeBytes (third / 2 ∷ []) (take 1 (drop 1 (drop 1 αs))) in
+    append-assoc (bytes ++ A) B C
+    ∙ append-assoc bytes A (B ++ C)
+    ∙ ap (λ l. bytes ++ (A ++ l))
+    (ap (λ l. B ++ l) (sym (append-nil C) ∙ kept-split third [] (drop 1 (drop 1 αs)))
+    ∙ kept-split second (third ∷ []) (drop 1 αs))
+    ∙ ap (λ l. bytes ++ l) (kept-split first (second ∷ third ∷ []) αs)
+
+-- A gate makes at most as many wires as an entry has slots.
+pub all-made : (n : ℕ) → let αs = gateOutputs n in
+    length (take 1 αs) + length (take 1 (drop 1 αs)) + length (take 1 (drop 1 (drop 1 αs))) ≡ wiresOut n
 unfolding wiresOut
-two-at-most n = made-fit n
-
--- How many wires there are, by the code of their types.
-pub code-none : (codes : ℕ) (αs : List Wire) → codes ≡ wiresCode αs → codes ≡ 0 → length αs ≡ 0
-code-none codes αs are zero-codes = ap length (none-of codes αs are (omega arith))
-
-pub code-one : (codes : ℕ) (αs : List Wire) → codes ≡ wiresCode αs → (codes ≡ 0 → ⊥) → codes < 4 → length αs ≡ 1
-code-one codes αs are some-code few =
-    let f = first-of codes αs are (omega arith) in
-    ap length (f .split) ∙ ap suc (code-none (codes / 4) (f .later) (f .code-is) (omega arith))
-
-pub code-two : (codes : ℕ) (αs : List Wire) → codes ≡ wiresCode αs → length αs ≤ 2 → 4 ≤ codes → length αs ≡ 2
-code-two codes αs are few many =
-    let f = first-of codes αs are (omega arith) in
-    let g = first-of (codes / 4) (f .later) (f .code-is) (omega arith) in
-    omega (arith, ap length (f .split), ap length (g .split), few)
+all-made n = of (gateOutputs n) (made-fit n)
+  where
+    of : (αs : List Wire)
+        → length αs ≤ entry-slots
+        → length (take 1 αs) + length (take 1 (drop 1 αs)) + length (take 1 (drop 1 (drop 1 αs))) ≡ length αs
+    of [] few = refl
+    of (α ∷ []) few = refl
+    of (α ∷ β ∷ []) few = refl
+    of (α ∷ β ∷ γ ∷ []) few = refl
+    of (α ∷ β ∷ γ ∷ δ ∷ αs) few = absurd (omega arith)
 
 -- What a function gives for the words that are read, one by one.
 pub word-mapped : (f : ℕ → ℕ) (b : List ℕ) (n k from : ℕ) → k < n → getD (map f (wordsAt b from n)) k 0 ≡ f (wordAt b (from + 2 * k))

@@ -5,7 +5,7 @@ use mathlib.Core.Path.{_≡_, refl, sym, _∙_, ap, ap₂, subst}
 use mathlib.Core.Bool.{cond}
 use mathlib.Core.List.{List, [], _∷_, _++_, map, append-assoc, append-nil}
 use lib.Dec.{T as IsTrue, eqb}
-use lib.ListN.{length, getD, take, length-append, length-map}
+use lib.ListN.{length, getD, length-append, length-map}
 use Rattle.rules.specs.Types.{Wire, Bit, Qubit, wireCode}
 use Rattle.rules.specs.Gates.{gateOutputs, wiresIn, wiresOut, nth}
 use Rattle.rules.specs.Circuits.{numbers, outputs}
@@ -15,6 +15,8 @@ use Rattle.text.specs.Writing.{Puts}
 use Rattle.text.specs.Written.{Written}
 use Rattle.text.specs.Laws.Writing.{puts-none, puts-both, puts-same, puts-first}
 use Rattle.text.specs.Laws.Words.{spaced-append}
+use Rattle.listing.specs.Listing.{entry-slots}
+use Rattle.listing.specs.Laws.ReadBack.{made-fit}
 use Rattle.listing.specs.Reading.{inputCount, gateCount, outputCount, kindAt, inputType, inputsFrom, inputsOf, slotsFrom}
 use Rattle.listing.specs.Reading.{firstGates, gatesOf, outputsFrom, outputsOf}
 use Rattle.listing.specs.Laws.Decoding.{length-words, length-inputs}
@@ -23,8 +25,8 @@ use Rattle.openqasm.specs.Layout.{declaration, declarations, statements, hasSta
 use Rattle.openqasm.specs.Layout.{gateLines, registersOf, header, registerName, outputName, outputLine, exportText, exportOf}
 use Rattle.openqasm_export.specs.Places.{placeBytes, placesOf, Begins, keptPlaces}
 use Rattle.openqasm.specs.Laws.Registers.{as-many, first-counted, length-numbers, numbers-more, length-registers}
-use Rattle.openqasm_export.specs.Laws.Places.{place-register, place-type, places-append, length-places, two-at-most}
-use Rattle.openqasm_export.specs.Laws.Places.{begins-same}
+use Rattle.openqasm_export.specs.Laws.Places.{place-register, place-type, places-append, length-places}
+use Rattle.openqasm_export.specs.Laws.Places.{of-no-type, begins-same}
 
 -- THE INPUTS
 
@@ -110,12 +112,22 @@ halves f g half [] k = refl
 halves f g half (w ∷ ws) zero = half w
 halves f g half (w ∷ ws) (suc k) = halves f g half ws k
 
--- The first two of a list of at most two are all of it.
-two-are-all : (l : List ℕ) → length l ≤ 2 → take (length l) (getD l 0 0 ∷ getD l 1 0 ∷ []) ≡ l
-two-are-all [] few = refl
-two-are-all (x ∷ []) few = refl
-two-are-all (x ∷ y ∷ []) few = refl
-two-are-all (x ∷ y ∷ z ∷ l) few = absurd (omega arith)
+-- What a function gives from 0 on, so many numbers: the slots of an entry by their numbers.
+abbrev each : (ℕ → ℕ) → ℕ → List ℕ
+each f zero = []
+each f (suc k) = f 0 ∷ each (λ j. f (suc j)) k
+
+-- As many slots as there are, or more, give the places of as many types as there are wires.
+slots-placed : (l : List ℕ) (αs : List Wire) (k : ℕ)
+    → length αs ≡ length l
+    → length l ≤ k
+    → placeBytes (each (λ j. getD l j 0) k) αs ≡ placeBytes l αs
+slots-placed [] [] k same few = of-no-type (each (λ j. 0) k)
+slots-placed [] (α ∷ αs) k same few = absurd (omega arith)
+slots-placed (x ∷ l) [] k same few = absurd (omega arith)
+slots-placed (x ∷ l) (α ∷ αs) zero same few = absurd (omega arith)
+slots-placed (x ∷ l) (α ∷ αs) (suc k) same few =
+    ap (λ bytes. (2 * x + wireCode α) ∷ bytes) (slots-placed l αs k (omega arith) (omega arith))
 
 -- The first i gates are written, and the places of all wires made so far stand in the table, if each of these gates has a statement.
 pub record GatesWritten (b text₀ : List ℕ) (at : ℕ) (m text : List ℕ) (here made i : ℕ) : Type 0 where
@@ -155,9 +167,10 @@ module _ (b text₀ : List ℕ) (at : ℕ) where
     pub places-made : AllWritten (firstGates b i) → made ≡ length (placesOf (inputsOf b) (firstGates b i))
     places-made written = w .made-is ∙ sym (length-places registers types (same-count written))
 
-    module _ (first second : ℕ)
+    module _ (first second third : ℕ)
         (is-first : first ≡ getD (map (λ v. getD m v 0) ws) 0 0)
-        (is-second : second ≡ getD (map (λ v. getD m v 0) ws) 1 0) where
+        (is-second : second ≡ getD (map (λ v. getD m v 0) ws) 1 0)
+        (is-third : third ≡ getD (map (λ v. getD m v 0) ws) 2 0) where
       abbrev taken : List ℕ
       taken = map (λ v. getD registers v 0) ws
 
@@ -166,30 +179,29 @@ module _ (b text₀ : List ℕ) (at : ℕ) where
         half : (v : ℕ) → getD m v 0 / 2 ≡ getD registers v 0
         half v = ap (λ x. x / 2) (w .placed written .at-each v) ∙ place-register registers types v (same-count written)
 
-        first-taken : first / 2 ≡ getD taken 0 0
-        first-taken = ap (λ x. x / 2) is-first ∙ halves (λ v. getD m v 0) (λ v. getD registers v 0) half ws 0
+        slot-taken : (k place : ℕ) → place ≡ getD (map (λ v. getD m v 0) ws) k 0 → place / 2 ≡ getD taken k 0
+        slot-taken k place is = ap (λ x. x / 2) is ∙ halves (λ v. getD m v 0) (λ v. getD registers v 0) half ws k
 
-        second-taken : second / 2 ≡ getD taken 1 0
-        second-taken = ap (λ x. x / 2) is-second ∙ halves (λ v. getD m v 0) (λ v. getD registers v 0) half ws 1
+        slots-taken : first / 2 ∷ second / 2 ∷ third / 2 ∷ [] ≡ each (λ k. getD taken k 0) entry-slots
+        slots-taken =
+            ap₂ (λ x y. x ∷ y ∷ third / 2 ∷ []) (slot-taken 0 first is-first) (slot-taken 1 second is-second)
+            ∙ ap (λ z. getD taken 0 0 ∷ getD taken 1 0 ∷ z ∷ []) (slot-taken 2 third is-third)
 
-        line-is : gateLine n (first / 2 ∷ second / 2 ∷ []) ≡ gateLine n taken
+        line-is : gateLine n (first / 2 ∷ second / 2 ∷ third / 2 ∷ []) ≡ gateLine n taken
         unfolding gateLine
-        line-is = ap₂ (statementLine (nth statements n)) first-taken second-taken
+        line-is = ap (gateLine n) slots-taken
 
-        kept-are : IsTrue (hasStatement n) → keptPlaces n first second ≡ placeBytes taken (gateOutputs n)
+        kept-are : IsTrue (hasStatement n) → keptPlaces n (first ∷ second ∷ third ∷ []) ≡ placeBytes taken (gateOutputs n)
         unfolding wiresOut
         kept-are this =
             let long : length taken ≡ wiresIn n
             = length-map ws (λ v. getD registers v 0) ∙ length-words b (slotsFrom b (inputCount b + i)) (wiresIn n) in
             let counted : length (gateOutputs n) ≡ length taken = as-many n this ∙ sym long in
-            let few : length taken ≤ 2 = omega (arith, two-at-most n, counted) in
-            ap (λ l. placeBytes l (gateOutputs n))
-            (ap₂ (λ x y. take (length (gateOutputs n)) (x ∷ y ∷ [])) first-taken second-taken
-            ∙ ap (λ k. take k (getD taken 0 0 ∷ getD taken 1 0 ∷ [])) counted
-            ∙ two-are-all taken few)
+            ap (λ l. placeBytes l (gateOutputs n)) slots-taken
+            ∙ slots-placed taken (gateOutputs n) entry-slots counted (omega (arith, made-fit n, counted))
 
         places-are : IsTrue (hasStatement n)
-            → placesOf (inputsOf b) (firstGates b i) ++ keptPlaces n first second
+            → placesOf (inputsOf b) (firstGates b i) ++ keptPlaces n (first ∷ second ∷ third ∷ [])
             ≡ placesOf (inputsOf b) (firstGates b (suc i))
         places-are this =
             ap (λ l. placesOf (inputsOf b) (firstGates b i) ++ l) (kept-are this)
@@ -197,9 +209,9 @@ module _ (b text₀ : List ℕ) (at : ℕ) where
             ∙ ap (placeBytes (registers ++ taken)) (append-assoc (inputsOf b) (outputs (firstGates b i)) (gateOutputs n))
 
       pub gate-next : {text′ : List ℕ} {here′ : ℕ} (m′ : List ℕ) (made′ : ℕ)
-          → Puts text here (gateLine n (first / 2 ∷ second / 2 ∷ [])) text′ here′
+          → Puts text here (gateLine n (first / 2 ∷ second / 2 ∷ third / 2 ∷ [])) text′ here′
           → made′ ≡ made + wiresOut n
-          → (AllWritten (firstGates b i) → Begins m′ (placesOf (inputsOf b) (firstGates b i) ++ keptPlaces n first second))
+          → (AllWritten (firstGates b i) → Begins m′ (placesOf (inputsOf b) (firstGates b i) ++ keptPlaces n (first ∷ second ∷ third ∷ [])))
           → GatesWritten b text₀ at m′ text′ here′ made′ (i + 1)
       gate-next m′ made′ more is begun =
           let next : suc i ≡ i + 1 = omega arith in

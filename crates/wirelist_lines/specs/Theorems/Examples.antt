@@ -2,6 +2,7 @@
 use mathlib.Core.Path.{_≡_, refl}
 use mathlib.Core.List.{[], _∷_}
 use Rattle.rules.specs.Types.{Bit, Qubit}
+use Rattle.rules.specs.Gates.{Init, Discard, CCX}
 use Rattle.rules.specs.Terms.{single, empty, both, _on_}
 use Rattle.rules.specs.Circuits.{circuit}
 use Rattle.rules.specs.CaseTerms.{one-label, two-labels, H, CNOT, Meas}
@@ -41,10 +42,17 @@ million = refl
 -- 02, ticket 5: "Where there is no wire, `wirelist` prints none". Init, gate 9, takes no wire, Discard, gate 10, makes none, and
 -- there is no output.
 pub helper-lines
-    : lines (circuit [] ((10 on 1 ∷ []) ∷ (Meas on 0 ∷ []) ∷ (9 on []) ∷ [])) empty 3
+    : lines (circuit [] ((Discard on 1 ∷ []) ∷ (Meas on 0 ∷ []) ∷ (Init on []) ∷ [])) empty 3
     ≡ ascii "gate Init : 0\ngate Meas 0 : 1\ngate Discard 1 :\nout\nsteps 3\n"
 unfolding decimal gateName
 helper-lines = refl
+
+-- Ticket 6: CCX takes three wires and makes three.
+pub ccx-lines
+    : lines (circuit (Qubit ∷ two-labels) ((CCX on 2 ∷ 0 ∷ 1 ∷ []) ∷ [])) (both (single 3) (both (single 4) (single 5))) 1
+    ≡ ascii "in 0 Qubit\nin 1 Qubit\nin 2 Qubit\ngate CCX 2 0 1 : 3 4 5\nout 3 4 5\nsteps 1\n"
+unfolding decimal gateName
+ccx-lines = refl
 
 -- The empty file: 1, place 0. c7: 18, place 2.
 pub c7-line : refusedLine 18 2 ≡ ascii "refused 18 2\n"
