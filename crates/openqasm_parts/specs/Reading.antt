@@ -2,8 +2,8 @@
 -- The import gives what is read here only where its export is the text.
 use Prim.Native.Nat.{ℕ, zero, suc, _+_, _*_}
 use mathlib.Core.Bool.{Bool, _||_, cond}
-use mathlib.Core.List.{List, [], _∷_, _++_}
-use lib.Dec.{eqb, ltb}
+use mathlib.Core.List.{List, [], _∷_, _++_, map}
+use lib.Dec.{eqb}
 use lib.ListN.{getD, set, take, drop}
 use Rattle.rules.specs.Types.{Wire}
 use Rattle.rules.specs.Gates.{isGate, wiresIn}
@@ -41,13 +41,16 @@ withInput p i =
     }
 
 -- One more gate: it takes the wires that its registers hold, and they hold the wires that it makes.
-abbrev pub wiresTaken : Parts → Item → List ℕ
-wiresTaken p i = take (wiresIn (i .kind)) (getD (p .held) (i .first) 0 ∷ getD (p .held) (i .second) 0 ∷ [])
+abbrev pub registersRead : Item → List ℕ
+registersRead i = take (wiresIn (i .kind)) (i .first ∷ i .second ∷ i .third ∷ [])
 
--- What registers hold when so many wires have been made, numbered on: the second one only where there are two.
-abbrev pub heldAfter : List ℕ → ℕ → ℕ → ℕ → ℕ → List ℕ
-heldAfter held count first second made =
-    let one = set held first made in cond (ltb 1 count) (set one second (suc made)) one
+abbrev pub wiresTaken : Parts → Item → List ℕ
+wiresTaken p i = map (λ r. getD (p .held) r 0) (registersRead i)
+
+-- What registers hold when those of a list have come to hold the wires from w on, one after the other.
+abbrev pub holding : List ℕ → List ℕ → ℕ → List ℕ
+holding held [] w = held
+holding held (r ∷ rs) w = holding (set held r w) rs (suc w)
 
 abbrev pub withGate : Parts → Item → Parts
 withGate p i =
@@ -55,7 +58,7 @@ withGate p i =
       inputs = p .inputs;
       gates = (i .kind on wiresTaken p i) ∷ p .gates;
       outs = p .outs;
-      held = heldAfter (p .held) (wiresIn (i .kind)) (i .first) (i .second) (p .made);
+      held = holding (p .held) (registersRead i) (p .made);
       made = p .made + wiresIn (i .kind);
       rest = drop (i .length) (p .rest);
     }

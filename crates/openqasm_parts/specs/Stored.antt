@@ -66,7 +66,7 @@ pub record GatesRead (labels gates left : ℕ) (text : List ℕ) (at inputs i ma
   pub made-is : made ≡ so-far .made
   pub few-inputs : inputs ≤ labels
   pub few : i + left ≤ gates
-  pub few-made : made ≤ inputs + 2 * i
+  pub few-made : made ≤ inputs + entry-slots * i
   pub near : at ≤ 36 + 26 * (inputs + i)
 
 -- Behind them i outputs are read.

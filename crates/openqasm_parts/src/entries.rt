@@ -17,7 +17,16 @@ pub(crate) fn put_word(bytes: &mut [u8], at: usize, n: usize) -> usize
     put_byte(bytes, here, (n / 256) as u8)
 }
 
-// The kind and the slots of an entry, behind those of the entries before it. There is room for them, so nothing is asked.
+// The same where there is room for it, so that nothing is asked.
+fn put_slot(slots: &mut [u8], at: usize, wire: usize)
+    requires { ⌜ (wire < 65536) × (at + 2 ≤ length (now slots)) ⌝ }
+    ensures { λ r. ⌜ Puts (now (slots .entry)) at (bytesOf wire) (now (slots .exit)) (at + 2) ⌝ }
+{
+    slots[at] = (wire % 256) as u8;
+    slots[at + 1] = (wire / 256) as u8;
+}
+
+// The kind and the slots of an entry, behind those of the entries before it. There is room for them.
 pub(crate) fn put_entry(
     kinds: &mut [u8],
     slots: &mut [u8],
@@ -25,17 +34,17 @@ pub(crate) fn put_entry(
     kind: usize,
     first: usize,
     second: usize,
+    third: usize,
 )
-    requires { ⌜ (entry < 65536) × (kind < 256) × (first < 65536) × (second < 65536) ⌝ }
-    requires { ⌜ (entry < length (now kinds)) × (2 * entry-slots * entry + 4 ≤ length (now slots)) ⌝ }
+    requires { ⌜ (entry < 65536) × (kind < 256) × (first < 65536) × (second < 65536) × (third < 65536) ⌝ }
+    requires { ⌜ (entry < length (now kinds)) × (2 * entry-slots * (entry + 1) ≤ length (now slots)) ⌝ }
     ensures { λ r. ⌜ Adds (now (kinds .entry)) entry (kind ∷ []) (now (kinds .exit)) ⌝ }
-    ensures { λ r. ⌜ Adds (now (slots .entry)) (2 * entry-slots * entry) (flatMap bytesOf (first ∷ second ∷ []))
+    ensures { λ r. ⌜ Adds (now (slots .entry)) (2 * entry-slots * entry) (flatMap bytesOf (first ∷ second ∷ third ∷ []))
         (now (slots .exit)) ⌝ }
 {
     kinds[entry] = kind as u8;
     let at = 2 * ENTRY_SLOTS * entry;
-    slots[at] = (first % 256) as u8;
-    slots[at + 1] = (first / 256) as u8;
-    slots[at + 2] = (second % 256) as u8;
-    slots[at + 3] = (second / 256) as u8;
+    put_slot(slots, at, first);
+    put_slot(slots, at + 2, second);
+    put_slot(slots, at + 4, third);
 }

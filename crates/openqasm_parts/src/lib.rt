@@ -15,7 +15,7 @@ use openqasm_reader::QUBIT_ITEM;
 use openqasm_reader::read_item;
 use registers::hold_wires;
 use registers::number_registers;
-use registers::second_wire_in;
+use registers::slot_wire;
 use registers::wire_in;
 use rules::is_gate;
 use rules::sizes::MOST_GATES;
@@ -73,7 +73,7 @@ fn read_inputs(text: &[u8], kinds: &mut [u8], slots: &mut [u8]) -> Progress
         if !is_input(item.kind) {
             return Progress { count: i, at };
         }
-        put_entry(kinds, slots, i, item.kind, NO_WIRE, NO_WIRE);
+        put_entry(kinds, slots, i, item.kind, NO_WIRE, NO_WIRE, NO_WIRE);
         at += item.length;
         i += 1;
     }
@@ -106,10 +106,11 @@ fn read_gates(
             return Progress { count: i, at: here };
         }
         let count = wires_in(item.kind);
-        let first = wire_in(held, item.first);
-        let second = second_wire_in(held, count, item.second);
-        put_entry(kinds, slots, inputs + i, item.kind, first, second);
-        made = hold_wires(held, count, item.first, item.second, made);
+        let first = slot_wire(held, count, 0, item.first);
+        let second = slot_wire(held, count, 1, item.second);
+        let third = slot_wire(held, count, 2, item.third);
+        put_entry(kinds, slots, inputs + i, item.kind, first, second, third);
+        made = hold_wires(held, count, item.first, item.second, item.third, made);
         here += item.length;
         i += 1;
     }

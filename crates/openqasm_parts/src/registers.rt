@@ -7,12 +7,14 @@ ghost use Prim.Native.Nat.{_+_, _*_, _≤_, _<_};
 ghost use mathlib.Core.Path.{_≡_};
 ghost use mathlib.Core.Bool.{cond};
 ghost use lib.Dec.{ltb};
-ghost use lib.ListN.{length, getD};
+ghost use mathlib.Core.List.{[], _∷_};
+ghost use lib.ListN.{length, getD, take};
 ghost use Rattle.rules.specs.Circuits.{numbers};
 ghost use Rattle.rules.specs.Sizes.{most-labels};
 ghost use Rattle.rules.specs.Slots.{no-wire};
 ghost use Rattle.words.specs.Words.{words};
-ghost use Rattle.openqasm_parts.specs.Reading.{heldAfter};
+ghost use Rattle.listing.specs.Listing.{entry-slots};
+ghost use Rattle.openqasm_parts.specs.Reading.{holding};
 
 // Register k holds wire k.
 pub(crate) fn number_registers(held: &mut [u8])
@@ -34,15 +36,15 @@ pub(crate) fn wire_in(held: &[u8], register: usize) -> usize
     get(held, register)
 }
 
-// The wire that the second register of a gate holds; NO_WIRE where the gate takes fewer than two.
-pub(crate) fn second_wire_in(held: &[u8], count: usize, register: usize) -> usize
-    ensures { λ r. ⌜ r ≡ cond (ltb count 2) no-wire (getD (words (now (held .entry))) register 0) ⌝ }
+// What stands in a slot of a gate that takes so many wires: the wire that its register holds, or NO_WIRE.
+pub(crate) fn slot_wire(held: &[u8], count: usize, slot: usize, register: usize) -> usize
+    ensures { λ r. ⌜ r ≡ cond (ltb slot count) (getD (words (now (held .entry))) register 0) no-wire ⌝ }
     ensures { λ r. ⌜ r < 65536 ⌝ }
 {
-    if count < 2 {
-        return NO_WIRE;
+    if slot < count {
+        return wire_in(held, register);
     }
-    wire_in(held, register)
+    NO_WIRE
 }
 
 // The registers of a gate hold the wires that it makes, so many, from this number on; answers the number of the next wire.
@@ -51,16 +53,22 @@ pub(crate) fn hold_wires(
     count: usize,
     first: usize,
     second: usize,
+    third: usize,
     made: usize,
 ) -> usize
-    requires { ⌜ (1 ≤ count) × (count ≤ 2) × (made + 2 ≤ 65536) ⌝ }
+    requires { ⌜ (1 ≤ count) × (count ≤ entry-slots) × (made + entry-slots ≤ 65536) ⌝ }
     ensures { λ r. ⌜ r ≡ made + count ⌝ }
-    ensures { λ r. ⌜ words (now (held .exit)) ≡ heldAfter (words (now (held .entry))) count first second made ⌝ }
+    ensures { λ r. ⌜ words (now (held .exit))
+        ≡ holding (words (now (held .entry))) (take count (first ∷ second ∷ third ∷ [])) made ⌝ }
 {
     put(held, first, made);
     if count < 2 {
         return made + 1;
     }
     put(held, second, made + 1);
-    made + 2
+    if count < 3 {
+        return made + 2;
+    }
+    put(held, third, made + 2);
+    made + 3
 }

@@ -8,9 +8,12 @@ use words::saturating_sub;
 ghost use Prim.Native.Nat.{_+_, _≤_, _<_, _^_};
 ghost use mathlib.Core.Path.{_≡_};
 ghost use lib.ListN.{getD, drop};
-ghost use Rattle.openqasm_reader.specs.Items.{isDigit, digitsIn, numberIn, before, between, behind};
-ghost use Rattle.openqasm_reader.specs.Items.{oneNumber, twoNumbers, itemIn};
+ghost use Rattle.openqasm_reader.specs.Items.{isDigit, digitsIn, numberIn, ccx-item, before, between, behind};
+ghost use Rattle.openqasm_reader.specs.Items.{oneNumber, twoNumbers, threeNumbers, itemIn};
 ghost use Rattle.openqasm_reader.specs.Bounds.{Bounded};
+
+// The gate on three qubits.
+const CCX_ITEM: usize = 11;
 
 // The kinds of items that are no gate: a declaration of an input, as a listing has its kind; the name of an output; none.
 pub const BIT_ITEM: usize = 128;
@@ -26,6 +29,7 @@ pub struct Item {
     pub kind: usize,
     pub first: usize,
     pub second: usize,
+    pub third: usize,
     pub length: usize,
 }
 
@@ -84,6 +88,7 @@ fn one_number(text: &[u8], at: usize, kind: usize, prefix: usize, suffix: usize)
         kind,
         first: number.value,
         second: 0,
+        third: 0,
         length: prefix + number.digits + suffix,
     }
 }
@@ -102,8 +107,44 @@ fn two_numbers(text: &[u8], at: usize, kind: usize, prefix: usize, middle: usize
         kind,
         first: first.value,
         second: second.value,
+        third: 0,
         length: prefix + first.digits + middle + second.digits + 5,
     }
+}
+
+// A CCX, with three: 5 bytes stand before each of them and behind the last.
+fn three_numbers(text: &[u8], at: usize) -> Item
+    requires { ⌜ at + 64 < 2 ^ 64 ⌝ }
+    ensures { λ r. ⌜ (r ≡ threeNumbers ccx-item (drop at (now (text .entry)))) × Bounded r ⌝ }
+{
+    let first_place = at + 5;
+    let first = number_at(text, first_place);
+    let second_place = first_place + first.digits + 5;
+    let second = number_at(text, second_place);
+    let third_place = second_place + second.digits + 5;
+    let third = number_at(text, third_place);
+    Item {
+        kind: CCX_ITEM,
+        first: first.value,
+        second: second.value,
+        third: third.value,
+        length: 5 + first.digits + 5 + second.digits + 5 + third.digits + 5,
+    }
+}
+
+// What begins with c: a bit register, a CCX or a CNOT, by its second byte.
+fn bit_register_or_gate(text: &[u8], at: usize) -> Item
+    requires { ⌜ (at + 64 < 2 ^ 64) × (getD (now text) at 0 ≡ 99) ⌝ }
+    ensures { λ r. ⌜ (r ≡ itemIn (drop at (now (text .entry)))) × Bounded r ⌝ }
+{
+    let second = byte_at(text, at + 1);
+    if second == b'r' {
+        return one_number(text, at, BIT_ITEM, 6, 5);
+    }
+    if second == b'c' {
+        return three_numbers(text, at);
+    }
+    two_numbers(text, at, 5, 4, 5)
 }
 
 // A gate on a Bit and a Qubit: its name, behind the `if`, says which.
@@ -128,11 +169,7 @@ pub fn item_at(text: &[u8], at: usize) -> Item
         b'z' => one_number(text, at, 2, 3, 5),
         b's' => one_number(text, at, 3, 3, 5),
         b't' => one_number(text, at, 4, 3, 5),
-        b'c' => if byte_at(text, at + 1) == b'r' {
-            one_number(text, at, BIT_ITEM, 6, 5)
-        } else {
-            two_numbers(text, at, 5, 4, 5)
-        },
+        b'c' => bit_register_or_gate(text, at),
         b'm' => two_numbers(text, at, 6, 9, 8),
         b'i' => controlled_gate(text, at),
         b'q' => two_numbers(text, at, QUBIT_ITEM, 6, 11),
@@ -141,6 +178,7 @@ pub fn item_at(text: &[u8], at: usize) -> Item
             kind: NO_ITEM,
             first: 0,
             second: 0,
+            third: 0,
             length: 0,
         },
     }

@@ -4,7 +4,7 @@ use native.Mathlib.Omega.{arith}
 use mathlib.Core.Path.{_≡_, refl, sym, _∙_, ap}
 use mathlib.Core.List.{List, [], _∷_, _++_, map, append-nil}
 use lib.Dec.{T as IsTrue}
-use lib.ListN.{length, getD, length-append, length-map}
+use lib.ListN.{length, getD, take, length-append, length-map}
 use Rattle.rules.specs.Types.{Wire}
 use Rattle.rules.specs.Gates.{gateOutputs, wiresIn}
 use Rattle.rules.specs.Terms.{Gate, _on_}
@@ -14,6 +14,17 @@ use Rattle.rules.specs.Laws.KnownGates.{KnownGates}
 use Rattle.listing.specs.Reading.{inputCount, kindAt, slotsFrom, firstGates}
 use Rattle.listing.specs.Laws.Decoding.{length-words}
 use Rattle.openqasm.specs.Layout.{hasStatement, AllWritten, registersOf}
+
+-- What a function gives for 0 and on, so many numbers: the slots of an entry by their numbers.
+abbrev pub each : (ℕ → ℕ) → ℕ → List ℕ
+each f zero = []
+each f (suc k) = f 0 ∷ each (λ j. f (suc j)) k
+
+-- Of what a list has at its places and behind them, it is the first ones.
+pub first-each : (l : List ℕ) (k : ℕ) → length l ≤ k → take (length l) (each (λ j. getD l j 0) k) ≡ l
+first-each [] k few = refl
+first-each (x ∷ l) zero few = absurd (omega arith)
+first-each (x ∷ l) (suc k) few = ap (λ xs. x ∷ xs) (first-each l k (omega arith))
 
 -- A gate that has a statement makes as many wires as it takes; a number that is no gate takes and makes none.
 pub as-many : (n : ℕ) → IsTrue (hasStatement n) → length (gateOutputs n) ≡ wiresIn n

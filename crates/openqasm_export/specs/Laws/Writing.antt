@@ -24,7 +24,7 @@ use Rattle.listing_check.specs.Laws.Wires.{next-input, one-more-gate}
 use Rattle.openqasm.specs.Layout.{declaration, declarations, statements, hasStatement, AllWritten, statementLine, gateLine}
 use Rattle.openqasm.specs.Layout.{gateLines, registersOf, header, registerName, outputName, outputLine, exportText, exportOf}
 use Rattle.openqasm_export.specs.Places.{placeBytes, placesOf, Begins, keptPlaces}
-use Rattle.openqasm.specs.Laws.Registers.{as-many, first-counted, length-numbers, numbers-more, length-registers}
+use Rattle.openqasm.specs.Laws.Registers.{each, as-many, first-counted, length-numbers, numbers-more, length-registers}
 use Rattle.openqasm_export.specs.Laws.Places.{place-register, place-type, places-append, length-places}
 use Rattle.openqasm_export.specs.Laws.Places.{of-no-type, begins-same}
 
@@ -112,11 +112,6 @@ halves f g half [] k = refl
 halves f g half (w ∷ ws) zero = half w
 halves f g half (w ∷ ws) (suc k) = halves f g half ws k
 
--- What a function gives from 0 on, so many numbers: the slots of an entry by their numbers.
-abbrev each : (ℕ → ℕ) → ℕ → List ℕ
-each f zero = []
-each f (suc k) = f 0 ∷ each (λ j. f (suc j)) k
-
 -- As many slots as there are, or more, give the places of as many types as there are wires.
 slots-placed : (l : List ℕ) (αs : List Wire) (k : ℕ)
     → length αs ≡ length l
@@ -184,8 +179,8 @@ module _ (b text₀ : List ℕ) (at : ℕ) where
 
         slots-taken : first / 2 ∷ second / 2 ∷ third / 2 ∷ [] ≡ each (λ k. getD taken k 0) entry-slots
         slots-taken =
-            ap₂ (λ x y. x ∷ y ∷ third / 2 ∷ []) (slot-taken 0 first is-first) (slot-taken 1 second is-second)
-            ∙ ap (λ z. getD taken 0 0 ∷ getD taken 1 0 ∷ z ∷ []) (slot-taken 2 third is-third)
+            ap₂ _∷_ (slot-taken 0 first is-first)
+            (ap₂ _∷_ (slot-taken 1 second is-second) (ap (λ z. z ∷ []) (slot-taken 2 third is-third)))
 
         line-is : gateLine n (first / 2 ∷ second / 2 ∷ third / 2 ∷ []) ≡ gateLine n taken
         unfolding gateLine

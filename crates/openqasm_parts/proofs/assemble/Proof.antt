@@ -2,6 +2,7 @@
 use Prim.Native.Nat.{_+_, _*_}
 use native.Mathlib.Omega.{arith}
 use lib.ListN.{length-take}
+use Rattle.listing.specs.Listing.{entry-slots}
 use Rattle.openqasm_parts.specs.Laws.Stored.{puts-listing}
 use borrow.Author.Needs.{needs}
 use Rattle.openqasm_parts.proofs.assemble.Statement.{statement}
@@ -53,7 +54,7 @@ slice-aggregate-put-bytes-2 : tie.Need-slice-aggregate-put-bytes-2
 slice-aggregate-put-bytes-2 c =
     omega (
       arith,
-      length-take (4 *
+      length-take (2 * entry-slots *
           (c .before .before .before .before .before .before .before .before .before .before .before .before .before .before .before
           .before .before .before .before .before .before .before .args .inputs +
           c .before .before .before .before .before .before .before .before .before .before .before .before .before .before .before

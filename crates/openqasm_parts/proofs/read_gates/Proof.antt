@@ -7,7 +7,7 @@ use lib.ListN.{length}
 use borrow.Author.Tests.{not-true, not-false}
 use Rattle.rules.specs.Sizes.{most-labels, most-gates}
 use Rattle.openqasm_parts.specs.Stored.{GatesRead}
-use Rattle.openqasm_parts.specs.Laws.Registers.{one-or-two}
+use Rattle.openqasm_parts.specs.Laws.Registers.{wires-taken}
 use Rattle.openqasm_parts.specs.Laws.Stored.{gates-start, gate-next, gates-stop}
 use Rattle.openqasm_parts.proofs.read_gates.Statement.{statement}
 use Rattle.openqasm_parts.proofs.read_gates.Tie as tie
@@ -53,95 +53,78 @@ returns c = (
 wires-in-requires : tie.Need-wires-in-requires Inv-loop μ-loop
 wires-in-requires c κs = search needs
 
-wire-in-requires : tie.Need-wire-in-requires Inv-loop μ-loop
-wire-in-requires c κs = search needs
+slot-wire-requires : tie.Need-slot-wire-requires Inv-loop μ-loop
+slot-wire-requires c κs = search needs
 
-second-wire-in-requires : tie.Need-second-wire-in-requires Inv-loop μ-loop
-second-wire-in-requires c κs = search needs
+slot-wire-requires-2 : tie.Need-slot-wire-requires-2 Inv-loop μ-loop
+slot-wire-requires-2 c κs = search needs
+
+slot-wire-requires-3 : tie.Need-slot-wire-requires-3 Inv-loop μ-loop
+slot-wire-requires-3 c κs = search needs
 
 add-put-entry : tie.Need-add-put-entry Inv-loop μ-loop
-add-put-entry c =
-    search (
-      needs,
-      c .before .before .before .before .before .before .before .before .before .before .loop-test .taken,
-      c .before .before .before .before .before .before .before .before .before .before .before .loop .inv .4 .few-inputs,
-    )
+add-put-entry c = search (needs, c .before .before .before .before .before .before .before .before .before .before .before .before .loop-test .taken, c .before .before .before .before .before .before .before .before .before .before .before .before .before .loop .inv .4 .few-inputs)
 
 put-entry-requires : tie.Need-put-entry-requires Inv-loop μ-loop
-put-entry-requires c κs = (
-  (
-    omega (arith, c .before .before .before .before .before .before .before .before .before .before .loop-test .taken, c .before .before .before .before .before .before .before .before .before .before .before .loop .inv .4 .few-inputs),
-    c .before .before .before .before .before .before .before .before .before .read-item .ensures .1 .kind-small,
-    c .before .before .before .before .wire-in .ensures .1,
-    c .before .before .second-wire-in .ensures .1,
-  ),
-  (
-    omega (arith, c .before .before .before .before .before .before .before .before .before .before .loop-test .taken, c .before .before .before .before .before .before .before .before .before .before .before .loop .inv .4 .few-inputs, c .before .before .before .before .before .before .before .before .before .before .before .loop .inv .2, c .before .before .before .before .before .before .before .before .before .before .before .before .before .before .before .before .pre .0),
-    omega (arith, c .before .before .before .before .before .before .before .before .before .before .loop-test .taken, c .before .before .before .before .before .before .before .before .before .before .before .loop .inv .4 .few-inputs, c .before .before .before .before .before .before .before .before .before .before .before .loop .inv .3, c .before .before .before .before .before .before .before .before .before .before .before .before .before .before .before .before .pre .1),
-  ),
-)
+put-entry-requires c κs =
+    let s = c .before .before .before .before .before .before .before .before .before .before .before .before .before .loop .inv in
+    let p = c .before .before .before .before .before .before .before .before .before .before .before .before .before .before .before .before .before .before .pre in (
+      (
+        omega (arith, c .before .before .before .before .before .before .before .before .before .before .before .before .loop-test .taken, s .4 .few-inputs),
+        c .before .before .before .before .before .before .before .before .before .before .before .read-item .ensures .1 .kind-small,
+        c .before .before .before .before .before .before .slot-wire .ensures .1,
+        c .before .before .before .before .slot-wire2 .ensures .1,
+        c .before .before .slot-wire3 .ensures .1,
+      ),
+      (
+        omega (arith, c .before .before .before .before .before .before .before .before .before .before .before .before .loop-test .taken, s .4 .few-inputs, s .2, p .0),
+        omega (arith, c .before .before .before .before .before .before .before .before .before .before .before .before .loop-test .taken, s .4 .few-inputs, s .3, p .1),
+      ),
+    )
 
 hold-wires-requires : tie.Need-hold-wires-requires Inv-loop μ-loop
 hold-wires-requires c κs =
-    let u = c .before .before .before .before .before .before .before .before .before .before .before .before in
-    let counted = u .wires-in .ensures in
-    let t = u .before in
-    let s = t .before .before .before .before .loop .inv .4 in
-    let known = sym (t .before .is-gate .ensures) ∙ not-false (t .before .is-gate .result) (t .if1 .left) in
-    let takes = one-or-two (t .before .before .read-item .result) _ (t .before .before .read-item .ensures .0) known in (
+    let counted = c .before .before .before .before .before .before .before .before .before .before .before .before .before .before .wires-in .ensures in
+    let s = c .before .before .before .before .before .before .before .before .before .before .before .before .before .before .before .before .before .before .before .loop .inv .4 in
+    let known = sym (c .before .before .before .before .before .before .before .before .before .before .before .before .before .before .before .before .is-gate .ensures) ∙ not-false (c .before .before .before .before .before .before .before .before .before .before .before .before .before .before .before .before .is-gate .result) (c .before .before .before .before .before .before .before .before .before .before .before .before .before .before .before .if1 .left) in
+    let takes = wires-taken (c .before .before .before .before .before .before .before .before .before .before .before .before .before .before .before .before .before .read-item .result) _ (c .before .before .before .before .before .before .before .before .before .before .before .before .before .before .before .before .before .read-item .ensures .0) known in (
       omega (arith, counted, takes .0),
       omega (arith, counted, takes .1),
-      omega (arith, t .before .before .before .loop-test .taken, s .few-inputs, s .few-made),
+      omega (arith, c .before .before .before .before .before .before .before .before .before .before .before .before .before .before .before .before .before .before .loop-test .taken, s .few-inputs, s .few-made),
     )
 
 add-here : tie.Need-add-here Inv-loop μ-loop
 add-here c =
-    let u = c .before .before .before .before .before .before .before .before .before in
-    let t = u .before .before .before .before .before .before .before .before in
-    let s = t .before .before .before .before .loop .inv .4 in
-    search (
-      needs,
-      s .near,
-      s .few-inputs,
-      t .before .before .read-item .ensures .1 .length-small,
-      t .before .before .before .loop-test .taken,
-    )
+    let s = c .before .before .before .before .before .before .before .before .before .before .before .before .before .before .before .before .before .before .before .before .before .before .before .loop .inv .4 in
+    search (needs, s .near, s .few-inputs, c .before .before .before .before .before .before .before .before .before .before .before .before .before .before .before .before .before .before .before .before .before .read-item .ensures .1 .length-small, c .before .before .before .before .before .before .before .before .before .before .before .before .before .before .before .before .before .before .before .before .before .before .loop-test .taken)
 
 add-i : tie.Need-add-i Inv-loop μ-loop
-add-i c =
-    let u = c .before .before .before .before .before .before .before .before .before in
-    let t = u .before .before .before .before .before .before .before .before in
-    search (needs, t .before .before .before .loop-test .taken)
+add-i c = search (needs, c .before .before .before .before .before .before .before .before .before .before .before .before .before .before .before .before .before .before .before .before .before .before .loop-test .taken)
 
 loop-less : tie.Need-loop-less Inv-loop μ-loop
-loop-less c =
-    let u = c .before .before .before .before .before .before .before .before .before in
-    let t = u .before .before .before .before .before .before .before .before in
-    omega (arith, t .before .before .before .loop-test .taken)
+loop-less c = omega (arith, c .before .before .before .before .before .before .before .before .before .before .before .before .before .before .before .before .before .before .before .before .before .before .loop-test .taken)
 
 loop-again : tie.Need-loop-again Inv-loop μ-loop
 loop-again c =
-    let u = c .before .before .before .before .before .before .before .before .before in
-    let t = u .before .before .before .before .before .before .before .before in
-    let s = t .before .before .before .before .loop in
-    let item = t .before .before .read-item .result in
-    let r = t .before .before .read-item .ensures in
-    let below = t .before .before .before .loop-test .taken in
-    let known = sym (t .before .is-gate .ensures) ∙ not-false (t .before .is-gate .result) (t .if1 .left) in
+    let s = c .before .before .before .before .before .before .before .before .before .before .before .before .before .before .before .before .before .before .before .before .before .before .before .loop in
+    let r = c .before .before .before .before .before .before .before .before .before .before .before .before .before .before .before .before .before .before .before .before .before .read-item .ensures in
+    let below = c .before .before .before .before .before .before .before .before .before .before .before .before .before .before .before .before .before .before .before .before .before .before .loop-test .taken in
+    let known = sym (c .before .before .before .before .before .before .before .before .before .before .before .before .before .before .before .before .before .before .before .before .is-gate .ensures) ∙ not-false (c .before .before .before .before .before .before .before .before .before .before .before .before .before .before .before .before .before .before .before .before .is-gate .result) (c .before .before .before .before .before .before .before .before .before .before .before .before .before .before .before .before .before .before .before .if1 .left) in
     let few = s .inv .4 .few-inputs in
-    let p = t .before .before .before .before .before .before .before .before .before .pre in
-    let put = u .put-entry in
+    let p = c .before .before .before .before .before .before .before .before .before .before .before .before .before .before .before .before .before .before .before .before .before .before .before .before .before .before .before .before .pre in
+    let put = c .before .before .before .before .before .before .before .before .before .put-entry in
     let h = c .before .before .before .hold-wires in (
       omega (arith, below),
       h .kept .0 ∙ s .inv .1,
       put .kept .0 ∙ s .inv .2,
       put .kept .1 .0 ∙ s .inv .3,
-      gate-next item (s .inv .4) (omega (arith, below)) (r .0) known (r .1 .length-small)
+      gate-next (c .before .before .before .before .before .before .before .before .before .before .before .before .before .before .before .before .before .before .before .before .before .read-item .result) (s .inv .4) (omega (arith, below)) (r .0) known (r .1 .length-small)
           (omega (arith, below, few, s .inv .2, p .0))
           (omega (arith, below, few, s .inv .3, p .1))
-          (u .before .before .before .before .before .before .before .wires-in .ensures)
-          (u .before .before .before .before .before .wire-in .ensures .0)
-          (u .before .before .before .second-wire-in .ensures .0)
+          (c .before .before .before .before .before .before .before .before .before .before .before .before .before .before .before .before .before .before .wires-in .ensures)
+          (c .before .before .before .before .before .before .before .before .before .before .before .before .before .before .before .before .slot-wire .ensures .0)
+          (c .before .before .before .before .before .before .before .before .before .before .before .before .before .before .slot-wire2 .ensures .0)
+          (c .before .before .before .before .before .before .before .before .before .before .before .before .slot-wire3 .ensures .0)
           (put .ensures .0)
           (put .ensures .1)
           (h .ensures .0)
@@ -181,8 +164,9 @@ read-gates-spec =
     same-length-3
     returns
     wires-in-requires
-    wire-in-requires
-    second-wire-in-requires
+    slot-wire-requires
+    slot-wire-requires-2
+    slot-wire-requires-3
     add-put-entry
     put-entry-requires
     hold-wires-requires

@@ -51,7 +51,7 @@ returns c =
 
 put-entry-requires : tie.Need-put-entry-requires Inv-loop μ-loop
 put-entry-requires c κs = (
-  (omega (arith, c .before .before .before .before .before .loop-test .taken), c .before .before .before .before .read-item .ensures .1 .kind-small, omega arith, omega arith),
+  (omega (arith, c .before .before .before .before .before .loop-test .taken), c .before .before .before .before .read-item .ensures .1 .kind-small, omega arith, omega arith, omega arith),
   (omega (arith, c .before .before .before .before .before .loop-test .taken, c .before .before .before .before .before .before .loop .inv .1, c .before .before .before .before .before .before .before .before .before .before .pre .0), omega (arith, c .before .before .before .before .before .loop-test .taken, c .before .before .before .before .before .before .loop .inv .2, c .before .before .before .before .before .before .before .before .before .before .pre .1)),
 )
 

@@ -17,6 +17,7 @@ use Rattle.rules.specs.Laws.Wires.{nth-some-within}
 use Rattle.rules.specs.Laws.KnownGates.{KnownGates}
 use Rattle.listing.specs.Laws.Bytes.{mapped-at}
 use Rattle.openqasm.specs.Layout.{hasStatement, AllWritten, registersOf}
+use Rattle.openqasm_parts.specs.Reading.{holding}
 use Rattle.openqasm.specs.Laws.Registers.{known-counted, length-numbers, length-registers, map-below, registers-within}
 
 -- A gate that has a statement takes at least one wire.
@@ -33,7 +34,8 @@ takes-some (suc (suc (suc (suc (suc (suc (suc zero))))))) known written = omega 
 takes-some (suc (suc (suc (suc (suc (suc (suc (suc zero)))))))) known written = omega arith
 takes-some (suc (suc (suc (suc (suc (suc (suc (suc (suc zero))))))))) known written = absurd written
 takes-some (suc (suc (suc (suc (suc (suc (suc (suc (suc (suc zero)))))))))) known written = absurd written
-takes-some (suc (suc (suc (suc (suc (suc (suc (suc (suc (suc (suc n))))))))))) known written = absurd known
+takes-some (suc (suc (suc (suc (suc (suc (suc (suc (suc (suc (suc zero))))))))))) known written = omega arith
+takes-some (suc (suc (suc (suc (suc (suc (suc (suc (suc (suc (suc (suc n)))))))))))) known written = absurd known
 
 -- The number at a place of numbers in a row.
 number-at : (n k i : ℕ) → i < k → getD (numbers n k) i 0 ≡ n + i
@@ -63,11 +65,6 @@ count-undone f undo w (x ∷ xs) this each =
         absurd (g (sym this ∙ ap undo e ∙ each x (omega (arith, one-if-equal x x refl))))
     of _ _ (unequal g) (equal e′) = absurd (g (ap f e′))
     of _ _ (unequal g) (unequal g′) = refl
-
--- What registers hold when those of a list have come to hold the wires from w on, one after the other.
-abbrev pub holding : List ℕ → List ℕ → ℕ → List ℕ
-holding held [] w = held
-holding held (r ∷ rs) w = holding (set held r w) rs (suc w)
 
 length-holding : (held rs : List ℕ) (w : ℕ) → length (holding held rs w) ≡ length held
 length-holding held [] w = refl

@@ -6,18 +6,19 @@ use mathlib.Core.Path.{_≡_, refl, sym, _∙_, ap, ap₂}
 use mathlib.Core.Bool.{Bool, true, false, _&&_, cond}
 use mathlib.Core.List.{List, [], _∷_, _++_, append-assoc, append-nil}
 use lib.Dec.{T as IsTrue, eqb}
-use lib.ListN.{getD, drop}
+use lib.ListN.{getD, take, drop}
 use lib.Seq.{drop-drop, getD-drop}
 use borrow.Author.Tests.{lt-ltb}
 use Rattle.rules.specs.Types.{Wire, Bit, Qubit}
 use Rattle.rules.specs.Gates.{isGate, wiresIn}
-use Rattle.listing.specs.Listing.{inputKind}
+use Rattle.listing.specs.Listing.{inputKind, entry-slots}
+use Rattle.openqasm.specs.Laws.Registers.{each}
 use Rattle.text.specs.Text.{ascii, digit, decimal}
 use Rattle.text.specs.Laws.Decimals.{one-digit, more-digits}
 use Rattle.openqasm.specs.Layout.{declaration, bitRegister, hasStatement, gateLine, registerName}
 use Rattle.openqasm_reader.specs.declared.Item.{Item}
-use Rattle.openqasm_reader.specs.Items.{isDigit, digitsIn, numberIn, output-item, no-item, kindOf, kindIn, before, between, behind}
-use Rattle.openqasm_reader.specs.Items.{oneNumber, twoNumbers, itemOf, itemIn}
+use Rattle.openqasm_reader.specs.Items.{isDigit, digitsIn, numberIn, ccx-item, output-item, no-item, kindOf, kindIn}
+use Rattle.openqasm_reader.specs.Items.{before, between, behind, oneNumber, twoNumbers, threeNumbers, itemOf, itemIn}
 
 is-digit : (d : ℕ) → d < 10 → isDigit (digit d) ≡ true
 is-digit d small = ap₂ _&&_ (lt-ltb 47 (digit d) (omega arith)) (lt-ltb (digit d) 58 (omega arith))
@@ -50,13 +51,13 @@ number-read n t small ends = of (decLt n 10)
         )
 
 -- An item by its parts.
-abbrev pub item : ℕ → ℕ → ℕ → ℕ → Item
-item kind first second bytes = record { kind = kind; first = first; second = second; length = bytes }
+abbrev pub item : ℕ → ℕ → ℕ → ℕ → ℕ → Item
+item kind first second third bytes = record { kind = kind; first = first; second = second; third = third; length = bytes }
 
 -- A text begins with this item, and behind it this is left.
-pub record Reads (text : List ℕ) (kind first second : ℕ) (rest : List ℕ) : Type 0 where
+pub record Reads (text : List ℕ) (kind first second third : ℕ) (rest : List ℕ) : Type 0 where
   pub bytes : ℕ
-  pub item-is : itemIn text ≡ item kind first second bytes
+  pub item-is : itemIn text ≡ item kind first second third bytes
   pub rest-is : drop bytes text ≡ rest
 
 drop-more : (m n : ℕ) (l : List ℕ) → drop (m + n) l ≡ drop n (drop m l)
@@ -69,8 +70,8 @@ item-of-kind : (kind : ℕ) (text : List ℕ)
     → itemIn text ≡ itemOf kind text
 unfolding itemIn
 item-of-kind kind text is some =
-    ap (λ k. cond (eqb k no-item) (item no-item 0 0 0) (itemOf k text)) is
-    ∙ ap (λ b. cond b (item no-item 0 0 0) (itemOf kind text)) some
+    ap (λ k. cond (eqb k no-item) (item no-item 0 0 0 0) (itemOf k text)) is
+    ∙ ap (λ b. cond b (item no-item 0 0 0 0) (itemOf kind text)) some
 
 module _ (kind r : ℕ) (text t rest : List ℕ) where
   -- An item with one number is read.
@@ -81,14 +82,14 @@ module _ (kind r : ℕ) (text t rest : List ℕ) where
       → drop (before kind) text ≡ decimal r ++ t
       → isDigit (getD t 0 0) ≡ false
       → drop (behind kind) t ≡ rest
-      → Reads text kind r 0 rest
+      → Reads text kind r 0 0 rest
   one-read is some alone small e ends left =
       let number = number-read r t small ends in
       record {
         bytes = B + d + behind kind;
         item-is = item-of-kind kind text is some
-            ∙ ap (λ b. cond b (oneNumber kind text) (twoNumbers kind text)) alone
-            ∙ ap (λ n. item kind n 0 (B + d + behind kind)) (ap numberIn e ∙ number .0);
+            ∙ ap (λ b. cond b (oneNumber kind text) (cond (eqb kind ccx-item) (threeNumbers kind text) (twoNumbers kind text))) alone
+            ∙ ap (λ n. item kind n 0 0 (B + d + behind kind)) (ap numberIn e ∙ number .0);
         rest-is = drop-more (B + d) (behind kind) text
             ∙ ap (drop (behind kind)) (drop-more B d text ∙ ap (λ s. drop (digitsIn s) s) e ∙ number .1)
             ∙ left;
@@ -105,6 +106,7 @@ module _ (kind r : ℕ) (text t rest : List ℕ) where
       → kindIn text ≡ kind
       → eqb kind no-item ≡ false
       → eqb (between kind) 0 ≡ false
+      → eqb kind ccx-item ≡ false
       → r < 100
       → drop (before kind) text ≡ decimal r ++ t
       → isDigit (getD t 0 0) ≡ false
@@ -112,8 +114,8 @@ module _ (kind r : ℕ) (text t rest : List ℕ) where
       → drop (between kind) t ≡ decimal s ++ u
       → isDigit (getD u 0 0) ≡ false
       → drop (behind kind) u ≡ rest
-      → Reads text kind r s rest
-  two-read s u is some more small e ends small′ e′ ends′ left =
+      → Reads text kind r s 0 rest
+  two-read s u is some more two small e ends small′ e′ ends′ left =
       let number = number-read r t small ends in
       let number′ = number-read s u small′ ends′ in
       let second : drop (d + M) (drop B text) ≡ decimal s ++ u
@@ -122,9 +124,10 @@ module _ (kind r : ℕ) (text t rest : List ℕ) where
       record {
         bytes = B + d + M + d′ + behind kind;
         item-is = item-of-kind kind text is some
-            ∙ ap (λ b. cond b (oneNumber kind text) (twoNumbers kind text)) more
+            ∙ ap (λ b. cond b (oneNumber kind text) (cond (eqb kind ccx-item) (threeNumbers kind text) (twoNumbers kind text))) more
+            ∙ ap (λ b. cond b (threeNumbers kind text) (twoNumbers kind text)) two
             ∙ ap₂
-            (λ m n. item kind m n (B + d + M + d′ + behind kind))
+            (λ m n. item kind m n 0 (B + d + M + d′ + behind kind))
             (ap numberIn e ∙ number .0)
             (ap numberIn second ∙ number′ .0);
         rest-is = drop-more (B + d + M + d′) (behind kind) text
@@ -150,6 +153,64 @@ module _ (kind r : ℕ) (text t rest : List ℕ) where
       d′ : ℕ
       d′ = digitsIn (drop (d + M) (drop B text))
 
+-- A CCX is read, with three numbers.
+three-read : (r s q : ℕ) (text t u v rest : List ℕ)
+    → kindIn text ≡ ccx-item
+    → r < 100
+    → drop (before ccx-item) text ≡ decimal r ++ t
+    → isDigit (getD t 0 0) ≡ false
+    → s < 100
+    → drop (between ccx-item) t ≡ decimal s ++ u
+    → isDigit (getD u 0 0) ≡ false
+    → q < 100
+    → drop (between ccx-item) u ≡ decimal q ++ v
+    → isDigit (getD v 0 0) ≡ false
+    → drop (behind ccx-item) v ≡ rest
+    → Reads text ccx-item r s q rest
+unfolding between
+three-read r s q text t u v rest is small e ends small′ e′ ends′ small″ e″ ends″ left =
+    let number = number-read r t small ends in
+    let number′ = number-read s u small′ ends′ in
+    let number″ = number-read q v small″ ends″ in
+    let second : drop (d + M) (drop B text) ≡ decimal s ++ u
+    = drop-more d M (drop B text) ∙ ap (drop M) (ap (λ x. drop (digitsIn x) x) e ∙ number .1) ∙ e′ in
+    let third : drop (d′ + M) (drop (d + M) (drop B text)) ≡ decimal q ++ v
+    = drop-more d′ M (drop (d + M) (drop B text)) ∙ ap (drop M) (ap (λ x. drop (digitsIn x) x) second ∙ number′ .1) ∙ e″ in
+    let bytes = B + d + M + d′ + M + d″ + behind ccx-item in
+    let sum : B + d + M + d′ + M ≡ B + ((d + M) + (d′ + M)) = omega arith in
+    record {
+      bytes = bytes;
+      item-is = item-of-kind ccx-item text is refl
+          ∙ ap₂ (λ l m. item ccx-item l m (numberIn (drop (d′ + M) (drop (d + M) (drop B text)))) bytes)
+          (ap numberIn e ∙ number .0)
+          (ap numberIn second ∙ number′ .0)
+          ∙ ap (λ n. item ccx-item r s n bytes) (ap numberIn third ∙ number″ .0);
+      rest-is = drop-more (B + d + M + d′ + M + d″) (behind ccx-item) text
+          ∙ ap
+          (drop (behind ccx-item))
+          (drop-more (B + d + M + d′ + M) d″ text
+          ∙ ap (λ k. drop d″ (drop k text)) sum
+          ∙ ap (drop d″) (drop-more B ((d + M) + (d′ + M)) text ∙ drop-more (d + M) (d′ + M) (drop B text))
+          ∙ ap (λ x. drop (digitsIn x) x) third
+          ∙ number″ .1)
+          ∙ left;
+    }
+  where
+    B : ℕ
+    B = before ccx-item
+
+    M : ℕ
+    M = between ccx-item
+
+    d : ℕ
+    d = digitsIn (drop B text)
+
+    d′ : ℕ
+    d′ = digitsIn (drop (d + M) (drop B text))
+
+    d″ : ℕ
+    d″ = digitsIn (drop (d′ + M) (drop (d + M) (drop B text)))
+
 -- No item is Init or Discard: what is read as a gate has a statement.
 either : (t : Bool) (m n : ℕ) → IsTrue (hasStatement m) → IsTrue (hasStatement n) → IsTrue (hasStatement (cond t m n))
 either true m n h k = h
@@ -163,7 +224,7 @@ kind-written first second name =
     (either (eqb first 122) _ _ tt
     (either (eqb first 115) _ _ tt
     (either (eqb first 116) _ _ tt
-    (either (eqb first 99) _ _ (either (eqb second 114) _ _ tt tt)
+    (either (eqb first 99) _ _ (either (eqb second 114) _ _ tt (either (eqb second 99) _ _ tt tt))
     (either (eqb first 109) _ _ tt
     (either (eqb first 105) _ _ (either (eqb name 120) _ _ tt tt)
     (either (eqb first 113) _ _ tt
@@ -171,22 +232,24 @@ kind-written first second name =
 
 pub item-written : (text : List ℕ) → IsTrue (hasStatement (itemIn text .kind))
 unfolding itemIn hasStatement
-item-written text = of (eqb k no-item) (eqb (between k) 0) (kind-written _ _ _)
+item-written text = of (eqb k no-item) (eqb (between k) 0) (eqb k ccx-item) (kind-written _ _ _)
   where
     k : ℕ
     k = kindIn text
 
-    of : (s t : Bool)
+    of : (s t u : Bool)
         → IsTrue (hasStatement k)
-        → IsTrue (hasStatement (cond s (item no-item 0 0 0) (cond t (oneNumber k text) (twoNumbers k text)) .kind))
-    of true t h = tt
-    of false true h = h
-    of false false h = h
+        → IsTrue (hasStatement
+        (cond s (item no-item 0 0 0 0) (cond t (oneNumber k text) (cond u (threeNumbers k text) (twoNumbers k text))) .kind))
+    of true t u h = tt
+    of false true u h = h
+    of false false true h = h
+    of false false false h = h
 
 -- The declaration of an input is read.
 pub declaration-reads : (k : ℕ) (α : Wire) (rest : List ℕ)
     → k < 100
-    → (s : ℕ) × Reads (declaration k α ++ rest) (inputKind α) k s rest
+    → (s : ℕ) × Reads (declaration k α ++ rest) (inputKind α) k s 0 rest
 unfolding kindOf before between behind
 declaration-reads k Bit rest small =
     let end = ascii "[1];\n" in
@@ -197,7 +260,7 @@ declaration-reads k Qubit rest small =
     = ap (λ l. l ++ rest) (append-nil (decimal k ++ end)) ∙ append-assoc (decimal k) end rest in
     let second = (end ++ (bitRegister k ++ [])) ++ rest in (
       k,
-      two-read 129 k _ second rest k (end ++ rest) refl refl refl small
+      two-read 129 k _ second rest k (end ++ rest) refl refl refl refl small
           (append-assoc (decimal k) (end ++ (bitRegister k ++ [])) rest)
           refl small last refl refl,
     )
@@ -206,7 +269,7 @@ declaration-reads k Qubit rest small =
 pub output-reads : (α : Wire) (r : ℕ) (rest : List ℕ)
     → r < 100
     → isDigit (getD rest 0 0) ≡ false
-    → Reads (32 ∷ (registerName α r ++ rest)) output-item r 0 rest
+    → Reads (32 ∷ (registerName α r ++ rest)) output-item r 0 0 rest
 unfolding kindOf before between behind
 output-reads Bit r rest small ends = one-read 130 r _ rest rest refl refl refl small refl ends refl
 output-reads Qubit r rest small ends = one-read 130 r _ rest rest refl refl refl small refl ends refl
@@ -226,15 +289,20 @@ name-at r text t small e ends =
     (λ l. getD l 5 0)
     (drop-more 4 d text ∙ ap (λ l. drop (digitsIn l) l) e ∙ number-read r t small ends .1)
 
--- The line of a gate is read: its number, the register of its first wire and, if it takes two, that of its second.
+-- The line of a gate is read: its number, and the registers of the wires that it takes.
+pub record GateReads (n : ℕ) (rs rest : List ℕ) : Type 0 where
+  pub second : ℕ
+  pub third : ℕ
+  pub reads : Reads (gateLine n rs ++ rest) n (getD rs 0 0) second third rest
+  pub registers : take (wiresIn n) (getD rs 0 0 ∷ second ∷ third ∷ []) ≡ take (wiresIn n) (each (λ k. getD rs k 0) entry-slots)
+
 pub gate-reads : (n : ℕ) (rs rest : List ℕ)
     → IsTrue (isGate n)
     → IsTrue (hasStatement n)
-    → getD rs 0 0 < 100
-    → getD rs 1 0 < 100
-    → (s : ℕ) × Reads (gateLine n rs ++ rest) n (getD rs 0 0) s rest × (1 < wiresIn n → s ≡ getD rs 1 0)
+    → ((k : ℕ) → getD rs k 0 < 100)
+    → GateReads n rs rest
 unfolding gateLine isGate wiresIn hasStatement kindOf before between behind
-gate-reads n rs rest known written small small′ = of n known written
+gate-reads n rs rest known written small = of n known written
   where
     r : ℕ
     r = getD rs 0 0
@@ -242,55 +310,101 @@ gate-reads n rs rest known written small small′ = of n known written
     s : ℕ
     s = getD rs 1 0
 
+    q : ℕ
+    q = getD rs 2 0
+
     end : List ℕ
     end = ascii "[0];\n"
 
     last : (q : ℕ) → (decimal q ++ end) ++ rest ≡ decimal q ++ (end ++ rest)
     last q = append-assoc (decimal q) end rest
 
-    of : (m : ℕ) → IsTrue (isGate m) → IsTrue (hasStatement m)
-        → (x : ℕ) × Reads (gateLine m rs ++ rest) m r x rest × (1 < wiresIn m → x ≡ s)
-    of zero g h = (0, one-read 0 r _ (end ++ rest) rest refl refl refl small (last r) refl refl, λ more. absurd (omega arith))
+    of : (m : ℕ) → IsTrue (isGate m) → IsTrue (hasStatement m) → GateReads m rs rest
+    of zero g h =
+        record {
+          second = 0;
+          third = 0;
+          reads = one-read 0 r _ (end ++ rest) rest refl refl refl (small 0) (last r) refl refl;
+          registers = refl;
+        }
     of (suc zero) g h =
-        (0, one-read 1 r _ (end ++ rest) rest refl refl refl small (last r) refl refl, λ more. absurd (omega arith))
+        record {
+          second = 0;
+          third = 0;
+          reads = one-read 1 r _ (end ++ rest) rest refl refl refl (small 0) (last r) refl refl;
+          registers = refl;
+        }
     of (suc (suc zero)) g h =
-        (0, one-read 2 r _ (end ++ rest) rest refl refl refl small (last r) refl refl, λ more. absurd (omega arith))
+        record {
+          second = 0;
+          third = 0;
+          reads = one-read 2 r _ (end ++ rest) rest refl refl refl (small 0) (last r) refl refl;
+          registers = refl;
+        }
     of (suc (suc (suc zero))) g h =
-        (0, one-read 3 r _ (end ++ rest) rest refl refl refl small (last r) refl refl, λ more. absurd (omega arith))
+        record {
+          second = 0;
+          third = 0;
+          reads = one-read 3 r _ (end ++ rest) rest refl refl refl (small 0) (last r) refl refl;
+          registers = refl;
+        }
     of (suc (suc (suc (suc zero)))) g h =
-        (0, one-read 4 r _ (end ++ rest) rest refl refl refl small (last r) refl refl, λ more. absurd (omega arith))
+        record {
+          second = 0;
+          third = 0;
+          reads = one-read 4 r _ (end ++ rest) rest refl refl refl (small 0) (last r) refl refl;
+          registers = refl;
+        }
     of (suc (suc (suc (suc (suc zero))))) g h =
-        let t = ascii "[0],q" ++ (decimal s ++ end) in (
-          s,
-          two-read 5 r _ (t ++ rest) rest s (end ++ rest) refl refl refl small (append-assoc (decimal r) t rest) refl small′
-              (last s) refl refl,
-          λ more. refl,
-        )
+        let t = ascii "[0],q" ++ (decimal s ++ end) in
+        record {
+          second = s;
+          third = 0;
+          reads = two-read 5 r _ (t ++ rest) rest s (end ++ rest) refl refl refl refl (small 0)
+              (append-assoc (decimal r) t rest) refl (small 1) (last s) refl refl;
+          registers = refl;
+        }
     of (suc (suc (suc (suc (suc (suc zero)))))) g h =
-        let t = ascii "[0] -> c" ++ (decimal r ++ end) in (
-          r,
-          two-read 6 r _ (t ++ rest) rest r (end ++ rest) refl refl refl small (append-assoc (decimal r) t rest) refl small
-              (last r) refl refl,
-          λ more. absurd (omega arith),
-        )
+        let t = ascii "[0] -> c" ++ (decimal r ++ end) in
+        record {
+          second = r;
+          third = 0;
+          reads = two-read 6 r _ (t ++ rest) rest r (end ++ rest) refl refl refl refl (small 0)
+              (append-assoc (decimal r) t rest) refl (small 0) (last r) refl refl;
+          registers = refl;
+        }
     of (suc (suc (suc (suc (suc (suc (suc zero))))))) g h =
         let t = ascii "==1) x q" ++ (decimal s ++ end) in
-        let first = append-assoc (decimal r) t rest in (
-          s,
-          two-read 7 r _ (t ++ rest) rest s (end ++ rest)
-              (ap (kindOf 105 102) (name-at r (gateLine 7 rs ++ rest) (t ++ rest) small first refl))
-              refl refl small first refl small′ (last s) refl refl,
-          λ more. refl,
-        )
+        let first = append-assoc (decimal r) t rest in
+        record {
+          second = s;
+          third = 0;
+          reads = two-read 7 r _ (t ++ rest) rest s (end ++ rest)
+              (ap (kindOf 105 102) (name-at r (gateLine 7 rs ++ rest) (t ++ rest) (small 0) first refl))
+              refl refl refl (small 0) first refl (small 1) (last s) refl refl;
+          registers = refl;
+        }
     of (suc (suc (suc (suc (suc (suc (suc (suc zero)))))))) g h =
         let t = ascii "==1) z q" ++ (decimal s ++ end) in
-        let first = append-assoc (decimal r) t rest in (
-          s,
-          two-read 8 r _ (t ++ rest) rest s (end ++ rest)
-              (ap (kindOf 105 102) (name-at r (gateLine 8 rs ++ rest) (t ++ rest) small first refl))
-              refl refl small first refl small′ (last s) refl refl,
-          λ more. refl,
-        )
+        let first = append-assoc (decimal r) t rest in
+        record {
+          second = s;
+          third = 0;
+          reads = two-read 8 r _ (t ++ rest) rest s (end ++ rest)
+              (ap (kindOf 105 102) (name-at r (gateLine 8 rs ++ rest) (t ++ rest) (small 0) first refl))
+              refl refl refl (small 0) first refl (small 1) (last s) refl refl;
+          registers = refl;
+        }
     of (suc (suc (suc (suc (suc (suc (suc (suc (suc zero))))))))) g h = absurd h
     of (suc (suc (suc (suc (suc (suc (suc (suc (suc (suc zero)))))))))) g h = absurd h
-    of (suc (suc (suc (suc (suc (suc (suc (suc (suc (suc (suc m))))))))))) g h = absurd g
+    of (suc (suc (suc (suc (suc (suc (suc (suc (suc (suc (suc zero))))))))))) g h =
+        let u = ascii "[0],q" ++ (decimal q ++ end) in
+        let t = ascii "[0],q" ++ (decimal s ++ u) in
+        record {
+          second = s;
+          third = q;
+          reads = three-read r s q _ (t ++ rest) (u ++ rest) (end ++ rest) rest refl (small 0) (append-assoc (decimal r) t rest) refl
+              (small 1) (append-assoc (decimal s) u rest) refl (small 2) (last q) refl refl;
+          registers = refl;
+        }
+    of (suc (suc (suc (suc (suc (suc (suc (suc (suc (suc (suc (suc m)))))))))))) g h = absurd g

@@ -3,10 +3,10 @@ use Prim.Native.Nat.{ℕ, suc, _+_, _≤_, _<_}
 use native.Mathlib.Omega.{arith}
 use native.Mathlib.Nat.{zero-add, suc-add}
 use mathlib.Core.Path.{_≡_, refl, sym, _∙_, ap, ap₂, subst}
-use mathlib.Core.Bool.{true, false, _||_, cond}
+use mathlib.Core.Bool.{true, false, _||_}
 use mathlib.Core.List.{List, [], _∷_, _++_, map, append-assoc, append-nil}
-use lib.Dec.{T as IsTrue, ltb}
-use lib.ListN.{length, getD, set, take, drop, length-append}
+use lib.Dec.{T as IsTrue}
+use lib.ListN.{length, getD, take, drop, length-append, length-map}
 use lib.Seq.{append-snoc}
 use borrow.Author.Tests.{ne-eqb}
 use Rattle.rules.specs.Types.{Wire, Bit, Qubit}
@@ -17,17 +17,17 @@ use Rattle.rules.specs.Sizes.{most-labels}
 use Rattle.rules.specs.Laws.Booleans.{is-true}
 use Rattle.rules.specs.Laws.Wires.{one-if-equal, count-append}
 use Rattle.rules.specs.Laws.KnownGates.{KnownGates}
-use Rattle.listing.specs.Listing.{inputKind}
+use Rattle.listing.specs.Listing.{inputKind, entry-slots}
 use Rattle.listing.specs.Reading.{inputType}
 use Rattle.listing.specs.Laws.ReadBack.{wires-fit}
 use Rattle.text.specs.Text.{spaced}
 use Rattle.openqasm.specs.Layout.{hasStatement, AllWritten, declaration, declarations, gateLine, gateLines, outputName}
 use Rattle.openqasm_reader.specs.Items.{isDigit, bit-item, qubit-item, itemIn}
-use Rattle.openqasm_parts.specs.Reading.{Parts, isInput, withInput, withGate, isOutput, withOutput, itemsRead}
-use Rattle.openqasm_parts.specs.Laws.Items.{item, Reads, declaration-reads, gate-reads, output-reads}
+use Rattle.openqasm_parts.specs.Reading.{Parts, isInput, withInput, holding, withGate, isOutput, withOutput, itemsRead}
+use Rattle.openqasm_parts.specs.Laws.Items.{item, declaration-reads, GateReads, gate-reads, output-reads}
 use Rattle.openqasm_parts.specs.Laws.Reading.{item-next}
-use Rattle.openqasm.specs.Laws.Registers.{as-many, map-below, registers-few}
-use Rattle.openqasm_parts.specs.Laws.Held.{takes-some, registerOf, holding, heldBehind}
+use Rattle.openqasm.specs.Laws.Registers.{each, first-each, as-many, map-below, registers-few}
+use Rattle.openqasm_parts.specs.Laws.Held.{registerOf, heldBehind}
 use Rattle.openqasm_parts.specs.Laws.Held.{typed-made, held-back}
 
 -- Parts, one after the other.
@@ -51,7 +51,7 @@ input-wanted Qubit = refl
 -- One more input has been read.
 one-input : (J : List Wire) (α : Wire) (first second bytes : ℕ) (text rest : List ℕ)
     → drop bytes text ≡ rest
-    → withInput (readTo J [] [] text) (item (inputKind α) first second bytes) ≡ readTo (J ++ (α ∷ [])) [] [] rest
+    → withInput (readTo J [] [] text) (item (inputKind α) first second 0 bytes) ≡ readTo (J ++ (α ∷ [])) [] [] rest
 one-input J α first second bytes text rest left =
     let L = J ++ (α ∷ []) in
     let held = numbers 0 most-labels in
@@ -82,55 +82,24 @@ inputs-read (α ∷ I) J from k rest few =
     ∙ inputs-read I (J ++ (α ∷ [])) (suc from) k rest (omega arith)
     ∙ ap (λ L. itemsRead isInput withInput k (readTo L [] [] rest)) (append-snoc J α I)
 
--- A gate that takes one wire or two takes what its registers hold, and they come to hold what it makes.
-wires-back : (held : List ℕ) (f : ℕ → ℕ) (ws : List ℕ) (k second made : ℕ)
-    → length ws ≡ k
-    → 1 ≤ k
-    → k ≤ 2
+-- A gate takes what its registers hold.
+wires-back : (held : List ℕ) (f : ℕ → ℕ) (ws : List ℕ)
     → ((w : ℕ) → 1 ≤ count w ws → getD held (f w) 0 ≡ w)
-    → (1 < k → second ≡ getD (map f ws) 1 0)
-    → let first = getD (map f ws) 0 0 in
-    (take k (getD held first 0 ∷ getD held second 0 ∷ []) ≡ ws)
-    × (cond (ltb 1 k) (set (set held first made) second (suc made)) (set held first made) ≡ holding held (map f ws) made)
-wires-back held f [] k second made many least most back both = absurd (omega arith)
-wires-back held f (w ∷ []) k second made many least most back both =
-    subst
-    (λ j.
-    (take j (getD held (f w) 0 ∷ getD held second 0 ∷ []) ≡ w ∷ [])
-    × (cond (ltb 1 j) (set (set held (f w) made) second (suc made)) (set held (f w) made) ≡ set held (f w) made))
-    many
-    (ap (λ x. x ∷ []) (back w (omega (arith, one-if-equal w w refl))), refl)
-wires-back held f (w ∷ v ∷ []) k second made many least most back both =
-    let e = both (omega arith) in
-    subst
-    (λ j.
-    (take j (getD held (f w) 0 ∷ getD held second 0 ∷ []) ≡ w ∷ v ∷ [])
-    × (cond (ltb 1 j) (set (set held (f w) made) second (suc made)) (set held (f w) made)
-    ≡ set (set held (f w) made) (f v) (suc made)))
-    many (
-      ap₂
-          (λ x y. x ∷ y ∷ [])
-          (back w (omega (arith, one-if-equal w w refl)))
-          (ap (λ r. getD held r 0) e ∙ back v (omega (arith, one-if-equal v v refl))),
-      ap (λ r. set (set held (f w) made) r (suc made)) e,
-    )
-wires-back held f (w ∷ v ∷ u ∷ ws) k second made many least most back both = absurd (omega arith)
+    → map (λ r. getD held r 0) (map f ws) ≡ ws
+wires-back held f [] back = refl
+wires-back held f (w ∷ ws) back =
+    ap₂ _∷_ (back w (omega (arith, one-if-equal w w refl))) (wires-back held f ws (λ v h. back v (omega arith)))
 
 -- One more gate has been read.
-one-gate : (I : List Wire) (n : ℕ) (ws : List ℕ) (gs : List Gate) (second bytes : ℕ) (text rest : List ℕ)
-    → IsTrue (isGate n)
+one-gate : (I : List Wire) (n : ℕ) (ws : List ℕ) (gs : List Gate) (first second third bytes : ℕ) (text rest : List ℕ)
     → IsTrue (hasStatement n)
-    → length ws ≡ wiresIn n
     → ((w : ℕ) → 1 ≤ count w ws → getD (heldBehind most-labels I gs) (registerOf I gs w) 0 ≡ w)
-    → (1 < wiresIn n → second ≡ getD (map (registerOf I gs) ws) 1 0)
+    → take (wiresIn n) (first ∷ second ∷ third ∷ []) ≡ map (registerOf I gs) ws
     → drop bytes text ≡ rest
-    → withGate (readTo I gs [] text) (item n (getD (map (registerOf I gs) ws) 0 0) second bytes)
-    ≡ readTo I ((n on ws) ∷ gs) [] rest
-one-gate I n ws gs second bytes text rest known written many back both left =
+    → withGate (readTo I gs [] text) (item n first second third bytes) ≡ readTo I ((n on ws) ∷ gs) [] rest
+one-gate I n ws gs first second third bytes text rest written back registers left =
     let held = heldBehind most-labels I gs in
-    let rs = map (registerOf I gs) ws in
     let made = length (I ++ outputs gs) in
-    let e = wires-back held (registerOf I gs) ws (wiresIn n) second made many (takes-some n known written) (wires-fit n) back both in
     let more : made + wiresIn n ≡ length (I ++ outputs ((n on ws) ∷ gs))
     = omega (
       arith,
@@ -139,8 +108,13 @@ one-gate I n ws gs second bytes text rest known written many back both left =
       length-append (outputs gs) (gateOutputs n),
       as-many n written,
     ) in
-    ap₂ (λ vs h. parts I ((n on vs) ∷ gs) [] h (made + wiresIn n) (drop bytes text)) (e .0) (e .1)
-    ∙ ap₂ (parts I ((n on ws) ∷ gs) [] (holding held rs made)) more left
+    ap
+    (λ rs. parts I ((n on map (λ r. getD held r 0) rs) ∷ gs) [] (holding held rs made) (made + wiresIn n) (drop bytes text))
+    registers
+    ∙ ap
+    (λ vs. parts I ((n on vs) ∷ gs) [] (holding held (map (registerOf I gs) ws) made) (made + wiresIn n) (drop bytes text))
+    (wires-back held (registerOf I gs) ws back)
+    ∙ ap₂ (parts I ((n on ws) ∷ gs) [] (holding held (map (registerOf I gs) ws) made)) more left
 
 -- Registers have at most two digits.
 few-registers : (I : List Wire) (gs : List Gate) → length I ≤ most-labels → (w : ℕ) → registerOf I gs w < 100
@@ -151,11 +125,10 @@ line-reads : (I : List Wire) (n : ℕ) (ws : List ℕ) (gs : List Gate) (rest : 
     → length I ≤ most-labels
     → IsTrue (isGate n)
     → IsTrue (hasStatement n)
-    → let rs = map (registerOf I gs) ws in
-    (s : ℕ) × Reads (gateLine n rs ++ rest) n (getD rs 0 0) s rest × (1 < wiresIn n → s ≡ getD rs 1 0)
+    → GateReads n (map (registerOf I gs) ws) rest
 line-reads I n ws gs rest few known written =
-    let small = map-below 100 (omega arith) (registerOf I gs) (few-registers I gs few) ws in
-    gate-reads n (map (registerOf I gs) ws) rest known written (small 0) (small 1)
+    gate-reads n (map (registerOf I gs) ws) rest known written
+    (map-below 100 (omega arith) (registerOf I gs) (few-registers I gs few) ws)
 
 -- Gates are read, the oldest first, and then at most k more.
 pub gates-read : (I : List Wire) (gs : List Gate) (k : ℕ) (rest : List ℕ)
@@ -171,7 +144,11 @@ gates-read I [] k rest few known written earlier once =
 gates-read I ((n on ws) ∷ gs) k rest few known written (next-gate e o earlier) once =
     let rs = map (registerOf I gs) ws in
     let text = gateLine n rs ++ rest in
-    let reads = line-reads I n ws gs rest few (known .0) (written .0) in
+    let line = line-reads I n ws gs rest few (known .0) (written .0) in
+    let long : length rs ≡ wiresIn n = length-map ws (registerOf I gs) ∙ known .1 in
+    let registers = line .registers
+    ∙ ap (λ k. take k (each (λ j. getD rs j 0) entry-slots)) (sym long)
+    ∙ first-each rs entry-slots (omega (arith, wires-fit n, long)) in
     let older : (w : ℕ) → count w (taken gs) ≤ 1 = λ w. omega (arith, once w, count-append w ws (taken gs)) in
     let steps : suc (length gs) + k ≡ length gs + suc k = omega arith in
     ap₂
@@ -179,16 +156,16 @@ gates-read I ((n on ws) ∷ gs) k rest few known written (next-gate e o earlier)
     steps
     (append-assoc (gateLines I gs) (gateLine n rs) rest)
     ∙ gates-read I gs (suc k) text few (known .2) (written .1) earlier older
-    ∙ item-next isGate withGate k (readTo I gs [] text) (reads .1) (is-true (isGate n) (known .0))
+    ∙ item-next isGate withGate k (readTo I gs [] text) (line .reads) (is-true (isGate n) (known .0))
     ∙ ap
     (itemsRead isGate withGate k)
-    (one-gate I n ws gs (reads .0) (reads .1 .bytes) text rest (known .0) (written .0) (known .1)
+    (one-gate I n ws gs (getD rs 0 0) (line .second) (line .third) (line .reads .bytes) text rest (written .0)
     (λ w stands.
     held-back most-labels I gs (omega arith) few (known .2) (written .1) earlier older w
     (typed-made o w stands)
     (omega (arith, once w, count-append w ws (taken gs))))
-    (reads .2)
-    (reads .1 .rest-is))
+    registers
+    (line .reads .rest-is))
 
 -- A gate is no input.
 gate-no-input : (n : ℕ) → IsTrue (isGate n) → isInput n ≡ false
@@ -209,10 +186,10 @@ pub gates-no-input : (I : List Wire) (gs : List Gate) (rest : List ℕ)
 gates-no-input I [] rest few known written none = none
 gates-no-input I ((n on ws) ∷ gs) rest few known written none =
     let rs = map (registerOf I gs) ws in
-    let reads = line-reads I n ws gs rest few (known .0) (written .0) in
+    let line = line-reads I n ws gs rest few (known .0) (written .0) in
     ap (λ t. isInput (itemIn t .kind)) (append-assoc (gateLines I gs) (gateLine n rs) rest)
     ∙ gates-no-input I gs (gateLine n rs ++ rest) few (known .2) (written .1)
-    (ap (λ i. isInput (i .kind)) (reads .1 .item-is) ∙ gate-no-input n (known .0))
+    (ap (λ i. isInput (i .kind)) (line .reads .item-is) ∙ gate-no-input n (known .0))
 
 -- No digit follows the name of an output.
 name-ends : (names : List (List ℕ)) (rest : List ℕ)

@@ -48,11 +48,12 @@ module _ (wanted : ℕ → Bool) (with-item : Parts → Item → Parts) where
       of false later = omega arith
 
   -- A wanted item is read, and then at most k more.
-  pub item-next : {kind first second : ℕ} {rest : List ℕ} (k : ℕ) (p : Parts) (reads : Reads (p .rest) kind first second rest)
+  pub item-next : {kind first second third : ℕ} {rest : List ℕ} (k : ℕ) (p : Parts)
+      (reads : Reads (p .rest) kind first second third rest)
       → wanted kind ≡ true
-      → itemsRead wanted with-item (suc k) p ≡ itemsRead wanted with-item k (with-item p (item kind first second (reads .bytes)))
-  item-next {kind} {first} {second} k p reads is =
-      let this = item kind first second (reads .bytes) in
+      → itemsRead wanted with-item (suc k) p ≡ itemsRead wanted with-item k (with-item p (item kind first second third (reads .bytes)))
+  item-next {kind} {first} {second} {third} k p reads is =
+      let this = item kind first second third (reads .bytes) in
       ap (λ i. cond (wanted (i .kind)) (itemsRead wanted with-item k (with-item p i)) p) (reads .item-is)
       ∙ ap (λ b. cond b (itemsRead wanted with-item k (with-item p this)) p) is
 

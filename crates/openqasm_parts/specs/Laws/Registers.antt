@@ -5,7 +5,7 @@ use mathlib.Core.Path.{_≡_, sym, _∙_, ap, ap₂, subst}
 use mathlib.Core.Bool.{true, cond}
 use mathlib.Core.List.{List, [], _∷_, _++_, append-assoc, append-nil}
 use lib.Dec.{T as IsTrue, ltb}
-use lib.ListN.{length, getD, set, drop, drop-of-length-le}
+use lib.ListN.{length, getD, set, take, drop, drop-of-length-le}
 use lib.Seq.{drop-cons, set-append-seam}
 use borrow.Author.Tests.{lt-ltb, le-ltb}
 use Rattle.rules.specs.Gates.{isGate, wiresIn}
@@ -13,12 +13,13 @@ use Rattle.rules.specs.Circuits.{numbers}
 use Rattle.rules.specs.Slots.{no-wire}
 use Rattle.words.specs.Words.{words, putWords}
 use Rattle.words.specs.Laws.Words.{word-put}
+use Rattle.listing.specs.Listing.{entry-slots}
 use Rattle.listing.specs.Laws.ReadBack.{wires-fit}
 use Rattle.openqasm.specs.Layout.{hasStatement}
 use Rattle.openqasm.specs.Laws.Registers.{length-numbers, numbers-more}
 use Rattle.openqasm_reader.specs.declared.Item.{Item}
 use Rattle.openqasm_reader.specs.Items.{itemIn}
-use Rattle.openqasm_parts.specs.Reading.{heldAfter}
+use Rattle.openqasm_parts.specs.Reading.{holding}
 use Rattle.openqasm_parts.specs.Laws.Items.{item-written}
 use Rattle.openqasm_parts.specs.Laws.Held.{takes-some}
 
@@ -58,49 +59,57 @@ registers-end first m most k is long all =
     ∙ append-nil (numbers 0 k)
     ∙ ap (numbers 0) all
 
--- A gate that is read takes one wire or two.
-pub one-or-two : (item : Item) (text : List ℕ)
+-- A gate that is read takes at least one wire, and no more than an entry has slots.
+pub wires-taken : (item : Item) (text : List ℕ)
     → item ≡ itemIn text
     → isGate (item .kind) ≡ true
-    → (1 ≤ wiresIn (item .kind)) × (wiresIn (item .kind) ≤ 2)
-one-or-two item text is known =
+    → (1 ≤ wiresIn (item .kind)) × (wiresIn (item .kind) ≤ entry-slots)
+wires-taken item text is known =
     let written = subst (λ i. IsTrue (hasStatement (i .kind))) (sym is) (item-written text) in
     (takes-some (item .kind) (subst IsTrue (sym known) tt) written, wires-fit (item .kind))
 
 -- What a gate makes is held where what it takes was.
-module _ (count : ℕ) (m : List ℕ) (first second made : ℕ) where
-  pub holds-one : (m′ : List ℕ)
-      → made < 65536
-      → 1 ≤ count
-      → count < 2
-      → m′ ≡ putWords 1 m first (made ∷ [])
-      → (made + 1 ≡ made + count) × (words m′ ≡ heldAfter (words m) count first second made)
-  holds-one m′ small some one put = (
-    omega arith,
-    small-put m m′ first made small put
-        ∙ sym (ap (λ b. cond b (set (set (words m) first made) second (suc made)) (set (words m) first made))
-        (le-ltb 1 count (omega arith))),
-  )
+module _ (count : ℕ) (m : List ℕ) (first second third made : ℕ) where
+  abbrev Holds : ℕ → List ℕ → Type 0
+  Holds made′ m′ = (made′ ≡ made + count) × (words m′ ≡ holding (words m) (take count (first ∷ second ∷ third ∷ [])) made)
 
-  pub holds-two : (m′ m″ : List ℕ)
-      → made + 1 < 65536
-      → count ≤ 2
-      → 2 ≤ count
-      → m′ ≡ putWords 1 m first (made ∷ [])
-      → m″ ≡ putWords 1 m′ second ((made + 1) ∷ [])
-      → (made + 2 ≡ made + count) × (words m″ ≡ heldAfter (words m) count first second made)
-  holds-two m′ m″ small fits two put put′ =
-      let next : made + 1 ≡ suc made = omega arith in (
-        omega arith,
-        small-put m′ m″ second (made + 1) small put′
-            ∙ ap₂ (λ l n. set l second n) (small-put m m′ first made (omega arith) put) next
-            ∙ sym (ap (λ b. cond b (set (set (words m) first made) second (suc made)) (set (words m) first made))
-            (lt-ltb 1 count (omega arith))),
-      )
+  module _ (m₁ : List ℕ) (small : made + 2 < 65536) (put₁ : m₁ ≡ putWords 1 m first (made ∷ [])) where
+    one-held : words m₁ ≡ set (words m) first made
+    one-held = small-put m m₁ first made (omega arith) put₁
 
--- The second slot of a gate that takes so many wires.
-pub no-second : (count w : ℕ) → count < 2 → no-wire ≡ cond (ltb count 2) no-wire w
-no-second count w one = sym (ap (λ b. cond b no-wire w) (lt-ltb count 2 one))
+    pub holds-one : 1 ≤ count → count < 2 → Holds (made + 1) m₁
+    holds-one some one =
+        let is : 1 ≡ count = omega arith in
+        (omega arith, one-held ∙ ap (λ k. holding (words m) (take k (first ∷ second ∷ third ∷ [])) made) is)
 
-pub second-is : (count w : ℕ) → 2 ≤ count → w ≡ cond (ltb count 2) no-wire w
-second-is count w two = sym (ap (λ b. cond b no-wire w) (le-ltb count 2 two))
+    module _ (m₂ : List ℕ) (put₂ : m₂ ≡ putWords 1 m₁ second ((made + 1) ∷ [])) where
+      two-held : words m₂ ≡ set (set (words m) first made) second (suc made)
+      two-held =
+          let next : made + 1 ≡ suc made = omega arith in
+          small-put m₁ m₂ second (made + 1) (omega arith) put₂ ∙ ap₂ (λ l n. set l second n) one-held next
+
+      pub holds-two : 2 ≤ count → count < 3 → Holds (made + 2) m₂
+      holds-two some two =
+          let is : 2 ≡ count = omega arith in
+          (omega arith, two-held ∙ ap (λ k. holding (words m) (take k (first ∷ second ∷ third ∷ [])) made) is)
+
+      pub holds-three : (m₃ : List ℕ)
+          → m₃ ≡ putWords 1 m₂ third ((made + 2) ∷ [])
+          → 3 ≤ count
+          → count ≤ entry-slots
+          → Holds (made + 3) m₃
+      holds-three m₃ put₃ some few =
+          let is : 3 ≡ count = omega arith in
+          let next : made + 2 ≡ suc (suc made) = omega arith in (
+            omega arith,
+            small-put m₂ m₃ third (made + 2) small put₃
+                ∙ ap₂ (λ l n. set l third n) two-held next
+                ∙ ap (λ k. holding (words m) (take k (first ∷ second ∷ third ∷ [])) made) is,
+          )
+
+-- What stands in a slot of a gate that takes so many wires.
+pub no-slot : (slot count w : ℕ) → count ≤ slot → no-wire ≡ cond (ltb slot count) w no-wire
+no-slot slot count w past = sym (ap (λ b. cond b w no-wire) (le-ltb slot count past))
+
+pub slot-is : (slot count w : ℕ) → slot < count → w ≡ cond (ltb slot count) w no-wire
+slot-is slot count w below = sym (ap (λ b. cond b w no-wire) (lt-ltb slot count below))

@@ -28,11 +28,10 @@ use Rattle.listing.specs.Laws.ReadBack.{wires-fit}
 use Rattle.openqasm_reader.specs.declared.Item.{Item}
 use Rattle.openqasm_reader.specs.Items.{bit-item, qubit-item, itemIn}
 use Rattle.openqasm_parts.specs.Reading.{Parts, isInput, withInput, wiresTaken, withGate, isOutput, withOutput, itemsRead}
-use Rattle.openqasm_parts.specs.Reading.{heldAfter, begun, atOutputs, partsRead, listingRead}
+use Rattle.openqasm_parts.specs.Reading.{holding, begun, atOutputs, partsRead, listingRead}
 use Rattle.openqasm_parts.specs.Stored.{behindInputs, behindGates, behindOutputs, Adds, assembled, Stored}
 use Rattle.openqasm_parts.specs.Stored.{InputsRead, GatesRead, OutputsRead}
 use Rattle.openqasm_parts.specs.Laws.Reading.{items-keep, items-end}
-use Rattle.openqasm_parts.specs.Laws.Registers.{one-or-two}
 
 -- BYTES BEHIND OTHERS
 
@@ -57,37 +56,27 @@ puts-add {m} {ys} {m′} {at} {at′} p = record { behind = stands-more }
         let behind : length (xs ++ ys) ≡ at′ = omega (arith, w .place) in
         ap (λ k. take k m′) behind ∙ all-written w (omega arith)
 
--- One byte and four are put where there is room for them.
+-- One byte and a word are put where there is room for them.
 pub one-added : (m : List ℕ) (at x : ℕ) → at < length m → Adds m at (x ∷ []) (set m at x)
 one-added m at x room = puts-add (puts-byte m at x room)
 
-pub four-added : (m : List ℕ) (at x y z w : ℕ)
-    → at + 4 ≤ length m
-    → Adds m at (x ∷ y ∷ z ∷ w ∷ []) (set (set (set (set m at x) (at + 1) y) (at + 2) z) (at + 3) w)
-four-added m at x y z w room =
-    let third : at + 1 + 1 ≡ at + 2 = omega arith in
-    let fourth : at + 2 + 1 ≡ at + 3 = omega arith in
-    let m₁ = set m at x in
-    let m₂ = set m₁ (at + 1) y in
-    let m₃ = set m₂ (at + 2) z in
-    let l₁ = length-set m at x in
-    let l₂ = length-set m₁ (at + 1) y in
-    let l₃ = length-set m₂ (at + 2) z in
-    puts-add
-    (puts-both (puts-byte m at x (omega arith))
-    (puts-both (puts-byte m₁ (at + 1) y (omega arith))
-    (puts-both
-    (subst (λ k. Puts m₂ k (z ∷ []) m₃ (at + 3)) (sym third)
-    (subst (Puts m₂ (at + 2) (z ∷ []) m₃) fourth (puts-byte m₂ (at + 2) z (omega arith))))
-    (puts-byte m₃ (at + 3) w (omega arith)))))
+pub word-put : (m : List ℕ) (at x y : ℕ) → at + 2 ≤ length m → Puts m at (x ∷ y ∷ []) (set (set m at x) (at + 1) y) (at + 2)
+word-put m at x y room =
+    let two : at + 1 + 1 ≡ at + 2 = omega arith in
+    puts-both (puts-byte m at x (omega arith))
+    (subst (Puts (set m at x) (at + 1) (y ∷ []) (set (set m at x) (at + 1) y)) two
+    (puts-byte (set m at x) (at + 1) y (omega (arith, length-set m at x))))
 
--- Two words, one behind the other.
-pub puts-words : {m m′ m″ : List ℕ} {at at′ at″ : ℕ} (first second : ℕ)
-    → Puts m at (bytesOf first) m′ at′
-    → Puts m′ at′ (bytesOf second) m″ at″
-    → Adds m at (flatMap bytesOf (first ∷ second ∷ [])) m″
+-- The slots of an entry, one behind the other.
+pub slots-added : {m m₁ m₂ m₃ : List ℕ} {at : ℕ} (first second third : ℕ)
+    → Puts m at (bytesOf first) m₁ (at + 2)
+    → Puts m₁ (at + 2) (bytesOf second) m₂ (at + 2 + 2)
+    → Puts m₂ (at + 4) (bytesOf third) m₃ (at + 4 + 2)
+    → Adds m at (flatMap bytesOf (first ∷ second ∷ third ∷ [])) m₃
 unfolding flatMap
-puts-words first second p q = puts-add (puts-both p q)
+slots-added {m₁ = m₁} {m₂} {at = at} first second third p q r =
+    let here : at + 2 + 2 ≡ at + 4 = omega arith in
+    puts-add (puts-both p (puts-both (subst (Puts m₁ (at + 2) (bytesOf second) m₂) here q) r))
 
 -- One word.
 pub puts-word : {m m′ : List ℕ} {at at′ : ℕ} (w : ℕ)
@@ -126,11 +115,11 @@ kinds-input I α (g ∷ gs) none = absurd (omega arith)
 slots-input : (I : List Wire) (α : Wire) (gs : List Gate) (outs : List ℕ)
     → 0 ≡ length gs
     → 0 ≡ length outs
-    → (allSlots I gs ++ outs) ++ (no-wire ∷ no-wire ∷ []) ≡ allSlots (I ++ (α ∷ [])) gs ++ outs
+    → (allSlots I gs ++ outs) ++ (slotsFor entry-slots []) ≡ allSlots (I ++ (α ∷ [])) gs ++ outs
 unfolding flatMap
 slots-input I α [] [] none none′ =
     ap
-    (λ l. l ++ (no-wire ∷ no-wire ∷ []))
+    (λ l. l ++ (slotsFor entry-slots []))
     (append-nil (allSlots I []) ∙ append-nil (flatMap inputSlots I))
     ∙ sym (flat-append inputSlots I (α ∷ []))
     ∙ sym (append-nil (flatMap inputSlots (I ++ (α ∷ []))))
@@ -159,12 +148,18 @@ slots-gate I g gs [] none =
     ∙ sym (append-nil (allSlots I (g ∷ gs)))
 slots-gate I g gs (w ∷ outs) none = absurd (omega arith)
 
--- The slots of a gate that takes one wire or two.
-two-slots : (k x y : ℕ) → 1 ≤ k → k ≤ 2 → x ∷ cond (ltb k 2) no-wire y ∷ [] ≡ slotsFor entry-slots (take k (x ∷ y ∷ []))
-two-slots zero x y some few = absurd (omega arith)
-two-slots (suc zero) x y some few = refl
-two-slots (suc (suc zero)) x y some few = refl
-two-slots (suc (suc (suc k))) x y some few = absurd (omega arith)
+-- The slots of a gate that takes so many wires.
+abbrev slotWires : ℕ → ℕ → ℕ → ℕ → List ℕ
+slotWires k x y z = cond (ltb 0 k) x no-wire ∷ cond (ltb 1 k) y no-wire ∷ cond (ltb 2 k) z no-wire ∷ []
+
+slot-wires : (k r s t : ℕ) (f : ℕ → ℕ)
+    → k ≤ entry-slots
+    → slotWires k (f r) (f s) (f t) ≡ slotsFor entry-slots (map f (take k (r ∷ s ∷ t ∷ [])))
+slot-wires zero r s t f few = refl
+slot-wires (suc zero) r s t f few = refl
+slot-wires (suc (suc zero)) r s t f few = refl
+slot-wires (suc (suc (suc zero))) r s t f few = refl
+slot-wires (suc (suc (suc (suc k)))) r s t f few = absurd (omega arith)
 
 -- The kind of an input gives its type, and back.
 type-kind : (kind : ℕ) → isInput kind ≡ true → kind ≡ inputKind (inputType kind)
@@ -215,7 +210,7 @@ module _ {p : Parts} {text kinds slots kinds′ slots′ : List ℕ} {at : ℕ} 
       → i + 1 ≤ length kinds
       → 2 * entry-slots * (i + 1) ≤ length slots
       → Adds kinds i (item .kind ∷ []) kinds′
-      → Adds slots (2 * entry-slots * i) (flatMap bytesOf (no-wire ∷ no-wire ∷ [])) slots′
+      → Adds slots (2 * entry-slots * i) (flatMap bytesOf (slotsFor entry-slots [])) slots′
       → Stored (withInput p item) text (at + item .length) (i + 1) 0 0 kinds′ slots′
   stored-input {i} s wants room room′ kind wires =
       let I = p .inputs in
@@ -237,7 +232,7 @@ module _ {p : Parts} {text kinds slots kinds′ slots′ : List ℕ} {at : ℕ} 
         slots-stand = subst
             (λ ws. Stands slots′ 0 (flatMap bytesOf ws))
             (slots-input I α gs (p .outs) (s .gate-count) (s .output-count))
-            (words-add (allSlots I gs ++ p .outs) (no-wire ∷ no-wire ∷ []) (omega arith) wires (s .slots-stand) (omega arith));
+            (words-add (allSlots I gs ++ p .outs) (slotsFor entry-slots []) (omega arith) wires (s .slots-stand) (omega arith));
       }
 
   stored-gate : {inputs i : ℕ}
@@ -327,7 +322,7 @@ module _ {labels : ℕ} {text kinds slots : List ℕ} {at i : ℕ} where
       → i + 1 ≤ length kinds
       → 2 * entry-slots * (i + 1) ≤ length slots
       → Adds kinds i (item .kind ∷ []) kinds′
-      → Adds slots (2 * entry-slots * i) (flatMap bytesOf (no-wire ∷ no-wire ∷ [])) slots′
+      → Adds slots (2 * entry-slots * i) (flatMap bytesOf (slotsFor entry-slots [])) slots′
       → InputsRead labels (labels - (i + 1)) text (at + item .length) (i + 1) kinds′ slots′
   input-next item w below is wants short room room′ kind wires =
       let p = w .so-far in
@@ -385,7 +380,7 @@ gates-start {labels} {text} {kinds = kinds} {slots = slots} {at} {inputs} gates 
     }
 
 module _ {labels gates : ℕ} {text held kinds slots : List ℕ} {at inputs i made : ℕ} where
-  pub gate-next : {held′ kinds′ slots′ : List ℕ} {count made′ first second : ℕ} (item : Item)
+  pub gate-next : {held′ kinds′ slots′ : List ℕ} {count made′ first second third : ℕ} (item : Item)
       → GatesRead labels gates (gates - i) text at inputs i made held kinds slots
       → i < gates
       → item ≡ itemIn (drop at text)
@@ -394,31 +389,33 @@ module _ {labels gates : ℕ} {text held kinds slots : List ℕ} {at inputs i ma
       → inputs + i + 1 ≤ length kinds
       → 2 * entry-slots * (inputs + i + 1) ≤ length slots
       → count ≡ wiresIn (item .kind)
-      → first ≡ getD (words held) (item .first) 0
-      → second ≡ cond (ltb count 2) no-wire (getD (words held) (item .second) 0)
+      → first ≡ cond (ltb 0 count) (getD (words held) (item .first) 0) no-wire
+      → second ≡ cond (ltb 1 count) (getD (words held) (item .second) 0) no-wire
+      → third ≡ cond (ltb 2 count) (getD (words held) (item .third) 0) no-wire
       → Adds kinds (inputs + i) (item .kind ∷ []) kinds′
-      → Adds slots (2 * entry-slots * (inputs + i)) (flatMap bytesOf (first ∷ second ∷ [])) slots′
+      → Adds slots (2 * entry-slots * (inputs + i)) (flatMap bytesOf (first ∷ second ∷ third ∷ [])) slots′
       → made′ ≡ made + count
-      → words held′ ≡ heldAfter (words held) count (item .first) (item .second) made
+      → words held′ ≡ holding (words held) (take count (item .first ∷ item .second ∷ item .third ∷ [])) made
       → GatesRead labels gates (gates - (i + 1)) text (at + item .length) inputs (i + 1) made′ held′ kinds′ slots′
-  gate-next {slots′ = slots′} item w below is wants short room room′ counted is-first is-second kind wires makes holds =
+  gate-next {slots′ = slots′} item w below is wants short room room′ counted is-first is-second is-third kind wires
+      makes holds =
       let p = w .so-far in
       let n = item .kind in
       let here : item ≡ itemIn (p .rest) = is ∙ ap itemIn (sym (w .stored .rest-is)) in
-      let takes = one-or-two item (drop at text) is wants in
+      let few : wiresIn n ≤ entry-slots = wires-fit n in
+      let registers : List ℕ = item .first ∷ item .second ∷ item .third ∷ [] in
       let slots-are =
-      ap₂ (λ x y. x ∷ y ∷ []) is-first is-second
-      ∙ ap₂ (λ k l. getD l (item .first) 0 ∷ cond (ltb k 2) no-wire (getD l (item .second) 0) ∷ []) counted (w .held-are)
-      ∙ two-slots (wiresIn n) (getD (p .held) (item .first) 0) (getD (p .held) (item .second) 0)
-      (takes .0) (takes .1) in
+      ap₂ _∷_ is-first (ap₂ _∷_ is-second (ap (λ z. z ∷ []) is-third))
+      ∙ ap₂ (λ k l. slotWires k (getD l (item .first) 0) (getD l (item .second) 0) (getD l (item .third) 0)) counted (w .held-are)
+      ∙ slot-wires (wiresIn n) (item .first) (item .second) (item .third) (λ r. getD (p .held) r 0) few in
       record {
         so-far = withGate p item;
         then-all = item-left isGate withGate p item below here wants ∙ w .then-all;
         stored = stored-gate item (w .stored) wants room room′ kind
             (subst (λ ws. Adds slots (2 * entry-slots * (inputs + i)) (flatMap bytesOf ws) slots′) slots-are wires);
         held-are = holds
-            ∙ ap (λ k. heldAfter (words held) k (item .first) (item .second) made) counted
-            ∙ ap₂ (λ l m. heldAfter l (wiresIn n) (item .first) (item .second) m) (w .held-are) (w .made-is);
+            ∙ ap (λ k. holding (words held) (take k registers) made) counted
+            ∙ ap₂ (λ l m. holding l (take (wiresIn n) registers) m) (w .held-are) (w .made-is);
         made-is = makes ∙ ap₂ _+_ (w .made-is) counted;
         few-inputs = w .few-inputs;
         few = omega (arith, w .few);

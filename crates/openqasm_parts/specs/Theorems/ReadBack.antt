@@ -5,7 +5,7 @@ use native.Mathlib.Omega.{arith}
 use mathlib.Core.Path.{_≡_, refl, _∙_, ap}
 use mathlib.Core.List.{List, [], _∷_, _++_}
 use lib.Dec.{T as IsTrue}
-use lib.ListN.{length, getD, length-append, length-take}
+use lib.ListN.{length, getD, length-append, length-map, length-take}
 use Rattle.rules.specs.Types.{Wire}
 use Rattle.rules.specs.Gates.{isGate, wiresIn}
 use Rattle.rules.specs.Terms.{Gate}
@@ -13,15 +13,15 @@ use Rattle.rules.specs.Circuits.{taken, count}
 use Rattle.rules.specs.Sizes.{most-labels, most-gates}
 use Rattle.rules.specs.Laws.Wires.{count-append}
 use Rattle.rules.specs.Laws.KnownGates.{KnownGates}
-use Rattle.listing.specs.Listing.{most-outputs}
+use Rattle.listing.specs.Listing.{entry-slots, most-outputs}
 use Rattle.listing.specs.Reading.{inputType}
 use Rattle.listing.specs.Laws.ReadBack.{wires-fit}
 use Rattle.wire_table.specs.WireRules.{GoesOnce}
 use Rattle.openqasm.specs.Layout.{AllWritten, gateLines, outputLine, exportText}
 use Rattle.openqasm_reader.specs.declared.Item.{Item}
 use Rattle.openqasm_reader.specs.Items.{kindOf, itemIn}
-use Rattle.openqasm_parts.specs.Reading.{Parts, isInput, withInput, wiresTaken, withGate, isOutput, withOutput, itemsRead}
-use Rattle.openqasm_parts.specs.Reading.{begun, atOutputs, partsRead}
+use Rattle.openqasm_parts.specs.Reading.{Parts, isInput, withInput, registersRead, wiresTaken, withGate, isOutput, withOutput}
+use Rattle.openqasm_parts.specs.Reading.{itemsRead, begun, atOutputs, partsRead}
 use Rattle.openqasm_parts.specs.Laws.Items.{item-written}
 use Rattle.openqasm_parts.specs.Laws.Reading.{items-keep, items-add, items-end}
 use Rattle.openqasm_parts.specs.Laws.Held.{registerOf, heldBehind, held-back}
@@ -38,9 +38,10 @@ readWithin labels gates outputs text =
 -- One more gate that is read is known, with as many wires as it takes.
 gate-known : (p : Parts) (i : Item) → IsTrue (isGate (i .kind)) → KnownGates (p .gates) → KnownGates (withGate p i .gates)
 gate-known p i known older =
-    let read = getD (p .held) (i .first) 0 ∷ getD (p .held) (i .second) 0 ∷ [] in
-    let few : wiresIn (i .kind) ≤ 2 = wires-fit (i .kind) in
-    let many : length (wiresTaken p i) ≡ wiresIn (i .kind) = omega (arith, length-take (wiresIn (i .kind)) read) in
+    let few : wiresIn (i .kind) ≤ entry-slots = wires-fit (i .kind) in
+    let many : length (wiresTaken p i) ≡ wiresIn (i .kind)
+    = length-map (registersRead i) (λ r. getD (p .held) r 0)
+    ∙ omega (arith, length-take (wiresIn (i .kind)) (i .first ∷ i .second ∷ i .third ∷ [])) in
     (known, many, older)
 
 -- What holds of no gate, and of one gate more than it holds of, holds of all that are read, however many these are at most.

@@ -34,7 +34,7 @@ returns c =
     let digits = c .before .before .before .before .number-at .ensures .1 .0 in
     let name = name-here (a .text .now) (a .at) _ _ digits (c .before .before .byte-at .ensures) in
     let named = eq-eqb _ 120 (sym name ∙ c .before .if1 .taken) in
-    item-two (a .text .now) (a .at) 105 7 (sym (start .pre .1)) (ap (λ b. cond b 7 8) named) _ refl refl (c .two-numbers .ensures)
+    item-two (a .text .now) (a .at) 105 7 (sym (start .pre .1)) (ap (λ b. cond b 7 8) named) _ refl refl refl (c .two-numbers .ensures)
 
 two-numbers-requires-2 : tie.Need-two-numbers-requires-2
 unfolding before between behind
@@ -48,7 +48,7 @@ returns-2 c =
     let digits = c .before .before .before .before .number-at .ensures .1 .0 in
     let name = name-here (a .text .now) (a .at) _ _ digits (c .before .before .byte-at .ensures) in
     let named = ne-eqb _ 120 (λ e. c .before .if1 .left (name ∙ e)) in
-    item-two (a .text .now) (a .at) 105 8 (sym (start .pre .1)) (ap (λ b. cond b 7 8) named) _ refl refl (c .two-numbers2 .ensures)
+    item-two (a .text .now) (a .at) 105 8 (sym (start .pre .1)) (ap (λ b. cond b 7 8) named) _ refl refl refl (c .two-numbers2 .ensures)
 
 pub controlled-gate-spec : {M : Type 1} → statement M
 controlled-gate-spec =

@@ -1,9 +1,8 @@
+-- `openqasm_reader::item_at` meets its contract. Assumes nothing.
 use native.Mathlib.Omega.{arith}
-use mathlib.Core.Path.{refl, sym, ap, _∙_}
-use mathlib.Core.Bool.{cond}
-use borrow.Author.Tests.{eq-eqb, ne-eqb}
+use mathlib.Core.Path.{refl, sym, _∙_}
 use Rattle.openqasm_reader.specs.Items.{kindOf, before, between, behind}
-use Rattle.openqasm_reader.specs.Laws.Items.{byte-here, kind-none, inside, no-item-here, item-one, item-two}
+use Rattle.openqasm_reader.specs.Laws.Items.{kind-none, inside, no-item-here, item-one, item-two}
 use borrow.Author.Needs.{needs}
 use Rattle.openqasm_reader.proofs.item_at.Statement.{statement}
 use Rattle.openqasm_reader.proofs.item_at.Tie as tie
@@ -15,67 +14,55 @@ one-number-requires : tie.Need-one-number-requires
 unfolding before behind
 one-number-requires c κs =
     let a = c .before .before .before .args in
-    let here = inside (a .text .now) (a .at) (omega (arith, c .before .byte-at .ensures, c .match .keys1)) in
+    let byte = c .before .byte-at .ensures in
+    let here = inside (a .text .now) (a .at) (omega (arith, byte, c .match .keys1)) in
     (search needs, (refl, refl))
 
 one-number-requires-2 : tie.Need-one-number-requires-2
 unfolding before behind
 one-number-requires-2 c κs =
     let a = c .before .before .before .args in
-    let here = inside (a .text .now) (a .at) (omega (arith, c .before .byte-at .ensures, c .match .keys2)) in
+    let byte = c .before .byte-at .ensures in
+    let here = inside (a .text .now) (a .at) (omega (arith, byte, c .match .keys2)) in
     (search needs, (refl, refl))
 
 one-number-requires-3 : tie.Need-one-number-requires-3
 unfolding before behind
 one-number-requires-3 c κs =
     let a = c .before .before .before .args in
-    let here = inside (a .text .now) (a .at) (omega (arith, c .before .byte-at .ensures, c .match .keys3)) in
+    let byte = c .before .byte-at .ensures in
+    let here = inside (a .text .now) (a .at) (omega (arith, byte, c .match .keys3)) in
     (search needs, (refl, refl))
 
 one-number-requires-4 : tie.Need-one-number-requires-4
 unfolding before behind
 one-number-requires-4 c κs =
     let a = c .before .before .before .args in
-    let here = inside (a .text .now) (a .at) (omega (arith, c .before .byte-at .ensures, c .match .keys4)) in
+    let byte = c .before .byte-at .ensures in
+    let here = inside (a .text .now) (a .at) (omega (arith, byte, c .match .keys4)) in
     (search needs, (refl, refl))
 
 one-number-requires-5 : tie.Need-one-number-requires-5
 unfolding before behind
 one-number-requires-5 c κs =
     let a = c .before .before .before .args in
-    let here = inside (a .text .now) (a .at) (omega (arith, c .before .byte-at .ensures, c .match .keys5)) in
+    let byte = c .before .byte-at .ensures in
+    let here = inside (a .text .now) (a .at) (omega (arith, byte, c .match .keys5)) in
     (search needs, (refl, refl))
 
-add-byte-at : tie.Need-add-byte-at
-add-byte-at c =
+bit-register-or-gate-requires : tie.Need-bit-register-or-gate-requires
+bit-register-or-gate-requires c κs =
     let a = c .before .before .before .args in
-    let here = inside (a .text .now) (a .at) (omega (arith, c .before .byte-at .ensures, c .match .keys6)) in
-    search needs
-
-byte-at-requires-2 : tie.Need-byte-at-requires-2
-byte-at-requires-2 c κs = search needs
-
-one-number-requires-6 : tie.Need-one-number-requires-6
-unfolding before behind
-one-number-requires-6 c κs =
-    let m = c .before .before in
-    let a = m .before .before .before .args in
-    let here = inside (a .text .now) (a .at) (omega (arith, m .before .byte-at .ensures, m .match .keys6)) in
-    (search needs, (refl, refl))
+    let byte = c .before .byte-at .ensures in
+    let here = inside (a .text .now) (a .at) (omega (arith, byte, c .match .keys6)) in
+    (search needs, sym byte ∙ c .match .keys6)
 
 two-numbers-requires : tie.Need-two-numbers-requires
 unfolding before between behind
 two-numbers-requires c κs =
-    let m = c .before .before in
-    let a = m .before .before .before .args in
-    let here = inside (a .text .now) (a .at) (omega (arith, m .before .byte-at .ensures, m .match .keys6)) in
-    (search needs, (refl, refl, refl))
-
-two-numbers-requires-2 : tie.Need-two-numbers-requires-2
-unfolding before between behind
-two-numbers-requires-2 c κs =
     let a = c .before .before .before .args in
-    let here = inside (a .text .now) (a .at) (omega (arith, c .before .byte-at .ensures, c .match .keys7)) in
+    let byte = c .before .byte-at .ensures in
+    let here = inside (a .text .now) (a .at) (omega (arith, byte, c .match .keys7)) in
     (search needs, (refl, refl, refl))
 
 controlled-gate-requires : tie.Need-controlled-gate-requires
@@ -85,18 +72,20 @@ controlled-gate-requires c κs =
     let here = inside (a .text .now) (a .at) (omega (arith, byte, c .match .keys8)) in
     (search needs, sym byte ∙ c .match .keys8)
 
-two-numbers-requires-3 : tie.Need-two-numbers-requires-3
+two-numbers-requires-2 : tie.Need-two-numbers-requires-2
 unfolding before between behind
-two-numbers-requires-3 c κs =
+two-numbers-requires-2 c κs =
     let a = c .before .before .before .args in
-    let here = inside (a .text .now) (a .at) (omega (arith, c .before .byte-at .ensures, c .match .keys9)) in
+    let byte = c .before .byte-at .ensures in
+    let here = inside (a .text .now) (a .at) (omega (arith, byte, c .match .keys9)) in
     (search needs, (refl, refl, refl))
 
-one-number-requires-7 : tie.Need-one-number-requires-7
+one-number-requires-6 : tie.Need-one-number-requires-6
 unfolding before behind
-one-number-requires-7 c κs =
+one-number-requires-6 c κs =
     let a = c .before .before .before .args in
-    let here = inside (a .text .now) (a .at) (omega (arith, c .before .byte-at .ensures, c .match .keys10)) in
+    let byte = c .before .byte-at .ensures in
+    let here = inside (a .text .now) (a .at) (omega (arith, byte, c .match .keys10)) in
     (search needs, (refl, refl))
 
 returns : tie.Need-returns
@@ -135,49 +124,34 @@ returns-5 c =
     item-one (a .text .now) (a .at) 116 4 first refl _ refl refl (c .one-number5 .ensures)
 
 returns-6 : tie.Need-returns-6
-unfolding kindOf between
-returns-6 c =
-    let a = c .before .before .before .before .before .before .args in
-    let first = sym (c .before .before .before .match .keys6) ∙ c .before .before .before .before .byte-at .ensures in
-    let second = byte-here (a .text .now) (a .at) 1 _ _ (c .before .before .byte-at2 .ensures) refl in
-    let test = eq-eqb _ 114 (sym second ∙ c .before .if1 .taken) in
-    item-one (a .text .now) (a .at) 99 128 first (ap (λ b. cond b 128 5) test) _ refl refl (c .one-number6 .ensures)
+returns-6 c = c .bit-register-or-gate .ensures
 
 returns-7 : tie.Need-returns-7
 unfolding kindOf between
 returns-7 c =
-    let a = c .before .before .before .before .before .before .args in
-    let first = sym (c .before .before .before .match .keys6) ∙ c .before .before .before .before .byte-at .ensures in
-    let second = byte-here (a .text .now) (a .at) 1 _ _ (c .before .before .byte-at2 .ensures) refl in
-    let test = ne-eqb _ 114 (λ e. c .before .if1 .left (second ∙ e)) in
-    item-two (a .text .now) (a .at) 99 5 first (ap (λ b. cond b 128 5) test) _ refl refl (c .two-numbers .ensures)
-
-returns-8 : tie.Need-returns-8
-unfolding kindOf between
-returns-8 c =
     let a = c .before .before .before .before .args in
     let first = sym (c .before .match .keys7) ∙ c .before .before .byte-at .ensures in
-    item-two (a .text .now) (a .at) 109 6 first refl _ refl refl (c .two-numbers2 .ensures)
+    item-two (a .text .now) (a .at) 109 6 first refl _ refl refl refl (c .two-numbers .ensures)
+
+returns-8 : tie.Need-returns-8
+returns-8 c = c .controlled-gate .ensures
 
 returns-9 : tie.Need-returns-9
-returns-9 c = c .controlled-gate .ensures
+unfolding kindOf between
+returns-9 c =
+    let a = c .before .before .before .before .args in
+    let first = sym (c .before .match .keys9) ∙ c .before .before .byte-at .ensures in
+    item-two (a .text .now) (a .at) 113 129 first refl _ refl refl refl (c .two-numbers2 .ensures)
 
 returns-10 : tie.Need-returns-10
 unfolding kindOf between
 returns-10 c =
     let a = c .before .before .before .before .args in
-    let first = sym (c .before .match .keys9) ∙ c .before .before .byte-at .ensures in
-    item-two (a .text .now) (a .at) 113 129 first refl _ refl refl (c .two-numbers3 .ensures)
+    let first = sym (c .before .match .keys10) ∙ c .before .before .byte-at .ensures in
+    item-one (a .text .now) (a .at) 32 130 first refl _ refl refl (c .one-number6 .ensures)
 
 returns-11 : tie.Need-returns-11
-unfolding kindOf between
 returns-11 c =
-    let a = c .before .before .before .before .args in
-    let first = sym (c .before .match .keys10) ∙ c .before .before .byte-at .ensures in
-    item-one (a .text .now) (a .at) 32 130 first refl _ refl refl (c .one-number7 .ensures)
-
-returns-12 : tie.Need-returns-12
-returns-12 c =
     let a = c .before .before .before .args in
     let r = c .match .rest in
     let none = kind-none _ _ _
@@ -195,14 +169,11 @@ item-at-spec =
     one-number-requires-3
     one-number-requires-4
     one-number-requires-5
-    add-byte-at
-    byte-at-requires-2
-    one-number-requires-6
+    bit-register-or-gate-requires
     two-numbers-requires
-    two-numbers-requires-2
     controlled-gate-requires
-    two-numbers-requires-3
-    one-number-requires-7
+    two-numbers-requires-2
+    one-number-requires-6
     returns
     returns-2
     returns-3
@@ -213,5 +184,4 @@ item-at-spec =
     returns-8
     returns-9
     returns-10
-    returns-11
-    returns-12)
+    returns-11)

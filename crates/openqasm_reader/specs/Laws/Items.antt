@@ -8,8 +8,8 @@ use lib.Dec.{eqb}
 use lib.ListN.{length, getD, drop}
 use lib.Seq.{getD-drop, drop-drop}
 use borrow.Author.Tests.{ne-eqb}
-use Rattle.openqasm_reader.specs.Items.{isDigit, digitsIn, numberIn, kindOf, before, between, behind}
-use Rattle.openqasm_reader.specs.Items.{oneNumber, twoNumbers, itemOf, itemIn}
+use Rattle.openqasm_reader.specs.Items.{isDigit, digitsIn, numberIn, ccx-item, kindOf, before, between}
+use Rattle.openqasm_reader.specs.Items.{behind, oneNumber, twoNumbers, threeNumbers, itemOf, itemIn}
 use Rattle.openqasm_reader.specs.Bounds.{Bounded}
 use Rattle.openqasm_reader.specs.declared.Item.{Item}
 
@@ -90,7 +90,7 @@ pub one-here : (s : List ℕ) (at kind b n d e : ℕ)
     → n ≡ numberIn (drop (at + b) s)
     → d ≡ digitsIn (drop (at + b) s)
     → e ≡ behind kind
-    → _≡_ {A = Item} (record { kind = kind; first = n; second = 0; length = b + d + e }) (oneNumber kind (drop at s))
+    → _≡_ {A = Item} (record { kind = kind; first = n; second = 0; third = 0; length = b + d + e }) (oneNumber kind (drop at s))
 one-here s at kind b n d e hb hn hd he =
     let p : drop (before kind) (drop at s) ≡ drop (at + b) s = drop-drop (before kind) at s ∙ ap (λ k. drop (at + k) s) (sym hb) in
     rw (p, ← hb, ← he, ← hd, ← hn)
@@ -103,19 +103,40 @@ pub two-here : (s : List ℕ) (at kind b g n d m c e : ℕ)
     → m ≡ numberIn (drop (at + b + d + g) s)
     → c ≡ digitsIn (drop (at + b + d + g) s)
     → e ≡ behind kind
-    → _≡_ {A = Item} (record { kind = kind; first = n; second = m; length = b + d + g + c + e }) (twoNumbers kind (drop at s))
+    → _≡_ {A = Item} (record { kind = kind; first = n; second = m; third = 0; length = b + d + g + c + e }) (twoNumbers kind (drop at s))
 two-here s at kind b g n d m c e hb hg hn hd hm hc he =
     let p : drop (before kind) (drop at s) ≡ drop (at + b) s = drop-drop (before kind) at s ∙ ap (λ k. drop (at + k) s) (sym hb) in
     let sum : at + b + (d + g) ≡ at + b + d + g = omega arith in
     let q : drop (d + g) (drop (at + b) s) ≡ drop (at + b + d + g) s = drop-drop (d + g) (at + b) s ∙ ap (λ k. drop k s) sum in
     rw (p, ← hb, ← hg, ← he, ← hd, ← hn, q, ← hm, ← hc)
 
+pub three-here : (s : List ℕ) (at kind b g n d m c o f e : ℕ)
+    → b ≡ before kind
+    → g ≡ between kind
+    → n ≡ numberIn (drop (at + b) s)
+    → d ≡ digitsIn (drop (at + b) s)
+    → m ≡ numberIn (drop (at + b + d + g) s)
+    → c ≡ digitsIn (drop (at + b + d + g) s)
+    → o ≡ numberIn (drop (at + b + d + g + c + g) s)
+    → f ≡ digitsIn (drop (at + b + d + g + c + g) s)
+    → e ≡ behind kind
+    → _≡_ {A = Item} (record { kind = kind; first = n; second = m; third = o; length = b + d + g + c + g + f + e })
+    (threeNumbers kind (drop at s))
+three-here s at kind b g n d m c o f e hb hg hn hd hm hc ho hf he =
+    let p : drop (before kind) (drop at s) ≡ drop (at + b) s = drop-drop (before kind) at s ∙ ap (λ k. drop (at + k) s) (sym hb) in
+    let sum : at + b + (d + g) ≡ at + b + d + g = omega arith in
+    let q : drop (d + g) (drop (at + b) s) ≡ drop (at + b + d + g) s = drop-drop (d + g) (at + b) s ∙ ap (λ k. drop k s) sum in
+    let sum′ : at + b + d + g + (c + g) ≡ at + b + d + g + c + g = omega arith in
+    let q′ : drop (c + g) (drop (at + b + d + g) s) ≡ drop (at + b + d + g + c + g) s
+    = drop-drop (c + g) (at + b + d + g) s ∙ ap (λ k. drop k s) sum′ in
+    rw (p, ← hb, ← hg, ← he, ← hd, ← hn, q, ← hm, ← hc, q′, ← ho, ← hf)
+
 -- The item at a place, by the kind that its first byte gives.
 abbrev kindBy : ℕ → List ℕ → ℕ
 kindBy byte s = kindOf byte (getD s 1 0) (getD s (9 + digitsIn (drop 4 s)) 0)
 
 abbrev nothing : Item
-nothing = record { kind = 255; first = 0; second = 0; length = 0 }
+nothing = record { kind = 255; first = 0; second = 0; third = 0; length = 0 }
 
 abbrev itemBy : ℕ → List ℕ → Item
 itemBy kind s = cond (eqb kind 255) nothing (itemOf kind s)
@@ -137,6 +158,13 @@ module _ (s : List ℕ) (at byte kind : ℕ) (first : byte ≡ getD s at 0) (kno
     item-one one r = (r .0 ∙ sym (simp (some, one)) ∙ by-kind, r .1)
 
     pub item-two : eqb (between kind) 0 ≡ false
+        → eqb kind ccx-item ≡ false
         → (i ≡ twoNumbers kind (drop at s)) × Bounded i
         → (i ≡ itemIn (drop at s)) × Bounded i
-    item-two two r = (r .0 ∙ sym (simp (some, two)) ∙ by-kind, r .1)
+    item-two more two r = (r .0 ∙ sym (simp (some, more, two)) ∙ by-kind, r .1)
+
+    pub item-three : eqb (between kind) 0 ≡ false
+        → eqb kind ccx-item ≡ true
+        → (i ≡ threeNumbers kind (drop at s)) × Bounded i
+        → (i ≡ itemIn (drop at s)) × Bounded i
+    item-three more three r = (r .0 ∙ sym (simp (some, more, three)) ∙ by-kind, r .1)

@@ -1,9 +1,7 @@
 -- `openqasm_parts::entries::put_entry` meets its contract. Assumes nothing.
-use Prim.Native.Nat.{_+_, _*_, _/_, _%_}
+use Prim.Native.Nat.{_+_, _*_}
 use native.Mathlib.Omega.{arith}
-use mathlib.Core.List.{flatMap}
-use lib.ListN.{set, length-set}
-use Rattle.openqasm_parts.specs.Laws.Stored.{one-added, four-added}
+use Rattle.openqasm_parts.specs.Laws.Stored.{one-added, slots-added}
 use borrow.Author.Needs.{needs}
 use Rattle.openqasm_parts.proofs.entries.put_entry.Statement.{statement}
 use Rattle.openqasm_parts.proofs.entries.put_entry.Tie as tie
@@ -20,47 +18,20 @@ mul-at c = search needs
 mul-at-2 : tie.Need-mul-at-2
 mul-at-2 c = search needs
 
-cast-slots : tie.Need-cast-slots
-cast-slots c = search needs
+put-slot-requires : tie.Need-put-slot-requires
+put-slot-requires c κs = (c .before .before .before .pre .0 .2, omega (arith, c .before .before .before .pre .1 .1))
 
-slice-write-slots : tie.Need-slice-write-slots
-slice-write-slots c = search needs
+add-put-slot : tie.Need-add-put-slot
+add-put-slot c = search needs
 
-cast-slots-2 : tie.Need-cast-slots-2
-cast-slots-2 c = search needs
+put-slot-requires-2 : tie.Need-put-slot-requires-2
+put-slot-requires-2 c κs = (c .before .before .before .before .before .before .before .pre .0 .3, omega (arith, c .before .before .before .before .before .before .before .pre .1 .1, c .before .before .before .put-slot .kept .0))
 
-add-slots : tie.Need-add-slots
-add-slots c = search needs
+add-put-slot-2 : tie.Need-add-put-slot-2
+add-put-slot-2 c = search needs
 
-slice-write-slots-2 : tie.Need-slice-write-slots-2
-slice-write-slots-2 c = let a = c .args in omega (arith, c .pre .1 .1, length-set (a .slots .now) (4 * a .entry) (a .first % 256))
-
-cast-slots-3 : tie.Need-cast-slots-3
-cast-slots-3 c = search needs
-
-add-slots-2 : tie.Need-add-slots-2
-add-slots-2 c = search needs
-
-slice-write-slots-3 : tie.Need-slice-write-slots-3
-slice-write-slots-3 c =
-    let a = c .args in
-    let at = 4 * a .entry in
-    let m = set (a .slots .now) at (a .first % 256) in
-    omega (arith, c .pre .1 .1, length-set (a .slots .now) at (a .first % 256), length-set m (at + 1) (a .first / 256))
-
-cast-slots-4 : tie.Need-cast-slots-4
-cast-slots-4 c = search needs
-
-add-slots-3 : tie.Need-add-slots-3
-add-slots-3 c = search needs
-
-slice-write-slots-4 : tie.Need-slice-write-slots-4
-slice-write-slots-4 c =
-    let a = c .args in
-    let at = 4 * a .entry in
-    let m = set (a .slots .now) at (a .first % 256) in
-    let n = set m (at + 1) (a .first / 256) in
-    omega (arith, c .pre .1 .1, length-set (a .slots .now) at (a .first % 256), length-set m (at + 1) (a .first / 256), length-set n (at + 2) (a .second % 256))
+put-slot-requires-3 : tie.Need-put-slot-requires-3
+put-slot-requires-3 c κs = (c .before .before .before .before .before .before .before .before .before .before .before .pre .0 .4, omega (arith, c .before .before .before .before .before .before .before .before .before .before .before .pre .1 .1, c .before .before .before .before .before .before .before .put-slot .kept .0, c .before .before .before .put-slot2 .kept .0))
 
 same-length : tie.Need-same-length
 same-length c = search needs
@@ -69,8 +40,11 @@ same-length-2 : tie.Need-same-length-2
 same-length-2 c = search needs
 
 returns : tie.Need-returns
-unfolding flatMap
-returns c = let a = c .args in (one-added (a .kinds .now) (a .entry) (a .kind) (c .pre .1 .0), four-added (a .slots .now) (4 * a .entry) (a .first % 256) (a .first / 256) (a .second % 256) (a .second / 256) (c .pre .1 .1))
+returns c =
+    let a = c .before .before .before .before .before .before .before .before .before .before .before .before .before .before .args in (
+      one-added (a .kinds .now) (a .entry) (a .kind) (c .before .before .before .before .before .before .before .before .before .before .before .before .before .before .pre .1 .0),
+      slots-added (a .first) (a .second) (a .third) (c .before .before .before .before .before .before .before .before .before .before .put-slot .ensures) (c .before .before .before .before .before .before .put-slot2 .ensures) (c .before .before .put-slot3 .ensures),
+    )
 
 pub put-entry-spec : {M : Type 1} → statement M
 put-entry-spec =
@@ -80,17 +54,11 @@ put-entry-spec =
     slice-write-kinds
     mul-at
     mul-at-2
-    cast-slots
-    slice-write-slots
-    cast-slots-2
-    add-slots
-    slice-write-slots-2
-    cast-slots-3
-    add-slots-2
-    slice-write-slots-3
-    cast-slots-4
-    add-slots-3
-    slice-write-slots-4
+    put-slot-requires
+    add-put-slot
+    put-slot-requires-2
+    add-put-slot-2
+    put-slot-requires-3
     same-length
     same-length-2
     returns)
