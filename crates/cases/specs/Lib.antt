@@ -3,6 +3,7 @@ pub mod BaseCases
 pub mod FirstFaults
 pub mod CopiedPairs
 pub mod UnitCases
+pub mod ThreeWires
 pub mod Table
 pub mod Listings
 pub mod Answers

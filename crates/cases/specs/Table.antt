@@ -5,6 +5,7 @@ use Rattle.cases.specs.BaseCases.{base-cases}
 use Rattle.cases.specs.FirstFaults.{first-fault-cases}
 use Rattle.cases.specs.CopiedPairs.{pair-cases}
 use Rattle.cases.specs.UnitCases.{unit-cases}
+use Rattle.cases.specs.ThreeWires.{three-wire-cases}
 
 abbrev pub table : List Case
-table = base-cases ++ (first-fault-cases ++ (pair-cases ++ unit-cases))
+table = base-cases ++ (first-fault-cases ++ (pair-cases ++ (unit-cases ++ three-wire-cases)))

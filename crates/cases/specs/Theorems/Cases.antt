@@ -23,6 +23,7 @@ use Rattle.cases.specs.BaseCases.{base-cases}
 use Rattle.cases.specs.FirstFaults.{in-parts, behind-later-numbers, nested, first-fault-cases}
 use Rattle.cases.specs.CopiedPairs.{copied-pairs, linear-pairs, pair-cases}
 use Rattle.cases.specs.UnitCases.{finished-units, refused-units, unit-cases}
+use Rattle.cases.specs.ThreeWires.{finished-threes, refused-threes, three-wire-cases}
 use Rattle.cases.specs.Laws.Tables.{both-hold}
 use Rattle.cases.specs.Table.{table}
 use Rattle.cases.specs.Answers.{checkAnswerTo, checkOutTo, RunsAnswer, Answers, AllAnswer}
@@ -33,7 +34,7 @@ unfolding check-opened listingBytes flatMap runOf encode programKinds programArg
 opened f n = runOf f n
 
 -- Every case of the table holds: those of 01; those of ticket 1, whose nodes have faults in their parts, behind one of a later
--- number, and inside each other; those of ticket 2, with pairs that may be copied and pairs that may not; those of ticket 5.
+-- number, and inside each other; those of ticket 2, with pairs that may be copied and pairs that may not; those of tickets 5 and 6.
 pub base-hold : AllHold base-cases
 unfolding opened
 base-hold = refl
@@ -66,15 +67,28 @@ pub refused-units-hold : AllHold refused-units
 unfolding opened
 refused-units-hold = refl
 
+pub finished-threes-hold : AllHold finished-threes
+unfolding opened
+finished-threes-hold = refl
+
+pub refused-threes-hold : AllHold refused-threes
+unfolding opened
+refused-threes-hold = refl
+
+abbrev from-pairs : List Case
+from-pairs = pair-cases ++ (unit-cases ++ three-wire-cases)
+
 pub all-hold : AllHold table
 all-hold =
-    both-hold computed base-cases (first-fault-cases ++ (pair-cases ++ unit-cases)) base-hold
-    (both-hold computed first-fault-cases (pair-cases ++ unit-cases)
+    both-hold computed base-cases (first-fault-cases ++ from-pairs) base-hold
+    (both-hold computed first-fault-cases from-pairs
     (both-hold computed in-parts (behind-later-numbers ++ nested) in-parts-hold
     (both-hold computed behind-later-numbers nested behind-later-hold nested-hold))
-    (both-hold computed pair-cases unit-cases
+    (both-hold computed pair-cases (unit-cases ++ three-wire-cases)
     (both-hold computed copied-pairs linear-pairs copied-pairs-hold linear-pairs-hold)
-    (both-hold computed finished-units refused-units finished-units-hold refused-units-hold)))
+    (both-hold computed unit-cases three-wire-cases
+    (both-hold computed finished-units refused-units finished-units-hold refused-units-hold)
+    (both-hold computed finished-threes refused-threes finished-threes-hold refused-threes-hold))))
 
 -- The answer to a judgement, by what the table has of it.
 same-answer : (j : Judged) → judgedAnswer j ≡ checkAnswerTo (checkedAs j)

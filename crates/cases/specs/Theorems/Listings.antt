@@ -18,7 +18,7 @@ use Rattle.listing_check.specs.Answers.{listingCheckOf, most-wires, listing-len
 use Rattle.cases.specs.Listings.{ListingCase, judged, ListingsHold, ListingsAnswer, accepted-listings, wrong-sizes}
 use Rattle.cases.specs.Laws.Tables.{both-hold}
 use Rattle.cases.specs.Listings.{most-sizes, wrong-entries, wrong-gates, wrong-ends, two-faults, init-and-discard}
-use Rattle.cases.specs.Listings.{listing-cases}
+use Rattle.cases.specs.Listings.{three-wires, listing-cases}
 
 -- `listingCheckOf` with every definition of the check open: a line `unfolding opened` below opens them all.
 opened : List ℕ → ListingAnswer
@@ -26,7 +26,8 @@ unfolding listingCheckOf brokenAt wordAt kindAt isGate wiresIn flatMap
 opened b = listingCheckOf b
 
 -- Every case of the table holds: listings accepted; refused with 24; with the most gates and outputs; refused with 25; with 26 at a
--- gate; with 26 at an output or at a wire left over; with faults of several kinds; with Init and Discard.
+-- gate; with 26 at an output or at a wire left over; with faults of several kinds; with Init and Discard; with three
+-- wires.
 pub accepted-hold : ListingsHold accepted-listings
 unfolding opened
 accepted-hold = refl
@@ -59,9 +60,16 @@ pub init-and-discard-hold : ListingsHold init-and-discard
 unfolding opened
 init-and-discard-hold = refl
 
+pub three-wires-hold : ListingsHold three-wires
+unfolding opened
+three-wires-hold = refl
+
 -- The parts of the table from one on.
+abbrev from-faults : List ListingCase
+from-faults = two-faults ++ (init-and-discard ++ three-wires)
+
 abbrev from-ends : List ListingCase
-from-ends = wrong-ends ++ (two-faults ++ init-and-discard)
+from-ends = wrong-ends ++ from-faults
 
 abbrev from-gates : List ListingCase
 from-gates = wrong-gates ++ from-ends
@@ -79,8 +87,9 @@ listings-hold =
     (both-hold judged most-sizes from-entries most-hold
     (both-hold judged wrong-entries from-gates entries-hold
     (both-hold judged wrong-gates from-ends gates-hold
-    (both-hold judged wrong-ends (two-faults ++ init-and-discard) ends-hold
-    (both-hold judged two-faults init-and-discard order-holds init-and-discard-hold))))))
+    (both-hold judged wrong-ends from-faults ends-hold
+    (both-hold judged two-faults (init-and-discard ++ three-wires) order-holds
+    (both-hold judged init-and-discard three-wires init-and-discard-hold three-wires-hold)))))))
 
 module _ (work : List ℕ) (room : most-wires ≤ length work) where
   long : tooShort listing-lengths (work ∷ []) ≡ false
