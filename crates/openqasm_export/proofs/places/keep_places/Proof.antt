@@ -19,10 +19,10 @@ keep-place-requires : tie.Need-keep-place-requires
 keep-place-requires c κs = search needs
 
 keep-place-requires-2 : tie.Need-keep-place-requires-2
-keep-place-requires-2 c κs = (c .before .before .before .before .before .before .before .pre .1, omega (arith, c .before .before .before .before .before .before .before .pre .3, c .before .before .before .keep-place .ensures .0 .1))
+keep-place-requires-2 c κs = (omega (arith, c .before .before .before .before .before .before .before .pre), omega (arith, c .before .before .before .before .before .before .before .pre .3, c .before .before .before .keep-place .ensures .0 .1))
 
 keep-place-requires-3 : tie.Need-keep-place-requires-3
-keep-place-requires-3 c κs = (c .before .before .before .before .before .before .before .before .before .before .before .pre .2, omega (arith, c .before .before .before .before .before .before .before .before .before .before .before .pre .3, c .before .before .before .before .before .before .before .keep-place .ensures .0 .1, c .before .before .before .keep-place2 .ensures .0 .1))
+keep-place-requires-3 c κs = (omega (arith, c .before .before .before .before .before .before .before .before .before .before .before .pre), omega (arith, c .before .before .before .before .before .before .before .before .before .before .before .pre .3, c .before .before .before .before .before .before .before .keep-place .ensures .0 .1, c .before .before .before .keep-place2 .ensures .0 .1))
 
 same-length : tie.Need-same-length
 same-length c = search needs
