@@ -1,6 +1,6 @@
--- The cases of 01 ("Cases, c1 to c12") on trees: of each its type or its fault, its steps, its gates and its outputs, by
--- computation. After them four programs with boxes, at which wires numbered or renamed otherwise would show. Then, by the
--- typing rules, the derivation of each case that has a type, and for the others that there is none.
+-- The gates that have names. Then the cases of 01 ("Cases, c1 to c12") on trees: of each its type or its fault, its steps, its
+-- gates and its outputs, by computation. After them four programs with boxes, at which wires numbered or renamed otherwise would
+-- show. Then, by the typing rules, the derivation of each case that has a type, and for the others that there is none.
 use Prim.Native.Nat.{ℕ, zero, suc}
 use native.Mathlib.Omega.{arith}
 use mathlib.Core.Path.{_≡_, refl}
@@ -9,8 +9,8 @@ use mathlib.Core.Bool.{false}
 use mathlib.Core.List.{List, [], _∷_}
 use mathlib.Core.Option.{Option, none, some}
 use lib.Dec.{lit≤}
-use Rattle.rules.specs.Types.{Wire, Qubit, Ty, _⊗_, _⊸_, !_, Circ, isWireType}
-use Rattle.rules.specs.Gates.{_to_, nth, gateType}
+use Rattle.rules.specs.Types.{Wire, Bit, Qubit, Ty, wire, unit, _⊗_, _⊸_, !_, Circ, isWireType}
+use Rattle.rules.specs.Gates.{_to_, Init, Discard, CCX, nth, gateType}
 use Rattle.rules.specs.Terms.{single, both, Gate, _on_, Boxed, boxed, Term, variable, label, gate, constant}
 use Rattle.rules.specs.Terms.{abstraction, application, pair, let-in, lift, box, apply}
 use Rattle.rules.specs.Circuits.{circuit}
@@ -28,6 +28,16 @@ use Rattle.rules.specs.CaseTerms.{one-label, two-labels, qubit, H, X, Z,
 use Rattle.rules.specs.CaseTerms.{c11, c12}
 use Rattle.rules.specs.Theorems.Counting.{has→counted}
 use Rattle.rules.specs.Laws.Appending.{shares-left, shares-right}
+
+-- The gates that have names: "9 Init, unit to Qubit", "10 Discard, Bit to unit"; CCX, "a pair of a Qubit and a pair of Qubits".
+pub init-type : gateType Init ≡ some (unit to qubit)
+init-type = refl
+
+pub discard-type : gateType Discard ≡ some (wire Bit to unit)
+discard-type = refl
+
+pub ccx-type : gateType CCX ≡ some (qubit ⊗ (qubit ⊗ qubit) to qubit ⊗ (qubit ⊗ qubit))
+ccx-type = refl
 
 -- The configuration after n steps, if there are as many.
 abbrev pub after : ℕ → Configuration → Option Configuration
