@@ -291,6 +291,146 @@ pub const FAULTS: &[(&str, &[Edit])] = &[
         &[("listing", "BIT_INPUT: u8 = 128", "BIT_INPUT: u8 = 129")],
     ),
     (
+        "two slots in each entry",
+        &[("listing", "SLOTS: usize = 3", "SLOTS: usize = 2")],
+    ),
+    (
+        "four slots in each entry",
+        &[("listing", "SLOTS: usize = 3", "SLOTS: usize = 4")],
+    ),
+    (
+        "65,535 in the third slot of CCX",
+        &[(
+            "listing",
+            "placed.takes.get(slot)",
+            "placed.takes.iter().take(2).nth(slot)",
+        )],
+    ),
+    (
+        "all first slots, then all second ones",
+        &[(
+            "listing",
+            "    for _ in &circuit.inputs {
+        bytes.extend([NO_WIRE.to_le_bytes(); SLOTS].concat());
+    }
+    for placed in &circuit.gates {
+        for slot in 0..SLOTS {
+            bytes.extend(",
+            "    for slot in 0..SLOTS {
+        for _ in &circuit.inputs {
+            bytes.extend(NO_WIRE.to_le_bytes());
+        }
+        for placed in &circuit.gates {
+            bytes.extend(",
+        )],
+    ),
+    (
+        "CCX listed as CNOT",
+        &[(
+            "listing",
+            "u8::try_from(placed.gate)",
+            "u8::try_from(if placed.gate == 11 { 5 } else { placed.gate })",
+        )],
+    ),
+    (
+        "the first and the second wire of CCX exchanged",
+        &[(
+            "circuits",
+            "let takes = placed.takes.iter().map(|wire| renamed[wire]).collect();",
+            "let mut takes: Vec<usize> = placed.takes.iter().map(|wire| renamed[wire]).collect();
+            if placed.gate == 11 {
+                takes.swap(0, 1);
+            }",
+        )],
+    ),
+    (
+        "the second and the third wire of CCX exchanged",
+        &[(
+            "circuits",
+            "let takes = placed.takes.iter().map(|wire| renamed[wire]).collect();",
+            "let mut takes: Vec<usize> = placed.takes.iter().map(|wire| renamed[wire]).collect();
+            if placed.gate == 11 {
+                takes.swap(1, 2);
+            }",
+        )],
+    ),
+    (
+        "the first and the third wire of CCX exchanged",
+        &[(
+            "circuits",
+            "let takes = placed.takes.iter().map(|wire| renamed[wire]).collect();",
+            "let mut takes: Vec<usize> = placed.takes.iter().map(|wire| renamed[wire]).collect();
+            if placed.gate == 11 {
+                takes.swap(0, 2);
+            }",
+        )],
+    ),
+    (
+        "the third wire of a gate not renamed in a copy",
+        &[(
+            "circuits",
+            "let takes = placed.takes.iter().map(|wire| renamed[wire]).collect();",
+            "let mut takes: Vec<usize> = placed.takes.iter().map(|wire| renamed[wire]).collect();
+            if takes.len() == 3 {
+                takes[2] = placed.takes[2];
+            }",
+        )],
+    ),
+    (
+        "the third wire of a gate taken for the second in a copy",
+        &[(
+            "circuits",
+            "let takes = placed.takes.iter().map(|wire| renamed[wire]).collect();",
+            "let mut takes: Vec<usize> = placed.takes.iter().map(|wire| renamed[wire]).collect();
+            if takes.len() == 3 {
+                takes[2] = takes[1];
+            }",
+        )],
+    ),
+    (
+        "CCX makes two wires, and its third passes",
+        &[
+            (
+                "circuits",
+                "let makes: Vec<usize> = (first..first + GATES[gate].makes.len()).collect();",
+                "let makes: Vec<usize> = (first..first + GATES[gate].makes.len().min(2)).collect();",
+            ),
+            (
+                "circuits",
+                "Term::tuple(to, &mut makes.iter().copied())",
+                "Term::tuple(to, &mut makes.iter().copied().chain([2]))",
+            ),
+        ],
+    ),
+    (
+        "the third wire that CCX makes not counted",
+        &[(
+            "circuits",
+            "let gate = placed.gate;",
+            "let gate = placed.gate;
+            if gate == 11 {
+                self.next -= 1;
+            }",
+        )],
+    ),
+    (
+        "the wires that CCX makes nested to the left",
+        &[(
+            "circuits",
+            "result: Term::tuple(to, &mut makes.iter().copied()),",
+            "result: match makes[..] {
+                [first, second, third] => {
+                    use super::terms::Form;
+                    let [first, second, third] =
+                        [first, second, third].map(|wire| Term::new(Form::Label(wire)));
+                    let both = Term::new(Form::Pair(first, second));
+                    Term::new(Form::Pair(both, third))
+                }
+                _ => Term::tuple(to, &mut makes.iter().copied()),
+            },",
+        )],
+    ),
+    (
         "unit takes a label at box entry",
         &[(
             "configurations",

@@ -43,11 +43,11 @@ pub const PRINTERS: &[(&str, &[Edit])] = &[
     ("CX for CNOT", &[("print", r#""cx q{a}"#, r#""CX q{a}"#)]),
     (
         "the lines of CNOT exchanged",
-        &[("print", "q{a}[0],q{b}[0]", "q{b}[0],q{a}[0]")],
+        &[("print", "cx q{a}[0],q{b}[0];", "cx q{b}[0],q{a}[0];")],
     ),
     (
         "a space behind the comma",
-        &[("print", "q{a}[0],q{b}[0]", "q{a}[0], q{b}[0]")],
+        &[("print", "cx q{a}[0],q{b}[0];", "cx q{a}[0], q{b}[0];")],
     ),
     (
         "measured into the first register",
@@ -359,6 +359,118 @@ pub const PRINTERS: &[(&str, &[Edit])] = &[
                 "text.into",
             ),
         ],
+    ),
+    (
+        "cx for CCX",
+        &[(
+            "print",
+            "ccx q{a}[0],q{b}[0],q{c}[0];",
+            "cx q{a}[0],q{b}[0];",
+        )],
+    ),
+    (
+        "CCX on two registers",
+        &[(
+            "print",
+            "ccx q{a}[0],q{b}[0],q{c}[0];",
+            "ccx q{a}[0],q{b}[0];",
+        )],
+    ),
+    (
+        "CCX with its second register twice",
+        &[(
+            "print",
+            "ccx q{a}[0],q{b}[0],q{c}[0];",
+            "ccx q{a}[0],q{b}[0],q{b}[0];",
+        )],
+    ),
+    (
+        "the controls of CCX exchanged",
+        &[(
+            "print",
+            "ccx q{a}[0],q{b}[0],q{c}[0];",
+            "ccx q{b}[0],q{a}[0],q{c}[0];",
+        )],
+    ),
+    (
+        "the second and the third register of CCX exchanged",
+        &[(
+            "print",
+            "ccx q{a}[0],q{b}[0],q{c}[0];",
+            "ccx q{a}[0],q{c}[0],q{b}[0];",
+        )],
+    ),
+    (
+        "the first and the third register of CCX exchanged",
+        &[(
+            "print",
+            "ccx q{a}[0],q{b}[0],q{c}[0];",
+            "ccx q{c}[0],q{b}[0],q{a}[0];",
+        )],
+    ),
+    (
+        "the target of CCX first",
+        &[(
+            "print",
+            "ccx q{a}[0],q{b}[0],q{c}[0];",
+            "ccx q{c}[0],q{a}[0],q{b}[0];",
+        )],
+    ),
+    (
+        "the first register of CCX last",
+        &[(
+            "print",
+            "ccx q{a}[0],q{b}[0],q{c}[0];",
+            "ccx q{b}[0],q{c}[0],q{a}[0];",
+        )],
+    ),
+    (
+        "CCX as two CNOTs",
+        &[(
+            "print",
+            "ccx q{a}[0],q{b}[0],q{c}[0];",
+            r"cx q{a}[0],q{c}[0];\ncx q{b}[0],q{c}[0];",
+        )],
+    ),
+    (
+        "CCX left out",
+        &[("print", r"ccx q{a}[0],q{b}[0],q{c}[0];\n", "")],
+    ),
+    (
+        "CCX in capitals",
+        &[("print", r#""ccx q{a}"#, r#""CCX q{a}"#)],
+    ),
+    (
+        "a space behind the second comma of CCX",
+        &[("print", ",q{c}[0];", ", q{c}[0];")],
+    ),
+    (
+        "the whole third register of CCX",
+        &[("print", "q{c}[0];", "q{c};")],
+    ),
+    (
+        "the last two outputs of CCX on each other's lines",
+        &[(
+            "print",
+            "for (&line, &of) in lines.iter().zip(gate.makes) {",
+            "let mut lines = lines;
+            if gate.name == \"CCX\" {
+                lines.swap(1, 2);
+            }
+            for (&line, &of) in lines.iter().zip(gate.makes) {",
+        )],
+    ),
+    (
+        "the third output of CCX on the second's line",
+        &[(
+            "print",
+            "for (&line, &of) in lines.iter().zip(gate.makes) {",
+            "let mut lines = lines;
+            if gate.name == \"CCX\" {
+                lines[2] = lines[1];
+            }
+            for (&line, &of) in lines.iter().zip(gate.makes) {",
+        )],
     ),
 ];
 
@@ -1084,5 +1196,166 @@ pub const PARSERS: &[(&str, &[Edit])] = &[
                 let text = text.strip_suffix",
             ),
         ],
+    ),
+    (
+        "ccx refused",
+        &[("parse", "return on_three(line);", "return None;")],
+    ),
+    (
+        "ccx read as cx",
+        &[(
+            "parse",
+            "Some((11, vec![number(first)?, second, third]))",
+            "let _ = third;
+    Some((5, vec![number(first)?, second]))",
+        )],
+    ),
+    (
+        "the third wire of ccx lost",
+        &[(
+            "parse",
+            "Entry::gate(number, &wires)",
+            "Entry::gate(number, &wires[..wires.len().min(2)])",
+        )],
+    ),
+    (
+        "the first and the second register of ccx exchanged",
+        &[(
+            "parse",
+            "vec![number(first)?, second, third]",
+            "vec![second, number(first)?, third]",
+        )],
+    ),
+    (
+        "the second and the third register of ccx exchanged",
+        &[(
+            "parse",
+            "vec![number(first)?, second, third]",
+            "vec![number(first)?, third, second]",
+        )],
+    ),
+    (
+        "the first and the third register of ccx exchanged",
+        &[(
+            "parse",
+            "vec![number(first)?, second, third]",
+            "vec![third, second, number(first)?]",
+        )],
+    ),
+    (
+        "ccx on two registers taken for cx",
+        &[(
+            "parse",
+            "let (first, others) = split(line, b\"[0],q\")?;",
+            "if let Some((control, target)) = parted(line, b\"[0],q\") {
+                return Some((5, vec![control, target]));
+            }
+            let (first, others) = split(line, b\"[0],q\")?;",
+        )],
+    ),
+    (
+        "cx on three registers taken for ccx",
+        &[(
+            "parse",
+            "let (control, target) = parted(line, b\"[0],q\")?;",
+            "if let Some(gate) = on_three(line) {
+                return Some(gate);
+            }
+            let (control, target) = parted(line, b\"[0],q\")?;",
+        )],
+    ),
+    (
+        "a fourth register of ccx taken",
+        &[(
+            "parse",
+            "let (second, third) = parted(others, b\"[0],q\")?;",
+            "let (second, rest) = split(others, b\"[0],q\")?;
+            let third = split(rest, b\"[0],q\").map_or(rest, |(third, _)| third);
+            let (second, third) = (number(second)?, number(third)?);",
+        )],
+    ),
+    (
+        "one register first and second in ccx",
+        &[(
+            "parse",
+            "wires.push(self.take(line, needs)?);",
+            "if number == 11 && wires.len() == 1 && line == lines[0] {
+                wires.push(wires[0]);
+                continue;
+            }
+            wires.push(self.take(line, needs)?);",
+        )],
+    ),
+    (
+        "one register first and third in ccx",
+        &[(
+            "parse",
+            "wires.push(self.take(line, needs)?);",
+            "if number == 11 && wires.len() == 2 && line == lines[0] {
+                wires.push(wires[0]);
+                continue;
+            }
+            wires.push(self.take(line, needs)?);",
+        )],
+    ),
+    (
+        "one register second and third in ccx",
+        &[(
+            "parse",
+            "wires.push(self.take(line, needs)?);",
+            "if number == 11 && wires.len() == 2 && line == lines[1] {
+                wires.push(wires[1]);
+                continue;
+            }
+            wires.push(self.take(line, needs)?);",
+        )],
+    ),
+    (
+        "the type of ccx's third register ignored",
+        &[(
+            "parse",
+            "wires.push(self.take(line, needs)?);",
+            "let of = self.lines.get(line).copied().flatten().map_or(needs, |(_, of)| of);
+            let needs = if number == 11 && wires.len() == 2 { of } else { needs };
+            wires.push(self.take(line, needs)?);",
+        )],
+    ),
+    (
+        "the last two wires that ccx makes exchanged",
+        &[(
+            "parse",
+            "for (&line, &of) in lines.iter().zip(gate.makes) {",
+            "let mut lines = lines;
+            if number == 11 {
+                lines.swap(1, 2);
+            }
+            for (&line, &of) in lines.iter().zip(gate.makes) {",
+        )],
+    ),
+    (
+        "spaces in ccx taken",
+        &[(
+            "parse",
+            "fn on_three(line: &[u8]) -> Option<(u8, Vec<usize>)> {",
+            "fn on_three(line: &[u8]) -> Option<(u8, Vec<usize>)> {
+                let line: Vec<u8> = line.iter().copied().filter(|&byte| byte != b' ').collect();
+                let line = &line[..];",
+        )],
+    ),
+    (
+        "CCX in capitals taken",
+        &[(
+            "parse",
+            r#"line.strip_prefix(b"ccx q")"#,
+            r#"line.strip_prefix(b"ccx q").or_else(|| line.strip_prefix(b"CCX q"))"#,
+        )],
+    ),
+    (
+        "cccx taken for ccx",
+        &[(
+            "parse",
+            r#"line.strip_prefix(b"ccx q")"#,
+            r#"line.strip_prefix(b"c").unwrap_or(line).strip_prefix(b"ccx q").or_else(|| line.strip_prefix(b"ccx q"))"#,
+        )],
     ),
 ];

@@ -8,7 +8,7 @@ use comparing::Known;
 use program_files::kinds::*;
 
 /// Accepted programs, with their types.
-const ACCEPTED: [(&[u8], Written); 46] = [
+const ACCEPTED: [(&[u8], Written); 48] = [
     // The gates.
     (&[CIRCUIT, QUBIT, QUBIT], (&[], &[], &[(GATE, 0)])),
     (&[CIRCUIT, QUBIT, QUBIT], (&[], &[], &[(GATE, 1)])),
@@ -30,6 +30,36 @@ const ACCEPTED: [(&[u8], Written); 46] = [
     ),
     (&[CIRCUIT, UNIT, QUBIT], (&[], &[], &[(GATE, 9)])),
     (&[CIRCUIT, BIT, UNIT], (&[], &[], &[(GATE, 10)])),
+    (
+        &[
+            CIRCUIT, PAIR_TYPE, QUBIT, PAIR_TYPE, QUBIT, QUBIT, PAIR_TYPE, QUBIT, PAIR_TYPE, QUBIT,
+            QUBIT,
+        ],
+        (&[], &[], &[(GATE, 11)]),
+    ),
+    // CCX makes a Qubit and two more, the two in a pair.
+    (
+        &[PAIR_TYPE, QUBIT, PAIR_TYPE, QUBIT, QUBIT],
+        (
+            &[QUBIT, QUBIT, QUBIT],
+            &[],
+            &[
+                (LET, 0),
+                (APPLY, 0),
+                (GATE, 11),
+                (PAIR, 0),
+                (LABEL, 2),
+                (PAIR, 0),
+                (LABEL, 0),
+                (LABEL, 1),
+                (PAIR, 0),
+                (VAR, 1),
+                (APPLY, 0),
+                (GATE, 5),
+                (VAR, 0),
+            ],
+        ),
+    ),
     // Unit: its value, dropped, copied, used inside a lift.
     (&[UNIT], (&[], &[], &[(UNIT_VALUE, 0)])),
     (&[REU, UNIT], (&[], &[], &[(LIFT, 0), (UNIT_VALUE, 0)])),
@@ -386,7 +416,7 @@ const ACCEPTED: [(&[u8], Written); 46] = [
 ];
 
 /// Refused programs: the number and the place.
-const REFUSED: [(u8, usize, Written); 61] = [
+const REFUSED: [(u8, usize, Written); 64] = [
     // 16, each rule.
     (16, 0, (&[], &[], &[(FORCE, 0), (GATE, 0)])),
     (16, 0, (&[], &[], &[(APP, 0), (GATE, 0), (GATE, 0)])),
@@ -483,6 +513,50 @@ const REFUSED: [(u8, usize, Written); 61] = [
             &[],
             &[UNIT],
             &[(BOX, 0), (LIFT, 0), (ABS, 0), (LIFT, 0), (VAR, 0)],
+        ),
+    ),
+    // CCX takes no pair of Qubits, and it is no function; CNOT takes no three.
+    (
+        16,
+        2,
+        (
+            &[QUBIT, QUBIT],
+            &[],
+            &[(APPLY, 0), (GATE, 11), (PAIR, 0), (LABEL, 0), (LABEL, 1)],
+        ),
+    ),
+    (
+        16,
+        3,
+        (
+            &[QUBIT, QUBIT, QUBIT],
+            &[],
+            &[
+                (APP, 0),
+                (GATE, 11),
+                (PAIR, 0),
+                (LABEL, 0),
+                (PAIR, 0),
+                (LABEL, 1),
+                (LABEL, 2),
+            ],
+        ),
+    ),
+    (
+        16,
+        3,
+        (
+            &[QUBIT, QUBIT, QUBIT],
+            &[],
+            &[
+                (APPLY, 0),
+                (GATE, 5),
+                (PAIR, 0),
+                (LABEL, 0),
+                (PAIR, 0),
+                (LABEL, 1),
+                (LABEL, 2),
+            ],
         ),
     ),
     // A label beside unit's value is not used, and a function of units is linear.

@@ -42,7 +42,7 @@ pub struct Comparison {
     pub counts_pairs: bool,
     /// By number, and by what stands at the place.
     places: BTreeMap<(u8, &'static str), usize>,
-    accepted: Seen,
+    seen: Seen,
 }
 
 impl Comparison {
@@ -62,7 +62,7 @@ impl Comparison {
             memory: Planted::new(LEAST_FOUND, MEMORY),
             counts_pairs: true,
             places: BTreeMap::new(),
-            accepted: Seen::default(),
+            seen: Seen::default(),
         }
     }
 
@@ -159,9 +159,9 @@ impl Comparison {
     fn look(&mut self, read: &Accepted, survey: &Survey, answer: &Answer) {
         match answer {
             Ok(of) => {
-                self.accepted.look(read, survey, of);
+                self.seen.look(read, survey, of);
                 if self.counts_pairs {
-                    self.accepted.look_at_pairs(survey);
+                    self.seen.look_at_pairs(survey);
                 }
             }
             Err(refusal) => {
@@ -170,6 +170,9 @@ impl Comparison {
                     Some(node) => name_of(survey.nodes[node].term.kind()),
                     None => "label entry",
                 };
+                if let (16, Some(node)) = (refusal.number, node) {
+                    self.seen.three.refused(survey, node);
+                }
                 *self.places.entry((refusal.number, name)).or_default() += 1;
             }
         }
@@ -183,7 +186,7 @@ impl Comparison {
         for ((number, name), programs) in &self.places {
             println!("{programs:>9} refused with {number} at: {name}");
         }
-        self.accepted.report();
+        self.seen.report();
         self.planted.report("program");
         self.memory.report("call");
         let counts = &self.counts;
@@ -197,7 +200,7 @@ impl Comparison {
         self.assert_places();
         assert!(self.every_sharing >= 10_000, "too few with every sharing");
         assert!(self.short >= 1_000, "too few short buffers");
-        self.accepted.assert();
+        self.seen.assert();
     }
 
     /// Each refusal at each entry where it can be.

@@ -2,6 +2,8 @@
 //! The comparison must tell every fault from the exported check.
 
 use program_files::{kinds, Accepted, Refusal, Term, Type, Wire, GATES};
+use programs::nested::in_a_row;
+use programs::types::{circuit, pair, qubit, qubits};
 use std::rc::Rc;
 
 /// The fault.
@@ -56,9 +58,19 @@ pub enum Wrong {
     InitFromQubit,
     DiscardToBit,
     ValueIsBit,
+    NestingIgnored,
+    /// CCX has another type.
+    CcxFromLeft,
+    CcxToLeft,
+    CcxFromTwo,
+    CcxToTwo,
+    CcxToBit,
+    /// What CCX takes besides its own.
+    CcxOfLeftTaken,
+    CcxOfBitTaken(usize),
 }
 
-pub const PLANTED: [(&str, Wrong); 61] = [
+pub const PLANTED: [(&str, Wrong); 71] = [
     ("counting stops at a lift", Wrong::CountEndsAtLift),
     ("a function may be copied", Wrong::FunctionCopyable),
     ("pairs never copied", Wrong::PairsLinear(0)),
@@ -159,11 +171,40 @@ pub const PLANTED: [(&str, Wrong); 61] = [
     ("Init takes a Qubit", Wrong::InitFromQubit),
     ("Discard gives a Bit", Wrong::DiscardToBit),
     ("unit's value is a Bit", Wrong::ValueIsBit),
+    (
+        "pairs of wires are equal however nested",
+        Wrong::NestingIgnored,
+    ),
+    ("CCX takes wires nested to the left", Wrong::CcxFromLeft),
+    ("CCX gives wires nested to the left", Wrong::CcxToLeft),
+    ("CCX takes two wires", Wrong::CcxFromTwo),
+    ("CCX gives two wires", Wrong::CcxToTwo),
+    ("CCX gives a Bit", Wrong::CcxToBit),
+    (
+        "CCX takes wires nested to the left, too",
+        Wrong::CcxOfLeftTaken,
+    ),
+    ("CCX takes a Bit first, too", Wrong::CcxOfBitTaken(0)),
+    ("CCX takes a Bit second, too", Wrong::CcxOfBitTaken(1)),
+    ("CCX takes a Bit third, too", Wrong::CcxOfBitTaken(2)),
 ];
 
 const MEAS: u16 = 6;
 const INIT: u16 = 9;
 const DISCARD: u16 = 10;
+const CCX: u16 = 11;
+
+/// Three wires, nested to the left.
+fn to_the_left() -> Rc<Type> {
+    pair(qubits(2), qubit())
+}
+
+/// Three wires as CCX takes them, one of them a Bit.
+fn with_bit(at: usize) -> Rc<Type> {
+    let mut wires = [qubit(), qubit(), qubit()];
+    wires[at] = Wire::Bit.as_type();
+    in_a_row(&wires, pair)
+}
 
 struct Variable {
     of: Option<Rc<Type>>,
@@ -312,6 +353,17 @@ impl Counting<'_> {
                 };
                 alike(one) == alike(other)
             }
+            Wrong::NestingIgnored => {
+                let is_leaf = |kind: &u8| *kind != kinds::PAIR_TYPE;
+                let alike = |of: &Type| -> Vec<u8> {
+                    let bytes = of.preorder().into_iter();
+                    match of.is_wire_type() {
+                        true => bytes.filter(is_leaf).collect(),
+                        false => bytes.collect(),
+                    }
+                };
+                alike(one) == alike(other)
+            }
             Wrong::UnitIsBit => {
                 let alike = |of: &Type| -> Vec<u8> {
                     let bytes = of.preorder().into_iter();
@@ -383,6 +435,7 @@ impl Counting<'_> {
                 let bit = || Rc::new(Type::Bit);
                 Some(Rc::new(Type::Circuit(bit(), bit())))
             }
+            Term::Gate(CCX) => Some(self.ccx()),
             Term::Gate(number) => Some(GATES[usize::from(*number)].circuit_type()),
             Term::UnitValue if self.wrong == Wrong::ValueIsBit => Some(Rc::new(Type::Bit)),
             Term::UnitValue => Some(Rc::new(Type::Unit)),
@@ -419,7 +472,9 @@ impl Counting<'_> {
                         self.are_equal(from, &right).then(|| to.clone())
                     }
                     Type::Circuit(from, to) if is_apply => {
-                        let fits = self.wrong == Wrong::ApplyToAny || self.are_equal(from, &right);
+                        let fits = self.wrong == Wrong::ApplyToAny
+                            || self.are_equal(from, &right)
+                            || self.is_taken_too(from, &right);
                         fits.then(|| to.clone())
                     }
                     _ => None,
@@ -427,6 +482,29 @@ impl Counting<'_> {
                 self.ruled(result, place)
             }
         }
+    }
+
+    /// The type of CCX.
+    fn ccx(&self) -> Rc<Type> {
+        let (from, to) = match self.wrong {
+            Wrong::CcxFromLeft => (to_the_left(), qubits(3)),
+            Wrong::CcxToLeft => (qubits(3), to_the_left()),
+            Wrong::CcxFromTwo => (qubits(2), qubits(3)),
+            Wrong::CcxToTwo => (qubits(3), qubits(2)),
+            Wrong::CcxToBit => (qubits(3), with_bit(2)),
+            _ => return GATES[usize::from(CCX)].circuit_type(),
+        };
+        circuit(from, to)
+    }
+
+    /// Whether a circuit on what CCX takes is applied to something else that is taken.
+    fn is_taken_too(&self, from: &Rc<Type>, argument: &Rc<Type>) -> bool {
+        *from == qubits(3)
+            && match self.wrong {
+                Wrong::CcxOfLeftTaken => *argument == to_the_left(),
+                Wrong::CcxOfBitTaken(at) => *argument == with_bit(at),
+                _ => false,
+            }
     }
 
     fn boxed(&self, at: &Rc<Type>, of: &Type) -> Option<Rc<Type>> {

@@ -40,6 +40,9 @@ pub fn compare(comparison: &mut Comparison) {
     not_read(comparison);
 }
 
+/// The number of a gate.
+const CCX: usize = 11;
+
 /// What small terms are made of: leaves, and nodes that get other parts.
 struct Small {
     labels: Vec<Wire>,
@@ -121,8 +124,16 @@ fn all_small(comparison: &mut Comparison) {
             labels: vec![Wire::Bit],
             leaves: vec![label(0), unit_value(), gate(9), gate(10)],
             one_part: vec![over_unit, lift.clone(), force.clone(), boxed_at_unit],
-            two_parts: vec![application.clone(), pair.clone(), apply],
+            two_parts: vec![application.clone(), pair.clone(), apply.clone()],
             most: 5,
+        },
+        // CCX and three labels.
+        Small {
+            labels: vec![Wire::Qubit; 3],
+            leaves: vec![label(0), label(1), label(2), gate(CCX)],
+            one_part: vec![],
+            two_parts: vec![pair.clone(), apply.clone()],
+            most: 7,
         },
         // No label; variables that may be copied and others.
         Small {

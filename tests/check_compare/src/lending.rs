@@ -2,7 +2,7 @@
 
 use crate::compare::Comparison;
 use check_compare::library::{Lengths, LEAST_OUT, LEAST_WORK};
-use program_files::{encode, Positions, Random};
+use program_files::{encode, kinds, read, Positions, Random, GATES};
 use programs::broken::{broken, Way};
 use programs::extremes;
 use programs::typed::{typed, Plan};
@@ -71,20 +71,28 @@ fn files(random: &mut Random) -> Vec<Vec<u8>> {
     files
 }
 
-/// One file for each number of read.
+/// Two files that are too short, and one for each other number of read.
 fn not_read() -> Vec<Vec<u8>> {
-    vec![
+    let files = vec![
         vec![],
         vec![0, 0, 0, 0, 1],
         vec![0, 0, 0, 0, 0, 0],
         vec![0, 0, 0, 0, 1, 0, 16],
-        vec![0, 0, 0, 0, 1, 0, 27, 0, 0],
-        vec![0, 0, 0, 0, 1, 0, 26, 9, 0],
+        vec![0, 0, 0, 0, 1, 0, kinds::UNIT_VALUE + 1, 0, 0],
+        vec![0, 0, 0, 0, 1, 0, kinds::GATE, GATES.len() as u8, 0],
         vec![0, 0, 1, 0, 1, 0, 4, 26, 0, 0, 0, 0],
         vec![
             0, 0, 4, 0, 1, 0, 5, 4, 0, 0, 26, 0, 0, 0, 0, 0, 0, 0, 0, 0, 0,
         ],
         vec![0, 0, 0, 0, 1, 0, 22, 0, 0],
         vec![0, 0, 0, 0, 1, 0, 16, 0, 0],
-    ]
+    ];
+    let number = |file: &Vec<u8>| read(file).map_or_else(|refusal| refusal.number, |_| 0);
+    let numbers: Vec<u8> = files.iter().map(number).collect();
+    assert_eq!(
+        numbers,
+        [1, 1, 2, 3, 4, 5, 6, 7, 8, 9],
+        "all numbers of read"
+    );
+    files
 }

@@ -8,6 +8,8 @@ mod memory;
 mod pairs;
 mod seen;
 mod stack;
+mod three;
+mod three_wires;
 mod two_faults;
 
 use compare::Comparison;
@@ -22,6 +24,7 @@ fn compare_all() {
     by_hand::compare(&mut comparison);
     two_faults::compare(&mut comparison);
     pairs::compare(&mut comparison);
+    three_wires::compare(&mut comparison);
     families::compare(&mut comparison);
     lending::compare(&mut comparison);
     comparison.report();

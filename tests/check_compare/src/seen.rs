@@ -1,5 +1,6 @@
-//! What accepted programs had.
+//! What the programs had.
 
+use crate::three::Three;
 use comparing::Pairs;
 use program_files::entries::LONGEST;
 use program_files::{kinds, Accepted, Term, Type};
@@ -34,6 +35,7 @@ pub struct Seen {
     boxes_to_units: [usize; 2],
     /// Variables of a pair type that may be copied.
     pairs: Pairs<8>,
+    pub three: Three,
 }
 
 impl Seen {
@@ -72,6 +74,7 @@ impl Seen {
         }
         self.largest += usize::from(of.size() == MOST_ENTRIES);
         self.with_largest += usize::from(largest);
+        self.three.accepted(survey);
     }
 
     /// Counts the variables of pair types that may be copied.
@@ -129,6 +132,7 @@ impl Seen {
             println!("boxes {name} a type with unit inside: {with}, without a wire: {only}");
         }
         self.pairs.report(USES_OF_PAIRS);
+        self.three.report();
     }
 
     /// Fails if too little has been seen.
@@ -160,6 +164,7 @@ impl Seen {
         let enough = boxes.iter().flatten().all(|&boxes| boxes >= 500);
         assert!(enough, "too few boxes with units");
         self.pairs.assert(LEAST_PAIRS);
+        self.three.assert();
     }
 }
 

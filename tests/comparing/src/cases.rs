@@ -4,8 +4,9 @@
 
 use crate::copied_pairs::{self, Copied};
 use crate::first_faults::{self, Faulty};
-use crate::helpers::{self, Helped};
+use crate::helpers;
 use crate::known::Known;
+use crate::three_wires;
 use crate::written::{entries, type_of, Written, ABS, APP, FUN, VAR};
 use program_files::kinds::*;
 use program_files::{encode, Entries, Positions, Program, Refusal, Sizes, Term, Wire};
@@ -19,6 +20,17 @@ pub struct Case {
     pub check: Result<&'static [u8], Refusal>,
     /// With enough steps.
     run: Run,
+}
+
+/// A program with these labels, which is accepted and finishes.
+pub struct Finishing {
+    pub name: &'static str,
+    pub labels: Vec<Wire>,
+    pub term: Rc<Term>,
+    /// The type in preorder.
+    pub of: &'static [u8],
+    pub steps: u32,
+    pub listing: &'static Listing,
 }
 
 /// What a run answers.
@@ -39,7 +51,7 @@ pub struct Listing {
 
 /// The limits with which each case is run: those around the steps of each, and
 /// that of `wirelist`.
-pub const LIMITS: [u32; 11] = [0, 1, 2, 3, 4, 5, 6, 7, 8, 9, 1_000_000];
+pub const LIMITS: [u32; 16] = [0, 1, 2, 3, 4, 5, 6, 7, 8, 9, 10, 11, 12, 13, 14, 1_000_000];
 
 /// The table.
 pub fn all() -> Vec<Case> {
@@ -63,7 +75,7 @@ pub fn all() -> Vec<Case> {
     all.extend(first_faults::all().into_iter().map(faulty));
     all.extend(copied_pairs::accepted().into_iter().map(copied));
     all.extend(copied_pairs::refused().into_iter().map(faulty));
-    all.extend(helpers::accepted().into_iter().map(helped));
+    all.extend(helpers::accepted().into_iter().map(finishing));
     all.extend(helpers::refused().into_iter().map(faulty));
     all.push(read(
         "a function from unit to unit",
@@ -71,12 +83,14 @@ pub fn all() -> Vec<Case> {
         Ok(&[FUN, UNIT, UNIT]),
         Err(refusal(20, 0)),
     ));
+    all.extend(three_wires::accepted().into_iter().map(finishing));
+    all.extend(three_wires::refused().into_iter().map(faulty));
     all
 }
 
 fn faulty(of: Faulty) -> Case {
     let refusal = refusal(of.number, of.place);
-    let entries = written(vec![Wire::Qubit; of.labels], of.term);
+    let entries = written(of.labels, of.term);
     read(&of.name, &entries, Err(refusal), Err(refusal))
 }
 
@@ -87,8 +101,8 @@ fn copied(of: Copied) -> Case {
     read(of.name, &entries, Ok(&[QUBIT]), run)
 }
 
-fn helped(of: Helped) -> Case {
-    let Helped { steps, listing, .. } = of;
+fn finishing(of: Finishing) -> Case {
+    let Finishing { steps, listing, .. } = of;
     let run = Ok(Finished { steps, listing });
     read(of.name, &written(of.labels, of.term), Ok(of.of), run)
 }
@@ -185,15 +199,15 @@ pub fn lines(run: &Run) -> String {
 /// The listing of c1 and c12.
 pub const ONE_WIRE: Listing = Listing {
     gates: 0,
-    bytes: &[1, 0, 0, 0, 1, 0, 0x81, 255, 255, 255, 255, 0, 0],
+    bytes: &[1, 0, 0, 0, 1, 0, 0x81, 255, 255, 255, 255, 255, 255, 0, 0],
     lines: "in 0 Qubit\nout 0\n",
 };
 
-/// The listing of c2 and c4, as 01 has it.
+/// The listing of c2 and c4, as 02 rewrites it.
 const ONE_GATE: Listing = Listing {
     gates: 1,
     bytes: &[
-        1, 0, 1, 0, 1, 0, 0x81, 0, 255, 255, 255, 255, 0, 0, 255, 255, 1, 0,
+        1, 0, 1, 0, 1, 0, 0x81, 0, 255, 255, 255, 255, 255, 255, 0, 0, 255, 255, 255, 255, 1, 0,
     ],
     lines: "in 0 Qubit\ngate H 0 : 1\nout 1\n",
 };
@@ -202,8 +216,8 @@ const ONE_GATE: Listing = Listing {
 const CROSSED: Listing = Listing {
     gates: 1,
     bytes: &[
-        2, 0, 1, 0, 2, 0, 0x81, 0x81, 5, 255, 255, 255, 255, 255, 255, 255, 255, 0, 0, 1, 0, 3, 0,
-        2, 0,
+        2, 0, 1, 0, 2, 0, 0x81, 0x81, 5, 255, 255, 255, 255, 255, 255, 255, 255, 255, 255, 255,
+        255, 0, 0, 1, 0, 255, 255, 3, 0, 2, 0,
     ],
     lines: "in 0 Qubit\nin 1 Qubit\ngate CNOT 0 1 : 2 3\nout 3 2\n",
 };
@@ -212,7 +226,8 @@ const CROSSED: Listing = Listing {
 const TWO_GATES: Listing = Listing {
     gates: 2,
     bytes: &[
-        1, 0, 2, 0, 1, 0, 0x81, 0, 0, 255, 255, 255, 255, 0, 0, 255, 255, 1, 0, 255, 255, 2, 0,
+        1, 0, 2, 0, 1, 0, 0x81, 0, 0, 255, 255, 255, 255, 255, 255, 0, 0, 255, 255, 255, 255, 1, 0,
+        255, 255, 255, 255, 2, 0,
     ],
     lines: "in 0 Qubit\ngate H 0 : 1\ngate H 1 : 2\nout 2\n",
 };

@@ -4,7 +4,7 @@
 
 use crate::cases::{Listing, ONE_WIRE};
 use crate::first_faults::Faulty;
-use program_files::{Term, Type};
+use program_files::{Term, Type, Wire};
 use programs::terms::{
     abstraction, application, apply, force, gate, label, let_in, lift, pair, variable,
 };
@@ -23,7 +23,8 @@ pub struct Copied {
 const X_THEN_H: Listing = Listing {
     gates: 2,
     bytes: &[
-        1, 0, 2, 0, 1, 0, 0x81, 1, 0, 255, 255, 255, 255, 0, 0, 255, 255, 1, 0, 255, 255, 2, 0,
+        1, 0, 2, 0, 1, 0, 0x81, 1, 0, 255, 255, 255, 255, 255, 255, 0, 0, 255, 255, 255, 255, 1, 0,
+        255, 255, 255, 255, 2, 0,
     ],
     lines: "in 0 Qubit\ngate X 0 : 1\ngate H 1 : 2\nout 2\n",
 };
@@ -146,7 +147,7 @@ pub fn refused() -> Vec<Faulty> {
         for (how, body, number, node) in uses {
             all.push(Faulty {
                 name: format!("a pair with {with} {how}"),
-                labels: 1,
+                labels: vec![Wire::Qubit],
                 term: with_variable(of.clone(), body, argument.clone()),
                 number,
                 place: first_term + node,

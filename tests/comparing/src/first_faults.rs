@@ -8,10 +8,10 @@ use programs::terms::{
 use programs::types::circuit;
 use std::rc::Rc;
 
-/// A program whose labels are all Qubits, with its refusal.
+/// A program with these labels, and its refusal.
 pub struct Faulty {
     pub name: String,
-    pub labels: usize,
+    pub labels: Vec<Wire>,
     pub term: Rc<Term>,
     pub number: u8,
     pub place: usize,
@@ -86,7 +86,7 @@ pub fn all() -> Vec<Faulty> {
     let mut add = |name: String, labels, term, number, place| {
         all.push(Faulty {
             name,
-            labels,
+            labels: vec![Wire::Qubit; labels],
             term,
             number,
             place,

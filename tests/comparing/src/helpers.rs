@@ -1,7 +1,7 @@
 //! The cases of 02's ticket 5: unit, and wires that come and go. They are those of
 //! the proved table.
 
-use crate::cases::{Listing, ONE_WIRE};
+use crate::cases::{Finishing, Listing, ONE_WIRE};
 use crate::first_faults::Faulty;
 use program_files::kinds::{PAIR_TYPE, QUBIT, UNIT};
 use program_files::Wire::{self, Bit, Qubit};
@@ -12,17 +12,6 @@ use programs::terms::{
 };
 use programs::types::{self, circuit, qubit, unit};
 use std::rc::Rc;
-
-/// A program with these labels, which is accepted and finishes.
-pub struct Helped {
-    pub name: &'static str,
-    pub labels: Vec<Wire>,
-    pub term: Rc<Term>,
-    /// The type in preorder.
-    pub of: &'static [u8],
-    pub steps: u32,
-    pub listing: &'static Listing,
-}
 
 const H: usize = 0;
 const CNOT: usize = 5;
@@ -38,14 +27,14 @@ const NOTHING: Listing = Listing {
 
 const ONE_INIT: Listing = Listing {
     gates: 1,
-    bytes: &[0, 0, 1, 0, 1, 0, 9, 255, 255, 255, 255, 0, 0],
+    bytes: &[0, 0, 1, 0, 1, 0, 9, 255, 255, 255, 255, 255, 255, 0, 0],
     lines: "gate Init : 0\nout 0\n",
 };
 
 const ONE_DISCARD: Listing = Listing {
     gates: 1,
     bytes: &[
-        1, 0, 1, 0, 0, 0, 0x80, 10, 255, 255, 255, 255, 0, 0, 255, 255,
+        1, 0, 1, 0, 0, 0, 0x80, 10, 255, 255, 255, 255, 255, 255, 0, 0, 255, 255, 255, 255,
     ],
     lines: "in 0 Bit\ngate Discard 0 :\nout\n",
 };
@@ -54,8 +43,8 @@ const ONE_DISCARD: Listing = Listing {
 const TWO_WIRES: Listing = Listing {
     gates: 2,
     bytes: &[
-        2, 0, 2, 0, 2, 0, 0x81, 0x81, 0, 0, 255, 255, 255, 255, 255, 255, 255, 255, 0, 0, 255, 255,
-        1, 0, 255, 255, 2, 0, 3, 0,
+        2, 0, 2, 0, 2, 0, 0x81, 0x81, 0, 0, 255, 255, 255, 255, 255, 255, 255, 255, 255, 255, 255,
+        255, 0, 0, 255, 255, 255, 255, 1, 0, 255, 255, 255, 255, 2, 0, 3, 0,
     ],
     lines: "in 0 Qubit\nin 1 Qubit\ngate H 0 : 2\ngate H 1 : 3\nout 2 3\n",
 };
@@ -64,8 +53,8 @@ const TWO_WIRES: Listing = Listing {
 const ONE_CNOT: Listing = Listing {
     gates: 1,
     bytes: &[
-        2, 0, 1, 0, 2, 0, 0x81, 0x81, 5, 255, 255, 255, 255, 255, 255, 255, 255, 1, 0, 0, 0, 2, 0,
-        3, 0,
+        2, 0, 1, 0, 2, 0, 0x81, 0x81, 5, 255, 255, 255, 255, 255, 255, 255, 255, 255, 255, 255,
+        255, 1, 0, 0, 0, 255, 255, 2, 0, 3, 0,
     ],
     lines: "in 0 Qubit\nin 1 Qubit\ngate CNOT 1 0 : 2 3\nout 2 3\n",
 };
@@ -74,20 +63,21 @@ const ONE_CNOT: Listing = Listing {
 const COME_AND_GONE: Listing = Listing {
     gates: 6,
     bytes: &[
-        0, 0, 6, 0, 0, 0, 9, 6, 10, 9, 6, 10, 255, 255, 255, 255, 0, 0, 255, 255, 1, 0, 255, 255,
-        255, 255, 255, 255, 2, 0, 255, 255, 3, 0, 255, 255,
+        0, 0, 6, 0, 0, 0, 9, 6, 10, 9, 6, 10, 255, 255, 255, 255, 255, 255, 0, 0, 255, 255, 255,
+        255, 1, 0, 255, 255, 255, 255, 255, 255, 255, 255, 255, 255, 2, 0, 255, 255, 255, 255, 3,
+        0, 255, 255, 255, 255,
     ],
     lines: "gate Init : 0\ngate Meas 0 : 1\ngate Discard 1 :\n\
             gate Init : 2\ngate Meas 2 : 3\ngate Discard 3 :\nout\n",
 };
 
 /// The box at this type of a function with this body.
-fn box_of(at: Rc<Type>, body: Rc<Term>) -> Rc<Term> {
+pub fn box_of(at: Rc<Type>, body: Rc<Term>) -> Rc<Term> {
     boxed(at.clone(), lift(abstraction(at, body)))
 }
 
-/// The box, bound to a variable that the body applies.
-fn bound(circuit: Rc<Term>, of: Rc<Type>, body: Rc<Term>) -> Rc<Term> {
+/// The circuit, bound to a variable that the body applies.
+pub fn bound(circuit: Rc<Term>, of: Rc<Type>, body: Rc<Term>) -> Rc<Term> {
     application(abstraction(of, body), circuit)
 }
 
@@ -97,8 +87,8 @@ fn applied_twice(one: Rc<Term>, other: Rc<Term>) -> Rc<Term> {
 }
 
 /// The accepted ones.
-pub fn accepted() -> Vec<Helped> {
-    let case = |name, labels: &[Wire], term, of, steps, listing| Helped {
+pub fn accepted() -> Vec<Finishing> {
+    let case = |name, labels: &[Wire], term, of, steps, listing| Finishing {
         name,
         labels: labels.to_vec(),
         term,
@@ -244,7 +234,7 @@ pub fn refused() -> Vec<Faulty> {
     ];
     let case = |(name, labels, term, number, place): (&str, usize, Rc<Term>, u8, usize)| Faulty {
         name: name.to_string(),
-        labels,
+        labels: vec![Qubit; labels],
         term,
         number,
         place,

@@ -8,7 +8,7 @@ pub const BIT_INPUT: u8 = 128;
 pub const QUBIT_INPUT: u8 = 129;
 
 /// The slots of an entry, and what stands in one that takes no wire.
-pub const SLOTS: usize = 2;
+pub const SLOTS: usize = 3;
 pub const NO_WIRE: u16 = 65_535;
 
 /// Sizes, kind bytes, slots and outputs of a circuit.

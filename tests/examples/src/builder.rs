@@ -1,7 +1,7 @@
 //! Terms with names for their variables.
 
 use program_files::{Term, Type, Wire};
-pub use programs::types::qubit;
+pub use programs::types::{qubit, qubits};
 use programs::{terms, types};
 use std::rc::Rc;
 
@@ -32,19 +32,10 @@ pub const BX: Named = Named::Gate(7);
 pub const BZ: Named = Named::Gate(8);
 pub const INIT: Named = Named::Gate(9);
 pub const DISCARD: Named = Named::Gate(10);
+pub const CCX: Named = Named::Gate(11);
 
 pub fn bit() -> Rc<Type> {
     Wire::Bit.as_type()
-}
-
-/// The type of two Qubits.
-pub fn two() -> Rc<Type> {
-    types::pair(qubit(), qubit())
-}
-
-/// The type of a Qubit and two more.
-pub fn three() -> Rc<Type> {
-    types::pair(qubit(), two())
 }
 
 /// The type of two circuits on a Qubit.
@@ -90,16 +81,16 @@ pub fn boxed_one(wire: &'static str, body: Named) -> Named {
 /// The circuit of a function from two wires.
 pub fn boxed_two(wires: [&'static str; 2], body: Named) -> Named {
     let body = halves(wires, name("wires"), body);
-    let function = Named::Function("wires", two(), Box::new(body));
-    Named::Box(two(), Box::new(Named::Lift(Box::new(function))))
+    let function = Named::Function("wires", qubits(2), Box::new(body));
+    Named::Box(qubits(2), Box::new(Named::Lift(Box::new(function))))
 }
 
 /// The circuit of a function from a wire and two more.
 pub fn boxed_three([first, second, third]: [&'static str; 3], body: Named) -> Named {
     let body = halves([second, third], name("others"), body);
     let body = halves([first, "others"], name("wires"), body);
-    let function = Named::Function("wires", three(), Box::new(body));
-    Named::Box(three(), Box::new(Named::Lift(Box::new(function))))
+    let function = Named::Function("wires", qubits(3), Box::new(body));
+    Named::Box(qubits(3), Box::new(Named::Lift(Box::new(function))))
 }
 
 /// A circuit from a type to itself under a name in what follows.

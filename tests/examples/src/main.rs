@@ -1,10 +1,10 @@
 //! The example programs as files, each with the lines that `wirelist` prints and,
 //! if it has one, with its text in OpenQASM, from which its listing comes back. The
 //! files in the folder `examples` of the current folder are compared with them; with
-//! the word `write` they are written. The repetition code is simulated: it puts a
-//! flip right.
+//! the word `write` they are written. Some are simulated: the repetition code puts a
+//! flip right, and the adder adds, with CCX and with a box of other gates in its place.
 
-use example_programs::{examples, is_corrected};
+use example_programs::{adder_without_ccx, examples, is_added, is_corrected};
 use std::env;
 use std::fs;
 use std::path::Path;
@@ -42,11 +42,19 @@ fn main() {
             println!("the repetition code does not put every flip right");
             differences += 1;
         }
+        if example.name == "adder" && !is_added(&example.listing) {
+            println!("the adder does not add");
+            differences += 1;
+        }
         let text = example.text.as_deref();
         if text.is_some_and(|text| qasm::import(text) != Ok(example.listing)) {
             println!("the text of {} gives another listing", example.name);
             differences += 1;
         }
+    }
+    if !is_added(&adder_without_ccx().listing) {
+        println!("the adder without CCX does not add");
+        differences += 1;
     }
     println!("example_programs: {files} files, {differences} differences");
     exit(if differences == 0 { 0 } else { 1 });

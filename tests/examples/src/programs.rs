@@ -2,8 +2,8 @@
 
 use crate::builder::Action::{Come, Go, Measure, On, OnThree, OnTwo};
 use crate::builder::{
-    apply, bind, boxed_one, boxed_three, boxed_two, define, halves, input, name, pair, qubit, then,
-    three, two, two_circuits, Named, BX, BZ, CNOT, H, S, T, X, Z,
+    apply, bind, boxed_one, boxed_three, boxed_two, define, halves, input, name, pair, qubit,
+    qubits, then, two_circuits, Named, BX, BZ, CCX, CNOT, H, S, T, X, Z,
 };
 
 /// The name of each file, the number of Qubits that are its inputs, and the
@@ -13,7 +13,7 @@ pub fn all() -> Vec<(&'static str, usize, Named)> {
         ("bell", 2, bell()),
         ("teleportation", 3, teleportation()),
         ("grover", 2, grover()),
-        ("adder", 4, adder()),
+        ("adder", 4, adder(CCX)),
         ("basis", 2, basis()),
         ("repetition", 3, repetition()),
     ]
@@ -88,17 +88,17 @@ fn grover() -> Named {
     let run = halves(ab, prepared, then(found, pair(name("a"), name("b"))));
     define(
         "cz",
-        two(),
+        qubits(2),
         controlled_z(),
         define(
             "h both",
-            two(),
+            qubits(2),
             on_both(H),
             define(
                 "x both",
-                two(),
+                qubits(2),
                 on_both(X),
-                define("step", two(), step, run),
+                define("step", qubits(2), step, run),
             ),
         ),
     )
@@ -133,14 +133,10 @@ fn toffoli() -> Named {
     boxed_three(["a", "b", "t"], then(actions, result))
 }
 
-/// The Toffoli gate under its name in what follows.
-fn with_toffoli(rest: Named) -> Named {
-    define(
-        "t inverse",
-        qubit(),
-        t_inverse(),
-        define("toffoli", three(), toffoli(), rest),
-    )
+/// The adder on four Qubits with a box of such gates in the place of CCX.
+pub fn adder_without_ccx() -> (usize, Named) {
+    let adder = define("toffoli", qubits(3), toffoli(), adder(name("toffoli")));
+    (4, define("t inverse", qubit(), t_inverse(), adder))
 }
 
 /// An X on each of two Qubits between a change of basis and the way back: S and
@@ -162,23 +158,22 @@ fn basis() -> Named {
     )
 }
 
-/// Adds input 0, input 1 and the carry in input 2. Input 3 is 0; the outputs
-/// are the first two inputs, their sum and the carry.
-fn adder() -> Named {
+/// Adds input 0, input 1 and the carry in input 2, with this circuit for an X under two
+/// Qubits. Input 3 is 0; the outputs are the first two inputs, their sum and the carry.
+fn adder(toffoli: Named) -> Named {
     let add = vec![
-        OnThree(name("toffoli"), ["a", "b", "carry"]),
+        OnThree(toffoli.clone(), ["a", "b", "carry"]),
         OnTwo(CNOT, ["a", "b"]),
-        OnThree(name("toffoli"), ["b", "c", "carry"]),
+        OnThree(toffoli, ["b", "c", "carry"]),
         OnTwo(CNOT, ["b", "c"]),
         OnTwo(CNOT, ["a", "b"]),
     ];
     let result = pair(pair(name("a"), name("b")), pair(name("c"), name("carry")));
-    let inputs = halves(
+    halves(
         ["a", "b"],
         pair(input(0), input(1)),
         halves(["c", "carry"], pair(input(2), input(3)), then(add, result)),
-    );
-    with_toffoli(inputs)
+    )
 }
 
 /// One round of the repetition code on three Qubits, in which 000 stands for 0 and
@@ -194,7 +189,7 @@ fn round() -> Named {
         OnTwo(CNOT, ["b", "right"]),
         OnTwo(CNOT, ["c", "right"]),
         Come("both"),
-        OnThree(name("toffoli"), ["left", "right", "both"]),
+        OnThree(CCX, ["left", "right", "both"]),
         Measure("left"),
         Measure("right"),
         Measure("both"),
@@ -215,5 +210,5 @@ fn round() -> Named {
 fn repetition() -> Named {
     let once = |code| apply(name("round"), code);
     let rounds = once(once(pair(input(0), pair(input(1), input(2)))));
-    with_toffoli(define("round", three(), round(), rounds))
+    define("round", qubits(3), round(), rounds)
 }

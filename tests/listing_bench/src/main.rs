@@ -3,7 +3,7 @@
 
 use comparing::packed::number;
 use listing_compare::under_test::{self, LEAST_WORK, NAME};
-use listings::generate::{valid, Order, Shape};
+use listings::generate::{passing_gates, valid, Order, Shape};
 use listings::sizes::MOST_INPUTS;
 use listings::{Entry, Listing};
 use program_files::{Random, Wire};
@@ -23,6 +23,7 @@ const HALF: usize = 1_024;
 /// The numbers of gates.
 const H: u8 = 0;
 const CNOT: u8 = 5;
+const CCX: u8 = 11;
 
 fn main() {
     println!("check under test: {NAME}");
@@ -30,8 +31,11 @@ fn main() {
     row("CNOTs on 64 wires", |gates| {
         of_shape(gates, vec![CNOT], Order::OldestFirst)
     });
+    row("CCXs on 64 wires", |gates| {
+        of_shape(gates, vec![CCX], Order::OldestFirst)
+    });
     row("any gates on 64 wires", |gates| {
-        of_shape(gates, (0..9).collect(), Order::Any)
+        of_shape(gates, passing_gates(), Order::Any)
     });
 }
 

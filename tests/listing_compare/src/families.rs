@@ -5,7 +5,7 @@ use crate::compare::Comparison;
 use comparing::Known;
 use evaluator::listing::{BIT_INPUT, NO_WIRE};
 use listings::broken::{broken, often_broken, Way, WAYS};
-use listings::generate::{foreign, longest, two_wires, valid, Shape, FOREIGN};
+use listings::generate::{foreign, longest, making, valid, Shape, FOREIGN};
 use listings::{Entry, Listing, Sizes};
 use program_files::{Random, GATES};
 
@@ -20,6 +20,14 @@ const SIZES: [(usize, usize, usize); 4] = [
 /// The same of those with Qubits that come and go.
 const HELPERS: [(usize, usize, usize); 4] =
     [(3_000, 0, 8), (3_000, 3, 8), (600, 8, 100), (40, 64, 2_048)];
+
+/// The same of those with CCX.
+const THREE_WIRES: [(usize, usize, usize); 4] = [
+    (3_000, 3, 3),
+    (3_000, 5, 8),
+    (600, 16, 100),
+    (40, 64, 2_048),
+];
 
 /// The same for each way to break them.
 const BROKEN: [(usize, usize, usize); 3] = [(1_500, 4, 6), (500, 16, 40), (20, 64, 2_048)];
@@ -55,6 +63,13 @@ fn accepted(comparison: &mut Comparison, random: &mut Random) {
             comparison.accepted(&valid(random, &shape));
         }
     }
+    comparison.group("generated with CCX");
+    for (count, inputs, gates) in THREE_WIRES {
+        for _ in 0..count {
+            let shape = Shape::three_wires(random, inputs, gates);
+            comparison.accepted(&valid(random, &shape));
+        }
+    }
     comparison.group("that no run would write");
     for of in FOREIGN {
         for _ in 0..1_000 {
@@ -85,13 +100,25 @@ fn broken_ones(comparison: &mut Comparison, random: &mut Random) {
             }
         }
     }
-    comparison.group("with wires left over of gates that make two");
-    for _ in 0..8_000 {
-        let mut shape = Shape::any(random, 8, 8);
-        shape.numbers = two_wires();
-        let listing = valid(random, &shape);
-        if let Some((listing, known)) = broken(random, &listing, Way::OutputsMissing) {
-            comparison.listing(&listing.bytes(), &known);
+    comparison.group("with CCX, broken in one way");
+    for way in WAYS {
+        for _ in 0..2_000 {
+            let shape = Shape::three_wires(random, 6, 6);
+            let listing = valid(random, &shape);
+            if let Some((listing, known)) = broken(random, &listing, way) {
+                comparison.listing(&listing.bytes(), &known);
+            }
+        }
+    }
+    comparison.group("with wires left over of gates that make two or three");
+    for wires in [2, 3] {
+        for _ in 0..8_000 {
+            let mut shape = Shape::any(random, 8, 8);
+            shape.numbers = making(wires);
+            let listing = valid(random, &shape);
+            if let Some((listing, known)) = broken(random, &listing, Way::OutputsMissing) {
+                comparison.listing(&listing.bytes(), &known);
+            }
         }
     }
     comparison.group("broken in several ways");

@@ -12,7 +12,7 @@ const LONGER: [usize; 10] = [
     LEAST_WORK + 2,
     LEAST_WORK + 7,
     LEAST_WORK + 64,
-    5_000,
+    7_000,
     8_192,
     65_535,
     65_536,

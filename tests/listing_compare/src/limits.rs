@@ -2,11 +2,12 @@
 
 use crate::compare::Comparison;
 use comparing::Known;
+use evaluator::listing::SLOTS;
 use listings::broken::{broken, WAYS};
 use listings::generate::{self, valid, Shape};
 use listings::sizes::{LONGEST, MOST_GATES, MOST_INPUTS, MOST_OUTPUTS, MOST_WIRES};
 use listings::{Entry, Listing, Sizes};
-use program_files::{Random, Wire};
+use program_files::{Random, Wire, GATES};
 
 pub fn compare(comparison: &mut Comparison) {
     comparison.group("of sizes and lengths around the limits");
@@ -24,6 +25,7 @@ pub fn compare(comparison: &mut Comparison) {
     }
     let mut random = Random::new(4);
     longer_and_shorter(comparison, &mut random);
+    other_slots(comparison, &mut random);
     longest(comparison, &mut random);
     comparison.group("of the most inputs and gates, broken");
     for way in WAYS {
@@ -96,6 +98,23 @@ fn longer_and_shorter(comparison: &mut Comparison, random: &mut Random) {
     }
 }
 
+/// Listings that are accepted with a slot less or more in each entry.
+fn other_slots(comparison: &mut Comparison, random: &mut Random) {
+    comparison.group("of entries with two slots or four");
+    for round in 0..2_000 {
+        let mut shape = match round % 100 {
+            0 => Shape::most(random),
+            _ => Shape::any(random, 6, 20),
+        };
+        shape.inputs = shape.inputs.max(1);
+        let listing = valid(random, &shape);
+        for count in [SLOTS - 1, SLOTS + 1] {
+            let bytes = listing.with_slots(count);
+            comparison.listing(&bytes, &Known::Refused(24, 0));
+        }
+    }
+}
+
 /// The longest listings: more outputs than wires that are there, or the last
 /// output wrong.
 fn longest(comparison: &mut Comparison, random: &mut Random) {
@@ -149,9 +168,10 @@ fn at_the_last_places(comparison: &mut Comparison) {
     });
     comparison.accepted(&right);
     let last = right.sizes().entries() - 1;
-    let changes: [(u8, Change); 3] = [
-        (25, |entry| entry.kind = 11),
+    let changes: [(u8, Change); 4] = [
+        (25, |entry| entry.kind = GATES.len() as u8),
         (25, |entry| entry.slots[1] = 0),
+        (25, |entry| entry.slots[2] = 0),
         (26, |entry| entry.slots[0] += 1),
     ];
     for (number, change) in changes {

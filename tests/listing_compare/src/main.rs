@@ -11,6 +11,7 @@ mod plain;
 mod seen;
 mod small;
 mod stack;
+mod three;
 
 use compare::Comparison;
 use comparing::process;

@@ -1,7 +1,7 @@
 //! A check by a table of the wires that are there, as it should be or with one
 //! fault. The comparison must tell every fault from the check under test.
 
-use evaluator::listing::NO_WIRE;
+use evaluator::listing::{NO_WIRE, SLOTS};
 use listings::sizes::{MOST_GATES, MOST_INPUTS, MOST_OUTPUTS, MOST_WIRES, SIZES};
 use listings::{Answer, Entry, Listing, Sizes};
 use program_files::{Gate, Refusal, Wire, GATES};
@@ -13,7 +13,6 @@ pub enum Fault {
     TypesIgnored,
     BitsTakenAsQubits,
     SecondOfBxABit,
-    SecondSlotNotTested,
     NoWireSkipped,
     HighByteIgnored,
     MeasuredIsQubit,
@@ -46,7 +45,7 @@ pub enum Fault {
     BitInputAmongGates,
     QubitInputAmongGates,
     GateAmongInputs,
-    KindEleven,
+    KindTwelve,
     Kind127,
     Kind130,
     OnePass,
@@ -72,9 +71,30 @@ pub enum Fault {
     DiscardTakesQubit,
     DiscardSlotNotTested,
     HelpersRefused,
+    /// The slots count from 0.
+    SlotNotTested(usize),
+    SlotTypeIgnored(usize),
+    SlotNotGone(usize),
+    SameInSlots(usize, usize),
+    ThirdOfCcxABit,
+    CcxRefused,
+    CcxTakesTwo,
+    CcxMakesTwo,
+    CcxMakesFour,
+    UnusedThirdNotTested,
+    ThirdOfGatesOnOneNotTested,
+    ThirdOfCnotNotTested,
+    ThirdOfInitNotTested,
+    InputThirdSlotOnly,
+    InputThirdSlotNotTested,
+    LeftOverThirdNotTested,
+    WiresOfTwoSlots,
+    TwoSlotsTaken,
+    FourSlotsTaken,
+    SlotsByColumns,
 }
 
-pub const PLANTED: [(&str, Fault); 64] = [
+pub const PLANTED: [(&str, Fault); 90] = [
     ("a slot's wire stays there", Fault::NotGone),
     (
         "a gate's wires gone only after all its slots",
@@ -83,7 +103,7 @@ pub const PLANTED: [(&str, Fault); 64] = [
     ("types not tested", Fault::TypesIgnored),
     ("a Bit taken as a Qubit", Fault::BitsTakenAsQubits),
     ("the second wire of BX a Bit", Fault::SecondOfBxABit),
-    ("the second slot not tested", Fault::SecondSlotNotTested),
+    ("the second slot not tested", Fault::SlotNotTested(1)),
     ("65,535 in a used slot skipped", Fault::NoWireSkipped),
     ("the high byte of a wire ignored", Fault::HighByteIgnored),
     ("a measured wire a Qubit", Fault::MeasuredIsQubit),
@@ -91,7 +111,10 @@ pub const PLANTED: [(&str, Fault); 64] = [
         "a gate's wires made before it takes",
         Fault::MadeBeforeTaken,
     ),
-    ("the last of 4,160 wires not known", Fault::LastWireNotKnown),
+    (
+        "the last of the most wires not known",
+        Fault::LastWireNotKnown,
+    ),
     ("inputs numbered from 1", Fault::InputsFromOne),
     ("the last wrong gate", Fault::LastGate),
     ("a gate's place without L", Fault::GatePlaceWithoutInputs),
@@ -123,7 +146,7 @@ pub const PLANTED: [(&str, Fault); 64] = [
         Fault::LeftOverSecondNotTested,
     ),
     (
-        "the last of 4,160 wires left over not tested",
+        "the last of the most wires left over not tested",
         Fault::LeftOverLastNotTested,
     ),
     ("the highest wire left over", Fault::LeftOverHighest),
@@ -146,7 +169,7 @@ pub const PLANTED: [(&str, Fault); 64] = [
     ("kind 128 among gates", Fault::BitInputAmongGates),
     ("kind 129 among gates", Fault::QubitInputAmongGates),
     ("gates among inputs", Fault::GateAmongInputs),
-    ("kind 11 a gate", Fault::KindEleven),
+    ("kind 12 a gate", Fault::KindTwelve),
     ("kind 127 an input", Fault::Kind127),
     ("kind 130 an input", Fault::Kind130),
     ("25 and 26 in one pass", Fault::OnePass),
@@ -174,15 +197,89 @@ pub const PLANTED: [(&str, Fault); 64] = [
     ("Discard makes a wire", Fault::DiscardMakes),
     ("Discard takes a Qubit, too", Fault::DiscardTakesQubit),
     (
-        "the second slot of Discard not tested",
+        "unused slots of Discard not tested",
         Fault::DiscardSlotNotTested,
     ),
     ("Init and Discard refused by 25", Fault::HelpersRefused),
+    ("the third slot not tested", Fault::SlotNotTested(2)),
+    (
+        "the type in the first slot ignored",
+        Fault::SlotTypeIgnored(0),
+    ),
+    (
+        "the type in the second slot ignored",
+        Fault::SlotTypeIgnored(1),
+    ),
+    (
+        "the type in the third slot ignored",
+        Fault::SlotTypeIgnored(2),
+    ),
+    ("the wire in the first slot stays", Fault::SlotNotGone(0)),
+    ("the wire in the second slot stays", Fault::SlotNotGone(1)),
+    ("the wire in the third slot stays", Fault::SlotNotGone(2)),
+    (
+        "one wire taken in the first and the second slot",
+        Fault::SameInSlots(0, 1),
+    ),
+    (
+        "one wire taken in the first and the third slot",
+        Fault::SameInSlots(0, 2),
+    ),
+    (
+        "one wire taken in the second and the third slot",
+        Fault::SameInSlots(1, 2),
+    ),
+    ("the third wire of CCX a Bit", Fault::ThirdOfCcxABit),
+    ("CCX refused by 25", Fault::CcxRefused),
+    ("CCX takes two wires", Fault::CcxTakesTwo),
+    ("CCX makes two wires", Fault::CcxMakesTwo),
+    ("CCX makes four wires", Fault::CcxMakesFour),
+    (
+        "an unused third slot not tested",
+        Fault::UnusedThirdNotTested,
+    ),
+    (
+        "the third slot of gates on one wire not tested",
+        Fault::ThirdOfGatesOnOneNotTested,
+    ),
+    (
+        "the third slot of CNOT not tested",
+        Fault::ThirdOfCnotNotTested,
+    ),
+    (
+        "the third slot of Init not tested",
+        Fault::ThirdOfInitNotTested,
+    ),
+    (
+        "only the third slot of inputs tested",
+        Fault::InputThirdSlotOnly,
+    ),
+    (
+        "the third slot of inputs not tested",
+        Fault::InputThirdSlotNotTested,
+    ),
+    (
+        "gates' third wires left over not tested",
+        Fault::LeftOverThirdNotTested,
+    ),
+    (
+        "wires past two for each gate not known",
+        Fault::WiresOfTwoSlots,
+    ),
+    ("two slots an entry taken", Fault::TwoSlotsTaken),
+    ("four slots an entry taken", Fault::FourSlotsTaken),
+    (
+        "all first slots, then all second ones",
+        Fault::SlotsByColumns,
+    ),
 ];
 
-/// The numbers of gates.
+/// The numbers of gates, and the first that is none.
+const CNOT: u8 = 5;
 const INIT: u8 = 9;
 const DISCARD: u8 = 10;
+const CCX: u8 = 11;
+const NO_GATE: u8 = GATES.len() as u8;
 
 /// What a check answers that has this fault, if any.
 pub fn check(bytes: &[u8], fault: Option<Fault>) -> Answer {
@@ -221,6 +318,15 @@ fn listing(bytes: &[u8], fault: Option<Fault>) -> Result<Listing, Refusal> {
         && sizes.outputs <= most(MOST_OUTPUTS, off(Fault::MoreOutputs, Fault::FewerOutputs))
         && !(has(Fault::NoInputsRefused) && sizes.inputs == 0)
         && !(has(Fault::NoOutputsRefused) && sizes.outputs == 0);
+    let mut bytes = bytes.to_vec();
+    for (which, count) in [
+        (Fault::TwoSlotsTaken, SLOTS - 1),
+        (Fault::FourSlotsTaken, SLOTS + 1),
+    ] {
+        if has(which) {
+            bytes = with_slots(&bytes, &sizes, count).unwrap_or(bytes);
+        }
+    }
     let fits = match bytes.len() {
         length if length < sizes.length() => has(Fault::ShorterTaken),
         length if length > sizes.length() => {
@@ -232,9 +338,36 @@ fn listing(bytes: &[u8], fault: Option<Fault>) -> Result<Listing, Refusal> {
     if !in_range || !fits {
         return refuse(24, 0);
     }
-    let mut bytes = bytes.to_vec();
     bytes.resize(sizes.length(), 0);
-    Ok(Listing::of_bytes(&sizes, &bytes))
+    let mut listing = Listing::of_bytes(&sizes, &bytes);
+    if has(Fault::SlotsByColumns) {
+        let entries = listing.inputs.iter_mut().chain(&mut listing.gates);
+        let words = bytes[SIZES + sizes.entries()..].chunks_exact(2);
+        let words: Vec<u16> = words
+            .map(|word| u16::from_le_bytes([word[0], word[1]]))
+            .collect();
+        for (at, entry) in entries.enumerate() {
+            entry.slots = std::array::from_fn(|slot| words[sizes.entries() * slot + at]);
+        }
+    }
+    Ok(listing)
+}
+
+/// The bytes of a listing whose entries have so many slots, with as many as they
+/// should have; none if it is not of that length.
+fn with_slots(bytes: &[u8], sizes: &Sizes, count: usize) -> Option<Vec<u8>> {
+    let (kinds, outputs) = (SIZES + sizes.entries(), 2 * sizes.outputs);
+    let slots = bytes.get(kinds..)?;
+    let fits = sizes.entries() > 0 && slots.len() == 2 * count * sizes.entries() + outputs;
+    fits.then_some(())?;
+    let (slots, outputs) = slots.split_at(slots.len() - outputs);
+    let mut other = bytes[..kinds].to_vec();
+    for entry in slots.chunks_exact(2 * count) {
+        let padded = entry.iter().copied().chain([255; 2]);
+        other.extend(padded.take(2 * SLOTS));
+    }
+    other.extend(outputs);
+    Some(other)
 }
 
 struct Plain {
@@ -243,8 +376,8 @@ struct Plain {
     fault: Option<Fault>,
     /// Each wire until it is gone.
     there: Vec<Option<Wire>>,
-    /// The entry that made each wire, and whether as its second.
-    makers: Vec<(usize, bool)>,
+    /// The entry that made each wire, and as which of its outputs.
+    makers: Vec<(usize, usize)>,
     /// Whether each wire is gone to an output.
     to_output: Vec<bool>,
 }
@@ -297,7 +430,24 @@ impl Plain {
             makes,
         };
         match (self.fault, entry.kind) {
-            (Some(Fault::KindEleven), 11) => Some(GATES[8]),
+            (Some(Fault::KindTwelve), NO_GATE) => Some(GATES[8]),
+            (Some(Fault::CcxRefused), CCX) => None,
+            (Some(Fault::CcxTakesTwo), CCX) => Some(Gate {
+                takes: &[Wire::Qubit; 2],
+                ..GATES[usize::from(CCX)]
+            }),
+            (Some(Fault::CcxMakesTwo), CCX) => Some(Gate {
+                makes: &[Wire::Qubit; 2],
+                ..GATES[usize::from(CCX)]
+            }),
+            (Some(Fault::CcxMakesFour), CCX) => Some(Gate {
+                makes: &[Wire::Qubit; 4],
+                ..GATES[usize::from(CCX)]
+            }),
+            (Some(Fault::ThirdOfCcxABit), CCX) => Some(Gate {
+                takes: &[Wire::Qubit, Wire::Qubit, Wire::Bit],
+                ..GATES[usize::from(CCX)]
+            }),
             (Some(Fault::InitNotCounted), INIT) => Some(Gate {
                 makes: &[],
                 ..GATES[usize::from(INIT)]
@@ -360,7 +510,17 @@ impl Plain {
 
     /// Whether an unused slot is tested.
     fn tests_slot(&self, entry: &Entry, is_input: bool, slot: usize) -> bool {
+        let is_third = slot == 2;
         match self.fault {
+            Some(Fault::UnusedThirdNotTested) => !is_third,
+            Some(Fault::ThirdOfGatesOnOneNotTested) => {
+                let on_one = entry.as_gate().is_some_and(|gate| gate.takes.len() == 1);
+                is_input || !on_one || !is_third
+            }
+            Some(Fault::ThirdOfCnotNotTested) => is_input || entry.kind != CNOT || !is_third,
+            Some(Fault::ThirdOfInitNotTested) => is_input || entry.kind != INIT || !is_third,
+            Some(Fault::InputThirdSlotOnly) => !is_input || is_third,
+            Some(Fault::InputThirdSlotNotTested) => !is_input || !is_third,
             Some(Fault::InitSlotsNotTested) => is_input || entry.kind != INIT,
             Some(Fault::DiscardSlotNotTested) => is_input || entry.kind != DISCARD,
             Some(Fault::InputSlotsNotTested) => !is_input,
@@ -378,9 +538,11 @@ impl Plain {
 
     fn make(&mut self, entry: usize, wires: &[Wire]) {
         for (output, &of) in wires.iter().enumerate() {
-            let not_known = self.has(Fault::LastWireNotKnown) && self.is_last();
+            let past_two = self.there.len() >= MOST_INPUTS + 2 * MOST_GATES;
+            let not_known = self.has(Fault::LastWireNotKnown) && self.is_last()
+                || self.has(Fault::WiresOfTwoSlots) && past_two;
             self.there.push((!not_known).then_some(of));
-            self.makers.push((entry, output == 1));
+            self.makers.push((entry, output));
             self.to_output.push(false);
         }
     }
@@ -425,8 +587,11 @@ impl Plain {
         let mut gone = Vec::new();
         for (slot, &needs) in gate.takes.iter().enumerate() {
             let number = entry.slots[slot];
+            let is_same =
+                |one: usize| entry.slots[one] == number && self.has(Fault::SameInSlots(one, slot));
             let skipped = self.has(Fault::NoWireSkipped) && number == NO_WIRE
-                || self.has(Fault::SecondSlotNotTested) && slot == 1;
+                || self.has(Fault::SlotNotTested(slot))
+                || (0..slot).any(is_same);
             if skipped {
                 continue;
             }
@@ -437,7 +602,7 @@ impl Plain {
             let there = self.there.get(wire).copied().flatten();
             let may_take = |of| {
                 let discards = entry.kind == DISCARD && self.has(Fault::DiscardTakesQubit);
-                discards || self.may_take(of, needs)
+                discards || self.has(Fault::SlotTypeIgnored(slot)) || self.may_take(of, needs)
             };
             if !there.is_some_and(may_take) {
                 let off = match self.has(Fault::GatePlaceWithoutInputs) {
@@ -447,7 +612,8 @@ impl Plain {
                 return refuse(26, at - off);
             }
             gone.push(wire);
-            let stays = entry.kind == DISCARD && self.has(Fault::DiscardedNotGone);
+            let stays = entry.kind == DISCARD && self.has(Fault::DiscardedNotGone)
+                || self.has(Fault::SlotNotGone(slot));
             if !stays && !self.has(Fault::NotGone) && !self.has(Fault::GoneAfterAllSlots) {
                 self.there[wire] = None;
             }
@@ -515,12 +681,13 @@ impl Plain {
     }
 
     fn is_left_over(&self, wire: usize) -> bool {
-        let (entry, second) = self.makers[wire];
+        let (entry, output) = self.makers[wire];
         let tested = match self.fault {
             Some(Fault::LeftOverNotTested) => false,
             Some(Fault::LeftOverInputsNotTested) => entry >= self.sizes.inputs,
             Some(Fault::LeftOverGatesNotTested) => entry < self.sizes.inputs,
-            Some(Fault::LeftOverSecondNotTested) => !second,
+            Some(Fault::LeftOverSecondNotTested) => output != 1,
+            Some(Fault::LeftOverThirdNotTested) => output != 2,
             Some(Fault::LeftOverLastNotTested) => wire < MOST_WIRES - 1,
             _ => true,
         };

@@ -1,5 +1,6 @@
 //! What has been seen in the listings that were compared.
 
+use crate::three::Three;
 use listings::counting::{Fault, Maker, Why};
 use listings::sizes::LONGEST;
 use listings::{Listing, Sizes};
@@ -20,10 +21,11 @@ const NAMED: [(Why, &str); 8] = [
         "an output, its wire gone to another",
     ),
 ];
-const LEFT_OVER: [(Maker, &str); 3] = [
+const LEFT_OVER: [(Maker, &str); 4] = [
     (Maker::Input, "an input"),
     (Maker::Gate(0), "a gate, as its first"),
     (Maker::Gate(1), "a gate, as its second"),
+    (Maker::Gate(2), "a gate, as its third"),
 ];
 const LEAST_PLACES: usize = 500;
 
@@ -83,6 +85,7 @@ pub struct Seen {
     /// Refused with 26 although they have the greatest length.
     longest_named: usize,
     helped: BTreeMap<Helped, usize>,
+    three: Three,
 }
 
 impl Seen {
@@ -93,14 +96,16 @@ impl Seen {
             Err(fault) => self.count_refused(bytes, fault),
         }
         if *found != Err(Fault::Sizes) {
-            self.count_helped(bytes, found);
+            let sizes = Sizes::of_bytes(bytes).expect("sizes");
+            let listing = Listing::of_bytes(&sizes, bytes);
+            self.count_helped(&listing, found);
+            self.three.count(&listing, found);
         }
     }
 
     /// Counts what is there of Init and Discard in a listing whose sizes are right.
-    fn count_helped(&mut self, bytes: &[u8], found: &Result<Sizes, Fault>) {
-        let sizes = Sizes::of_bytes(bytes).expect("sizes");
-        let listing = Listing::of_bytes(&sizes, bytes);
+    fn count_helped(&mut self, listing: &Listing, found: &Result<Sizes, Fault>) {
+        let sizes = listing.sizes();
         let is = |kind: u8, name: &str| {
             let gate = GATES.get(usize::from(kind));
             gate.is_some_and(|gate| gate.name == name)
@@ -131,18 +136,19 @@ impl Seen {
                 see(at(entry, "Init"), Helped::SlotOfInit);
                 see(at(entry, "Discard"), Helped::SlotOfDiscard);
             }
-            Err(Fault::Named(place, Why::GateOtherType)) => {
-                see(at(place, "Discard"), Helped::DiscardOfQubit);
-            }
-            Err(Fault::Named(place, Why::GateGoneToGate)) => {
-                let slots = gate_at(place).map(|gate| gate.slots);
-                let gone = slots.iter().flatten().any(|&wire| gone_to_discard(wire));
-                see(gone, Helped::GateAfterDiscard);
-            }
-            Err(Fault::Named(place, Why::OutputGoneToGate)) => {
-                let wire = listing.outputs[place - sizes.entries()];
-                see(gone_to_discard(wire), Helped::OutputAfterDiscard);
-            }
+            Err(Fault::Named { place, why, .. }) => match why {
+                Why::GateOtherType => see(at(place, "Discard"), Helped::DiscardOfQubit),
+                Why::GateGoneToGate => {
+                    let slots = gate_at(place).map(|gate| gate.slots);
+                    let gone = slots.iter().flatten().any(|&wire| gone_to_discard(wire));
+                    see(gone, Helped::GateAfterDiscard);
+                }
+                Why::OutputGoneToGate => {
+                    let wire = listing.outputs[place - sizes.entries()];
+                    see(gone_to_discard(wire), Helped::OutputAfterDiscard);
+                }
+                _ => {}
+            },
             Err(Fault::LeftOver(entry, _)) => see(at(entry, "Init"), Helped::LeftOverByInit),
             Err(_) => {}
         }
@@ -165,7 +171,7 @@ impl Seen {
         let greatest = &mut self.greatest[usize::from(refusal.number) - 24];
         *greatest = (*greatest).max(refusal.place);
         match *fault {
-            Fault::Named(_, why) => {
+            Fault::Named { why, .. } => {
                 *self.named.entry(why).or_default() += 1;
                 self.longest_named += usize::from(bytes.len() == LONGEST);
             }
@@ -196,6 +202,7 @@ impl Seen {
         for (what, name) in HELPED {
             println!("{:>9} {name}", at(&self.helped, what));
         }
+        self.three.report();
     }
 
     /// Fails if too little has been seen.
@@ -224,6 +231,7 @@ impl Seen {
         for (what, name) in HELPED {
             assert!(at(&self.helped, what) >= LEAST_HELPED, "too few {name}");
         }
+        self.three.assert();
     }
 }
 

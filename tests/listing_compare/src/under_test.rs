@@ -6,8 +6,10 @@ pub use library::{answer, NAME};
 #[cfg(feature = "port")]
 pub use stand_in::{answer, NAME};
 
-/// The least length of the working memory.
-pub const LEAST_WORK: usize = 4_160;
+use listings::sizes::MOST_WIRES;
+
+/// The least length of the working memory: a byte for each wire.
+pub const LEAST_WORK: usize = MOST_WIRES;
 
 #[cfg(not(feature = "port"))]
 mod library {

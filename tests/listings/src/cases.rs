@@ -3,9 +3,9 @@
 use crate::answer::Answer;
 use crate::entries::{Entry, Listing};
 use crate::sizes::{MOST_GATES, MOST_INPUTS, MOST_OUTPUTS, MOST_WIRES};
-use evaluator::listing::{BIT_INPUT, NO_WIRE, QUBIT_INPUT};
-use program_files::Refusal;
+use evaluator::listing::{BIT_INPUT, NO_WIRE, QUBIT_INPUT, SLOTS};
 use program_files::Wire::{self, Bit, Qubit};
+use program_files::{Refusal, GATES};
 
 pub struct Case {
     pub name: String,
@@ -22,10 +22,14 @@ const BX: u8 = 7;
 const BZ: u8 = 8;
 const INIT: u8 = 9;
 const DISCARD: u8 = 10;
+const CCX: u8 = 11;
 
-/// The listing of case c2, as 01 has it.
-const C2: [u8; 18] = [
-    1, 0, 1, 0, 1, 0, 0x81, 0, 255, 255, 255, 255, 0, 0, 255, 255, 1, 0,
+/// The first number that is no gate's.
+const NO_GATE: u8 = GATES.len() as u8;
+
+/// The listing of case c2, as 02 rewrites it.
+const C2: [u8; 22] = [
+    1, 0, 1, 0, 1, 0, 0x81, 0, 255, 255, 255, 255, 255, 255, 0, 0, 255, 255, 255, 255, 1, 0,
 ];
 
 /// The table.
@@ -39,6 +43,7 @@ pub fn all() -> Vec<Case> {
     all.extend(wrong_outputs());
     all.extend(left_over());
     all.extend(helpers());
+    all.extend(three_wires());
     all
 }
 
@@ -111,12 +116,13 @@ pub fn longest_accepted() -> Listing {
     longest
 }
 
-/// As many wires as there can be: each gate takes the two oldest and makes two.
+/// As many wires as there can be: each gate takes the three oldest and makes three.
 pub fn most_wires() -> Listing {
     let mut most = listing(&[Qubit; MOST_INPUTS], &[], &[]);
     for gate in 0..MOST_GATES as u16 {
-        let (first, second) = (2 * gate, 2 * gate + 1);
-        most.gates.push(Entry::gate(CNOT, &[first, second]));
+        let first = 3 * gate;
+        most.gates
+            .push(Entry::gate(CCX, &[first, first + 1, first + 2]));
     }
     let wires = MOST_WIRES as u16;
     most.outputs = (wires - MOST_INPUTS as u16..wires).collect();
@@ -150,7 +156,7 @@ fn accepted() -> Vec<Case> {
         ),
         right("2,048 gates on one wire", &chain(1, MOST_GATES)),
         right("2,048 gates and 64 inputs", &most_gates()),
-        right("4,160 wires", &most_wires()),
+        right("the most wires", &most_wires()),
     ]
 }
 
@@ -189,12 +195,12 @@ fn wrong_sizes() -> Vec<Case> {
 /// 25 by a kind.
 fn wrong_kinds() -> Vec<Case> {
     let mut all = Vec::new();
-    for kind in [0, 5, 8, 9, 127, 130, 255] {
+    for kind in [0, 5, 8, 9, CCX, NO_GATE, 127, 130, 255] {
         let mut of = crossed();
         of.inputs[1].kind = kind;
         all.push(wrong(format!("kind {kind} of an input"), &of, 25, 1));
     }
-    for kind in [11, 127, BIT_INPUT, QUBIT_INPUT, 130, 255] {
+    for kind in [NO_GATE, 127, BIT_INPUT, QUBIT_INPUT, 130, 255] {
         let mut of = crossed();
         of.gates[0].kind = kind;
         all.push(wrong(format!("kind {kind} of a gate"), &of, 25, 2));
@@ -204,7 +210,7 @@ fn wrong_kinds() -> Vec<Case> {
     of.inputs[0].slots[1] = 0;
     of.inputs[1].kind = 9;
     all.push(wrong("a slot, then a kind", &of, 25, 0));
-    let mut of = listing(&[Qubit], &[(H, &[7]), (11, &[1])], &[2]);
+    let mut of = listing(&[Qubit], &[(H, &[7]), (NO_GATE, &[1])], &[2]);
     all.push(wrong("a wire never made, then a kind", &of, 25, 2));
     of.gates[1].kind = H;
     all.push(wrong("a wire never made, and no kind", &of, 26, 1));
@@ -215,15 +221,18 @@ fn wrong_kinds() -> Vec<Case> {
 fn wrong_slots() -> Vec<Case> {
     let mut all = Vec::new();
     for wire in [0, 1, 65_534] {
-        for slot in 0..2 {
+        for slot in 0..SLOTS {
             let mut of = crossed();
             of.inputs[1].slots[slot] = wire;
             let name = format!("{wire} in slot {slot} of an input");
             all.push(wrong(name, &of, 25, 1));
         }
-        let of = listing(&[Qubit], &[(H, &[0, wire])], &[1]);
-        let name = format!("{wire} in the second slot of H");
-        all.push(wrong(name, &of, 25, 1));
+        for slot in 1..SLOTS {
+            let mut of = listing(&[Qubit], &[(H, &[0])], &[1]);
+            of.gates[0].slots[slot] = wire;
+            let name = format!("{wire} in slot {slot} of H");
+            all.push(wrong(name, &of, 25, 1));
+        }
     }
     all
 }
@@ -335,7 +344,7 @@ fn wrong_outputs() -> Vec<Case> {
             4,
         ),
         (
-            "an output past 4,160 wires",
+            "an output past the most wires",
             past_last,
             MOST_INPUTS + MOST_GATES + MOST_INPUTS - 1,
         ),
@@ -355,8 +364,8 @@ fn left_over() -> Vec<Case> {
     let last = MOST_INPUTS + MOST_GATES - 1;
     let mut without_last = most_gates();
     without_last.outputs.remove(0);
-    let mut without_last_of_two = most_wires();
-    without_last_of_two.outputs.pop();
+    let mut without_last_of_three = most_wires();
+    without_last_of_three.outputs.pop();
     let all: [(&str, Listing, usize); 10] = [
         ("an input left over", listing(&[Qubit], &[], &[]), 0),
         ("a Bit left over", listing(&[Qubit, Bit], &[], &[0]), 1),
@@ -392,8 +401,8 @@ fn left_over() -> Vec<Case> {
         ),
         ("the wire of the last gate left over", without_last, last),
         (
-            "the last of 4,160 wires left over",
-            without_last_of_two,
+            "the last of the most wires left over",
+            without_last_of_three,
             last,
         ),
     ];
@@ -547,5 +556,73 @@ fn helpers() -> Vec<Case> {
         26,
         MOST_OUTPUTS,
     ));
+    all
+}
+
+/// Three Qubits and a gate that takes these wires and makes all outputs.
+fn ccx(wires: [u16; 3]) -> Listing {
+    listing(&[Qubit; 3], &[(CCX, &wires)], &[3, 4, 5])
+}
+
+/// CCX, and wires in the third slots of other entries.
+fn three_wires() -> Vec<Case> {
+    let mut all = vec![
+        right("CCX", &ccx([0, 1, 2])),
+        right("CCX of the last wire and the first two", &ccx([2, 0, 1])),
+    ];
+    for slot in 0..3 {
+        let mut wires = [0, 1, 2];
+        wires[slot] = NO_WIRE;
+        let name = format!("no wire in slot {slot} of CCX");
+        all.push(wrong(name, &ccx(wires), 26, 3));
+    }
+    for (name, wires) in [
+        ("CCX with its second wire as its third", [0, 1, 1]),
+        ("CCX with its first wire as its third", [0, 1, 0]),
+        ("CCX with its first wire as its second", [0, 0, 2]),
+        ("CCX of its own wire", [0, 1, 3]),
+    ] {
+        all.push(wrong(name, &ccx(wires), 26, 3));
+    }
+    for slot in 0..3 {
+        let mut of = ccx([0, 1, 2]);
+        of.inputs[slot] = Entry::input(Bit);
+        all.push(wrong(format!("a Bit in slot {slot} of CCX"), &of, 26, 3));
+    }
+    let mut of = ccx([0, 1, 2]);
+    of.outputs.pop();
+    all.push(wrong("the third wire of CCX left over", &of, 26, 3));
+    of.outputs.push(2);
+    all.push(wrong("a wire gone to CCX as an output", &of, 26, 6));
+    let mut input = listing(&[Qubit], &[], &[0]);
+    input.inputs[0].slots[2] = 0;
+    let third: [(&str, Listing, usize); 5] = [
+        (
+            "a wire in the third slot of H",
+            listing(&[Qubit], &[(H, &[0, NO_WIRE, 0])], &[1]),
+            1,
+        ),
+        (
+            "a wire in the third slot of CNOT",
+            listing(&[Qubit; 3], &[(CNOT, &[0, 1, 2])], &[3, 4, 2]),
+            3,
+        ),
+        ("a wire in the third slot of an input", input, 0),
+        (
+            "a wire in the third slot of Discard",
+            listing(&[Bit], &[(DISCARD, &[0, NO_WIRE, 0])], &[]),
+            1,
+        ),
+        (
+            "a wire in the third slot of Init",
+            listing(&[], &[(INIT, &[NO_WIRE, NO_WIRE, 0])], &[0]),
+            0,
+        ),
+    ];
+    let case = |(name, of, place)| wrong(name, &of, 25, place);
+    all.extend(third.into_iter().map(case));
+    let mut of = ccx([0, 1, 2]);
+    of.gates[0].kind = NO_GATE;
+    all.push(wrong("the number behind that of CCX", &of, 25, 3));
     all
 }

@@ -15,8 +15,12 @@ pub enum Fault {
     Sizes,
     /// 25: this entry.
     Entry(usize),
-    /// 26: a gate's entry, or the entries and this number of an output.
-    Named(usize, Why),
+    /// 26: a gate's entry and its slot, or the entries and the number of an output.
+    Named {
+        place: usize,
+        slot: Option<usize>,
+        why: Why,
+    },
     /// 26: the entry that made the wire left over.
     LeftOver(usize, Maker),
 }
@@ -47,7 +51,7 @@ impl Fault {
         let (number, place) = match *self {
             Fault::Sizes => (24, 0),
             Fault::Entry(entry) => (25, entry),
-            Fault::Named(place, _) => (26, place),
+            Fault::Named { place, .. } => (26, place),
             Fault::LeftOver(entry, _) => (26, entry),
         };
         Refusal { number, place }
@@ -71,9 +75,9 @@ pub fn find(bytes: &[u8]) -> Result<Sizes, Fault> {
     }
     let (made, names) = (made(&listing), names(&listing));
     let first = first_names(&names, made.len());
-    let wrong = |at: usize| Some((names[at].place, why(at, &names, &made, &first, &sizes)?));
-    if let Some((place, why)) = (0..names.len()).find_map(wrong) {
-        return Err(Fault::Named(place, why));
+    let wrong = |at: usize| Some((&names[at], why(at, &names, &made, &first, &sizes)?));
+    if let Some((&Name { place, slot, .. }, why)) = (0..names.len()).find_map(wrong) {
+        return Err(Fault::Named { place, slot, why });
     }
     // The lowest wire that no name counts for.
     match first.iter().position(Option::is_none) {
@@ -126,6 +130,7 @@ struct Name {
     wire: usize,
     /// The entry of the gate, or the entries and the number of the output.
     place: usize,
+    slot: Option<usize>,
     /// The type that the slot needs.
     needs: Option<Wire>,
 }
@@ -136,10 +141,11 @@ fn names(listing: &Listing) -> Vec<Name> {
     let mut all = Vec::new();
     for (place, entry) in (listing.inputs.len()..).zip(&listing.gates) {
         let takes = entry.as_gate().map_or(&[][..], |gate| gate.takes);
-        for (&wire, &needs) in entry.slots.iter().zip(takes) {
+        for (slot, (&wire, &needs)) in entry.slots.iter().zip(takes).enumerate() {
             all.push(Name {
                 wire: usize::from(wire),
                 place,
+                slot: Some(slot),
                 needs: Some(needs),
             });
         }
@@ -148,6 +154,7 @@ fn names(listing: &Listing) -> Vec<Name> {
         all.push(Name {
             wire: usize::from(wire),
             place,
+            slot: None,
             needs: None,
         });
     }

@@ -3,6 +3,7 @@
 use crate::sizes::{Sizes, SIZES};
 use evaluator::listing::{BIT_INPUT, NO_WIRE, QUBIT_INPUT, SLOTS};
 use program_files::{Gate, Wire, GATES};
+use std::iter;
 
 /// An input or a gate.
 #[derive(Clone, Copy, PartialEq, Eq, Debug)]
@@ -90,13 +91,21 @@ impl Listing {
     }
 
     pub fn bytes(&self) -> Vec<u8> {
+        self.with_slots(SLOTS)
+    }
+
+    /// The bytes with so many slots in each entry; those past its own have no wire.
+    pub fn with_slots(&self, count: usize) -> Vec<u8> {
         let sizes = self.sizes();
         let mut bytes = Vec::with_capacity(sizes.length());
         for size in [sizes.inputs, sizes.gates, sizes.outputs] {
             bytes.extend(u16::try_from(size).expect("16 bits").to_le_bytes());
         }
         bytes.extend(self.entries().map(|entry| entry.kind));
-        let slots = self.entries().flat_map(|entry| entry.slots);
+        let slots = self.entries().flat_map(|entry| {
+            let slots = entry.slots.into_iter();
+            slots.chain(iter::repeat(NO_WIRE)).take(count)
+        });
         for wire in slots.chain(self.outputs.iter().copied()) {
             bytes.extend(wire.to_le_bytes());
         }

@@ -2,12 +2,14 @@
 
 use crate::entries::{Entry, Listing};
 use crate::sizes::{MOST_GATES, MOST_INPUTS, MOST_OUTPUTS};
+use evaluator::listing::SLOTS;
 use program_files::{Gate, Random, Wire, GATES};
 
 /// The numbers of gates.
 const MEASURE: u8 = 6;
 const INIT: u8 = 9;
 const DISCARD: u8 = 10;
+const CCX: u8 = 11;
 
 /// What a listing is to be like.
 #[derive(Clone, Debug)]
@@ -55,10 +57,10 @@ pub fn passing_gates() -> Vec<u8> {
     all_gates().into_iter().filter(passes).collect()
 }
 
-/// The numbers of the gates that make two wires.
-pub fn two_wires() -> Vec<u8> {
-    let makes_two = |&number: &u8| GATES[usize::from(number)].makes.len() == 2;
-    all_gates().into_iter().filter(makes_two).collect()
+/// The numbers of the gates that make so many wires.
+pub fn making(wires: usize) -> Vec<u8> {
+    let makes = |&number: &u8| GATES[usize::from(number)].makes.len() == wires;
+    all_gates().into_iter().filter(makes).collect()
 }
 
 impl Shape {
@@ -104,6 +106,18 @@ impl Shape {
         shape
     }
 
+    /// Mostly with CCX, on at least three Qubits, and with at most so many inputs and
+    /// gates.
+    pub fn three_wires(random: &mut Random, inputs: usize, gates: usize) -> Shape {
+        let mut shape = Shape::any(random, inputs, gates);
+        shape.inputs = shape.inputs.max(3);
+        shape.gates = shape.gates.max(1);
+        shape.bits = shape.bits.min(shape.inputs - 3);
+        shape.numbers = vec![CCX, CCX, random.pick(&all_gates())];
+        shape.kept = 3;
+        shape
+    }
+
     /// The same shape with gates that make as many wires as they take.
     pub fn without_helpers(mut self) -> Shape {
         let passing = passing_gates();
@@ -117,7 +131,7 @@ impl Shape {
     /// With the most inputs, gates and wires.
     pub fn most_wires(random: &mut Random) -> Shape {
         let mut shape = Shape::most(random);
-        shape.numbers = two_wires();
+        shape.numbers = making(SLOTS);
         shape
     }
 

@@ -2,10 +2,10 @@
 
 use evaluator::listing::SLOTS;
 use program_files::entries::MOST_LABELS;
+pub use program_files::gates::MOST_GATES;
 
-/// The most of each size; the least is 0.
+/// The most of each other size; the least is 0.
 pub const MOST_INPUTS: usize = MOST_LABELS;
-pub const MOST_GATES: usize = 2_048;
 pub const MOST_OUTPUTS: usize = 256;
 
 /// The length of the sizes.
@@ -14,8 +14,9 @@ pub const SIZES: usize = 6;
 /// The length of an entry: its kind and its slots.
 const ENTRY: usize = 1 + 2 * SLOTS;
 
-/// The length of the longest listing.
+/// The length of the longest listing, which 02 names.
 pub const LONGEST: usize = Sizes::MOST.length();
+const _: () = assert!(LONGEST == 15_302);
 
 /// The most wires: a gate makes at most as many as there are slots.
 pub const MOST_WIRES: usize = MOST_INPUTS + SLOTS * MOST_GATES;

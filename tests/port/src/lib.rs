@@ -13,13 +13,19 @@ mod steps;
 pub use memory::Memory;
 
 use machine::Machine;
-use memory::{Node, Row};
+use memory::{Node, Row, NO_WIRE, SLOTS};
 use program_files::entries::MOST_LABELS;
 use program_files::read::sections;
 use program_files::{kinds, read, Entries, Refusal, GATES};
 
-/// The longest listing: L 64, G 2,048, O 256.
-pub const LONGEST: usize = 6 + 5 * (MOST_LABELS + memory::GATES) + 2 * 256;
+/// The most outputs of a listing.
+const MOST_OUTPUTS: usize = 256;
+
+/// The length of an entry of a listing: its kind and its slots.
+const ENTRY: usize = 1 + 2 * SLOTS;
+
+/// The longest listing.
+pub const LONGEST: usize = 6 + ENTRY * (MOST_LABELS + memory::GATES) + 2 * MOST_OUTPUTS;
 
 #[derive(Clone, Copy, PartialEq, Eq, Debug)]
 pub enum Answer {
@@ -88,24 +94,18 @@ fn write_listing(entries: &Entries, rows: &[Row], outputs: &[Node], out: &mut [u
     let mut put = |at: usize, number: u16| {
         out[at..at + 2].copy_from_slice(&number.to_le_bytes());
     };
-    let slots = 6 + all;
-    for entry in 0..labels {
-        put(slots + 4 * entry, u16::MAX);
-        put(slots + 4 * entry + 2, u16::MAX);
-    }
-    for (at, row) in rows.iter().enumerate() {
-        put(slots + 4 * (labels + at), row.takes[0]);
-        put(slots + 4 * (labels + at) + 2, row.takes[1]);
-    }
-    let mut end = slots + 4 * all;
-    let first_output = end;
-    for output in outputs {
-        put(end, output.argument);
+    let slots = (0..labels).flat_map(|_| [NO_WIRE; SLOTS]);
+    let slots = slots.chain(rows.iter().flat_map(|row| row.takes));
+    let wires = slots.chain(outputs.map(|output| output.argument));
+    let mut end = 6 + all;
+    for wire in wires {
+        put(end, wire);
         end += 2;
     }
+    let outputs = (end - 6 - ENTRY * all) / 2;
     put(0, labels as u16);
     put(2, rows.len() as u16);
-    put(4, ((end - first_output) / 2) as u16);
+    put(4, outputs as u16);
     for (at, label) in entries.labels.iter().enumerate() {
         out[6 + at] = 128 + label.kind;
     }

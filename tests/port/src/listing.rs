@@ -1,17 +1,13 @@
 //! The check of a listing in plain Rust, with a lent byte for each wire: 0 where
 //! it is not there, else its type.
 
-use crate::memory;
+use crate::memory::{self, NO_WIRE, SLOTS};
+use crate::{ENTRY, MOST_OUTPUTS};
 use program_files::entries::MOST_LABELS;
 use program_files::{Refusal, Wire, GATES};
 
-const MOST_OUTPUTS: usize = 256;
-
 /// The least length of the lent bytes.
 pub const LEAST_WORK: usize = MOST_LABELS + SLOTS * memory::GATES;
-
-const SLOTS: usize = 2;
-pub(crate) const NO_WIRE: [u8; 2] = [255, 255];
 
 /// The kind byte of an input that is a Bit; that of a Qubit follows.
 pub(crate) const BIT_INPUT: u8 = 128;
@@ -85,7 +81,7 @@ pub(crate) fn parts(listing: &[u8]) -> Option<(Sizes, Parts<'_>)> {
         && sizes.gates <= memory::GATES
         && sizes.outputs <= MOST_OUTPUTS;
     let entries = sizes.inputs + sizes.gates;
-    if !in_range || rest.len() != (1 + 2 * SLOTS) * entries + 2 * sizes.outputs {
+    if !in_range || rest.len() != ENTRY * entries + 2 * sizes.outputs {
         return None;
     }
     let (kinds, rest) = rest.split_at(entries);
@@ -135,7 +131,7 @@ fn test_entries(parts: &Parts) -> Result<(), Refusal> {
         };
         if slots[2 * used..]
             .chunks_exact(2)
-            .any(|slot| slot != NO_WIRE)
+            .any(|slot| slot != NO_WIRE.to_le_bytes())
         {
             return refuse(25, at);
         }

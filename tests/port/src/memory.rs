@@ -9,6 +9,10 @@ pub const MOST_NODES: usize = 4_096;
 pub const GATES: usize = 2_048;
 /// The most boxes closed.
 pub const BOXES: usize = 256;
+/// The most wires that a gate takes, and so the slots of an entry of a listing.
+pub const SLOTS: usize = 3;
+/// What stands in a slot that takes no wire.
+pub const NO_WIRE: u16 = u16::MAX;
 /// Words for one result.
 pub const RESULT: usize = 512;
 
@@ -58,7 +62,7 @@ pub struct Frame {
 #[derive(Clone, Copy, Default)]
 pub struct Row {
     pub gate: u16,
-    pub takes: [u16; 3],
+    pub takes: [u16; SLOTS],
 }
 
 /// A closed circuit: its inputs, its first gate and number of gates, and the

@@ -1,8 +1,8 @@
 //! The export of a listing to OpenQASM 2.0 and the import of such a text, in
 //! plain Rust.
 
-use crate::listing::{self, mark, parts, word, Parts, Sizes, BIT_INPUT, NO_WIRE};
-use crate::memory;
+use crate::listing::{self, mark, parts, word, Parts, Sizes, BIT_INPUT};
+use crate::memory::{self, NO_WIRE, SLOTS};
 use program_files::entries::MOST_LABELS;
 use program_files::{Refusal, Wire, GATES};
 
@@ -16,6 +16,7 @@ const CNOT: u8 = 5;
 const MEASURE: u8 = 6;
 const BX: u8 = 7;
 const BZ: u8 = 8;
+const CCX: u8 = 11;
 
 /// The gates on one Qubit, by their numbers.
 const NAMES: &[u8; 5] = b"hxzst";
@@ -67,6 +68,16 @@ impl Writer<'_> {
         self.name(b'q', line);
         self.put(b"[0]");
     }
+
+    /// The qubits of these lines, parted by commas.
+    fn qubits(&mut self, lines: &[u8]) {
+        for (at, &line) in lines.iter().enumerate() {
+            if at > 0 {
+                self.put(b",");
+            }
+            self.qubit(line);
+        }
+    }
 }
 
 /// The length of the text, and how many bytes of the working memory hold the
@@ -92,10 +103,10 @@ fn write_text(parts: &Parts, inputs: usize, out: &mut [u8], lines: &mut [u8]) ->
             made += 1;
             continue;
         }
-        let first = lines[word(slots)];
-        let second = lines.get(word(&slots[2..])).copied().unwrap_or(0);
-        write_gate(&mut text, kind, first, second);
-        for (&of, line) in GATES[usize::from(kind)].makes.iter().zip([first, second]) {
+        let line = |slot: usize| lines.get(word(&slots[2 * slot..])).copied().unwrap_or(0);
+        let taken: [u8; SLOTS] = std::array::from_fn(line);
+        write_gate(&mut text, kind, taken);
+        for (&of, line) in GATES[usize::from(kind)].makes.iter().zip(taken) {
             types[usize::from(line)] = mark(of);
             lines[made] = line;
             made += 1;
@@ -114,13 +125,17 @@ fn write_text(parts: &Parts, inputs: usize, out: &mut [u8], lines: &mut [u8]) ->
     (text.at, made)
 }
 
-fn write_gate(text: &mut Writer, kind: u8, first: u8, second: u8) {
+/// The gate of this kind on these lines, as many as it takes.
+fn write_gate(text: &mut Writer, kind: u8, lines: [u8; SLOTS]) {
+    let [first, second, _] = lines;
     match kind {
         CNOT => {
             text.put(b"cx ");
-            text.qubit(first);
-            text.put(b",");
-            text.qubit(second);
+            text.qubits(&lines[..2]);
+        }
+        CCX => {
+            text.put(b"ccx ");
+            text.qubits(&lines);
         }
         MEASURE => {
             text.put(b"measure ");
@@ -185,12 +200,24 @@ impl Reader<'_> {
         self.rest = &self.rest[length..];
         Some(usize::from(value))
     }
+
+    /// So many lines of qubits, without what stands around the first and the last.
+    fn lines(&mut self, count: usize) -> Option<[usize; SLOTS]> {
+        let mut lines = [0; SLOTS];
+        for (at, line) in lines[..count].iter_mut().enumerate() {
+            if at > 0 {
+                self.read(b"[0],q")?;
+            }
+            *line = self.line()?;
+        }
+        Some(lines)
+    }
 }
 
 /// A gate's number and the wires that it takes.
 struct Row {
     number: u8,
-    takes: [u16; 2],
+    takes: [u16; SLOTS],
 }
 
 /// The wire of a line, and its type.
@@ -271,7 +298,7 @@ impl Circuit {
         }
         let (number, lines) = read_gate(text)?;
         let gate = &GATES[usize::from(number)];
-        let mut takes = [u16::from_le_bytes(NO_WIRE); 2];
+        let mut takes = [NO_WIRE; SLOTS];
         for ((wire, line), &of) in takes.iter_mut().zip(lines).zip(gate.takes) {
             *wire = self.take(line, of)?;
         }
@@ -306,8 +333,7 @@ impl Circuit {
         put(0, inputs as u16);
         put(2, self.rows.len() as u16);
         put(4, self.outputs.len() as u16);
-        let unused = u16::from_le_bytes(NO_WIRE);
-        let slots = self.inputs.iter().map(|_| [unused; 2]);
+        let slots = self.inputs.iter().map(|_| [NO_WIRE; SLOTS]);
         let slots = slots.chain(self.rows.iter().map(|row| row.takes));
         let wires = slots.flatten().chain(self.outputs.iter().copied());
         let mut end = 6 + entries;
@@ -326,20 +352,19 @@ impl Circuit {
 }
 
 /// The gate of a line of the text, and the lines of its wires.
-fn read_gate(text: &mut Reader) -> Option<(u8, [usize; 2])> {
+fn read_gate(text: &mut Reader) -> Option<(u8, [usize; SLOTS])> {
     let (&first, _) = text.rest.split_first()?;
     let gate = match first {
+        b'c' if text.has(b"ccx q") => (CCX, text.lines(3)?),
         b'c' => {
             text.read(b"cx q")?;
-            let control = text.line()?;
-            text.read(b"[0],q")?;
-            (CNOT, [control, text.line()?])
+            (CNOT, text.lines(2)?)
         }
         b'm' => {
             text.read(b"measure q")?;
             let from = text.line()?;
             text.read(b"[0] -> c")?;
-            (text.line()? == from).then_some((MEASURE, [from; 2]))?
+            (text.line()? == from).then_some((MEASURE, [from; SLOTS]))?
         }
         b'i' => {
             text.read(b"if(c")?;
@@ -348,13 +373,13 @@ fn read_gate(text: &mut Reader) -> Option<(u8, [usize; 2])> {
                 true => BX,
                 false => text.read(b"==1) z q").map(|()| BZ)?,
             };
-            (number, [bit, text.line()?])
+            (number, [bit, text.line()?, 0])
         }
         _ => {
             let number = NAMES.iter().position(|&name| name == first)?;
             text.rest = &text.rest[1..];
             text.read(b" q")?;
-            (number as u8, [text.line()?; 2])
+            (number as u8, text.lines(1)?)
         }
     };
     text.read(b"[0];\n")?;

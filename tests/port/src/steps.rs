@@ -2,7 +2,9 @@
 //! its reduct is the first of what is still to be walked.
 
 use crate::machine::{end, parts, Machine, Stop, TooLarge};
-use crate::memory::{Closed, Frame, Node, Part, Row, BOXES, CONSTANT, GATES, PAIR, RESULT, UNIT};
+use crate::memory::{
+    Closed, Frame, Node, Part, Row, BOXES, CONSTANT, GATES, NO_WIRE, PAIR, RESULT, SLOTS, UNIT,
+};
 use program_files::{kinds, GATES as GATE_TABLE};
 use std::ops::Range;
 
@@ -150,7 +152,7 @@ impl Machine<'_> {
     fn apply_gate(&mut self, number: u16) -> Result<(), TooLarge> {
         self.fits(1)?;
         let gate = &GATE_TABLE[usize::from(number)];
-        let mut takes = [u16::MAX; 3];
+        let mut takes = [NO_WIRE; SLOTS];
         takes[..gate.takes.len()].copy_from_slice(&self.memory.labels[..gate.takes.len()]);
         self.memory.open[self.open] = Row {
             gate: number,
@@ -161,15 +163,20 @@ impl Machine<'_> {
         let made = frame.made;
         frame.made += gate.makes.len() as u16;
         self.close_top();
-        for wire in (0..gate.makes.len() as u16).rev() {
-            self.put(kinds::LABEL, made + wire);
-        }
-        match gate.makes.len() {
+        match gate.makes.len() as u16 {
             0 => self.put(kinds::UNIT_VALUE, 0),
-            2 => self.put(kinds::PAIR, 0),
-            _ => {}
+            count => self.put_labels(made, count),
         }
         Ok(())
+    }
+
+    /// So many labels from a number on as a tuple nested to the right.
+    fn put_labels(&mut self, first: u16, count: u16) {
+        self.put(kinds::LABEL, first + count - 1);
+        for wire in (0..count - 1).rev() {
+            self.put(kinds::LABEL, first + wire);
+            self.put(kinds::PAIR, 0);
+        }
     }
 
     /// One node more in front of those still to be walked.
@@ -196,7 +203,7 @@ impl Machine<'_> {
         let first = usize::from(closed.first);
         for row in &memory.shut[first..first + usize::from(closed.gates)] {
             let gate = &GATE_TABLE[usize::from(row.gate)];
-            let mut takes = [u16::MAX; 3];
+            let mut takes = [NO_WIRE; SLOTS];
             for (new, &old) in takes.iter_mut().zip(&row.takes[..gate.takes.len()]) {
                 *new = rename(old);
             }

@@ -3,6 +3,9 @@
 use crate::trees::{Type, Wire};
 use std::rc::Rc;
 
+/// The most gates of a run, and so of a listing.
+pub const MOST_GATES: usize = 2_048;
+
 /// A gate: its name, the wires it takes and the wires it makes.
 #[derive(Clone, Copy, PartialEq, Eq, Debug)]
 pub struct Gate {
@@ -15,6 +18,7 @@ const NONE: &[Wire] = &[];
 const BIT: &[Wire] = &[Wire::Bit];
 const ONE: &[Wire] = &[Wire::Qubit];
 const TWO: &[Wire] = &[Wire::Qubit, Wire::Qubit];
+const THREE: &[Wire] = &[Wire::Qubit, Wire::Qubit, Wire::Qubit];
 const UNDER: &[Wire] = &[Wire::Bit, Wire::Qubit];
 
 const fn gate(name: &'static str, takes: &'static [Wire], makes: &'static [Wire]) -> Gate {
@@ -22,7 +26,7 @@ const fn gate(name: &'static str, takes: &'static [Wire], makes: &'static [Wire]
 }
 
 /// A gate's number is its place here.
-pub const GATES: [Gate; 11] = [
+pub const GATES: [Gate; 12] = [
     gate("H", ONE, ONE),
     gate("X", ONE, ONE),
     gate("Z", ONE, ONE),
@@ -34,6 +38,7 @@ pub const GATES: [Gate; 11] = [
     gate("BZ", UNDER, UNDER),
     gate("Init", NONE, ONE),
     gate("Discard", BIT, NONE),
+    gate("CCX", THREE, THREE),
 ];
 
 impl Gate {
@@ -51,12 +56,11 @@ impl Gate {
     }
 }
 
-/// The type of no wire, that of one, or the pair of two.
+/// The type of no wire, that of one, or the pairs of more, nested to the right.
 fn wires_type(wires: &[Wire]) -> Rc<Type> {
     match wires {
         [] => Rc::new(Type::Unit),
         [one] => one.as_type(),
-        [first, second] => Rc::new(Type::Pair(first.as_type(), second.as_type())),
-        _ => unreachable!("a gate has at most two wires on each side"),
+        [first, others @ ..] => Rc::new(Type::Pair(first.as_type(), wires_type(others))),
     }
 }

@@ -30,6 +30,7 @@ const MEAS: usize = 6;
 const BX: usize = 7;
 const INIT: usize = 9;
 const DISCARD: usize = 10;
+const CCX: usize = 11;
 
 /// A program of the plan and its type, a wire type. Wires that come several times
 /// can make a type too large: then another is made.
@@ -320,9 +321,12 @@ impl Builder<'_> {
         Some((term, pair(unit(), Wire::Qubit.as_type())))
     }
 
-    /// A wire type with some of the wires in hand, or one that a circuit or a
-    /// function in hand takes.
+    /// A wire type with some of the wires in hand, one that a circuit or a function in
+    /// hand takes, or one with the wires for CCX.
     fn some_type(&mut self, hand: &Hand) -> Rc<Type> {
+        if self.random.one_in(5) {
+            return self.type_of(GATES[CCX].takes);
+        }
         let taken: Vec<Rc<Type>> = hand.held.iter().filter_map(taken_by).collect();
         if !taken.is_empty() && self.random.one_in(2) {
             return taken[self.random.below(taken.len())].clone();
@@ -341,8 +345,12 @@ impl Builder<'_> {
         self.type_of(&some)
     }
 
+    /// A gate, more often than others the one that needs three wires in hand.
     fn gate(&mut self, hand: &mut Hand) -> Option<Made> {
-        let number = self.random.below(GATES.len());
+        let number = match self.random.below(6) {
+            0 => CCX,
+            _ => self.random.below(GATES.len()),
+        };
         if GATES[number].is_helper() && !self.plan.helpers {
             return None;
         }

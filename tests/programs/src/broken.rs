@@ -12,6 +12,9 @@ use program_files::entries::MOST_TERMS;
 use program_files::{kinds, Program, Random, Term, Type, GATES};
 use std::rc::Rc;
 
+/// The number of the gate.
+const MEAS: usize = 6;
+
 /// What is broken.
 #[derive(Clone, Copy, PartialEq, Eq, Hash, Debug)]
 pub enum Way {
@@ -29,6 +32,8 @@ pub enum Way {
     WrongArgument,
     NoFunction,
     WrongWires,
+    WrongNesting,
+    MeasuredWire,
     NoCircuit,
     ApplicationForApply,
     NoPair,
@@ -46,7 +51,7 @@ pub enum Way {
     PartsSwapped,
 }
 
-pub const WAYS: [(Way, &str); 29] = [
+pub const WAYS: [(Way, &str); 31] = [
     (
         Way::VariableInBothParts,
         "a linear variable used in both parts",
@@ -64,6 +69,8 @@ pub const WAYS: [(Way, &str); 29] = [
     (Way::WrongArgument, "an application to another type"),
     (Way::NoFunction, "an application of no function"),
     (Way::WrongWires, "an apply to another type"),
+    (Way::WrongNesting, "an apply to pairs nested the other way"),
+    (Way::MeasuredWire, "an apply to a measured wire"),
     (Way::NoCircuit, "an apply of no circuit"),
     (
         Way::ApplicationForApply,
@@ -92,6 +99,8 @@ impl Way {
             Way::WrongArgument
             | Way::NoFunction
             | Way::WrongWires
+            | Way::WrongNesting
+            | Way::MeasuredWire
             | Way::NoCircuit
             | Way::ApplicationForApply
             | Way::NoPair
@@ -158,6 +167,29 @@ fn with_itself(part: &Rc<Term>) -> Rc<Term> {
     pair(part.clone(), part.clone())
 }
 
+/// A term of three parts, nested to the right, with the last of them outside. Where
+/// pairs are not written out, lets take them apart.
+fn nested_to_the_left(term: &Term) -> Rc<Term> {
+    if let Term::Pair(first, others) = term {
+        if let Term::Pair(second, third) = &**others {
+            return pair(pair(first.clone(), second.clone()), third.clone());
+        }
+    }
+    let result = pair(pair(variable(3), variable(1)), variable(0));
+    let_in(Rc::new(term.clone()), let_in(variable(0), result))
+}
+
+/// The same of one that is nested to the left.
+fn nested_to_the_right(term: &Term) -> Rc<Term> {
+    if let Term::Pair(others, third) = term {
+        if let Term::Pair(first, second) = &**others {
+            return pair(first.clone(), pair(second.clone(), third.clone()));
+        }
+    }
+    let result = pair(variable(1), pair(variable(0), variable(2)));
+    let_in(Rc::new(term.clone()), let_in(variable(1), result))
+}
+
 fn at_16(node: usize) -> Option<Expected> {
     Some(Expected::Refused(16, Spot::Node(node)))
 }
@@ -178,6 +210,8 @@ impl<'a> Breaking<'a> {
             Way::PartUnderLift => self.part_under_lift(),
             Way::WrongArgument => self.other_second(kinds::APPLICATION),
             Way::WrongWires => self.other_second(kinds::APPLY),
+            Way::WrongNesting => self.wrong_nesting(),
+            Way::MeasuredWire => self.measured_wire(),
             Way::NoFunction => self.other_first(kinds::APPLICATION),
             Way::NoCircuit => self.other_first(kinds::APPLY),
             Way::NoPair => self.other_first(kinds::LET),
@@ -455,6 +489,46 @@ impl<'a> Breaking<'a> {
         let second = self.survey.nodes[at + 1].end;
         let other = self.of_other_type(second)?;
         self.replace(second, other);
+        at_16(at)
+    }
+
+    /// The argument of an apply that has a pair inside a pair, nested to the other
+    /// side.
+    fn wrong_nesting(&mut self) -> Option<Expected> {
+        let at = self.some_of_kind(kinds::APPLY)?;
+        let argument = self.survey.nodes[at + 1].end;
+        let Type::Pair(first, second) = &**self.of(argument)? else {
+            return None;
+        };
+        let term = self.term(argument).clone();
+        let other = match (&**first, &**second) {
+            (_, Type::Pair(..)) => nested_to_the_left(&term),
+            (Type::Pair(..), _) => nested_to_the_right(&term),
+            _ => return None,
+        };
+        self.replace(argument, other);
+        at_16(at)
+    }
+
+    /// One of the Qubits that an apply takes is measured before.
+    fn measured_wire(&mut self) -> Option<Expected> {
+        let at = self.some_of_kind(kinds::APPLY)?;
+        // The parts of the argument that are no pairs.
+        let mut pairs = vec![self.survey.nodes[at + 1].end];
+        let mut parts = Vec::new();
+        while let Some(node) = pairs.pop() {
+            match **self.term(node) {
+                Term::Pair(..) => pairs.extend([self.survey.nodes[node + 1].end, node + 1]),
+                _ => parts.push(node),
+            }
+        }
+        parts.retain(|&node| self.of(node).is_some_and(|of| **of == Type::Qubit));
+        if parts.is_empty() {
+            return None;
+        }
+        let wire = self.random.pick(&parts);
+        let measured = apply(gate(MEAS), self.term(wire).clone());
+        self.replace(wire, measured);
         at_16(at)
     }
 

@@ -1,11 +1,14 @@
 //! Well-typed programs at the bounds: one way to nest, as far as it goes.
 
+use crate::nested::in_a_row;
 use crate::terms::{
     abstraction, application, apply, boxed, force, gate, label, let_in, lift, pair as pair_of,
     unit_value, variable,
 };
 use crate::typed::Typed;
-use crate::types::{circuit, function, pair, qubit, reusable, unit};
+use crate::types::{circuit, function, pair, qubit, qubits, reusable, unit};
+use program_files::entries::MOST_LABELS;
+use program_files::gates::MOST_GATES;
 use program_files::{Program, Term, Type, Wire};
 use std::rc::Rc;
 
@@ -13,6 +16,7 @@ const CNOT: usize = 5;
 const MEAS: usize = 6;
 const INIT: usize = 9;
 const DISCARD: usize = 10;
+const CCX: usize = 11;
 
 /// The type of gate 0.
 fn one_qubit() -> Rc<Type> {
@@ -137,19 +141,20 @@ pub fn functions_of_functions(terms: usize) -> Typed {
     typed(1, term, qubit())
 }
 
-/// A reusable function on Qubits that calls another twice, and has it once.
-pub fn twice(once: Rc<Term>) -> Rc<Term> {
+/// A reusable function from a type to itself that calls another twice, and has it
+/// once.
+pub fn twice(of: &Rc<Type>, once: Rc<Term>) -> Rc<Term> {
     let call = |argument| application(force(variable(0)), argument);
-    let over = reusable(function(qubit(), qubit()));
+    let over = reusable(function(of.clone(), of.clone()));
     let body = application(abstraction(over, call(call(variable(1)))), once);
-    lift(abstraction(qubit(), body))
+    lift(abstraction(of.clone(), body))
 }
 
 /// A function that does nothing, called twice by one that is called twice, and
 /// so on: many steps.
 pub fn calls(doublings: usize) -> Typed {
     let same = lift(abstraction(qubit(), variable(0)));
-    let function = levels(doublings, same, |once, _| twice(once));
+    let function = levels(doublings, same, |once, _| twice(&qubit(), once));
     typed(1, application(force(function), label(0)), qubit())
 }
 
@@ -218,19 +223,98 @@ pub fn pairs_used(terms: usize) -> Typed {
 
 /// All 64 labels through gates, in one tuple nested to the right.
 pub fn labels(terms: usize) -> Typed {
-    const LABELS: usize = 64;
-    let gates = terms.saturating_sub(2 * LABELS - 1) / 2;
+    let gates = terms.saturating_sub(2 * MOST_LABELS - 1) / 2;
     let wire = |number: usize| {
-        let count = gates / LABELS + usize::from(number < gates % LABELS);
+        let count = gates / MOST_LABELS + usize::from(number < gates % MOST_LABELS);
         levels(count, label(number), |inside, _| apply(gate(0), inside))
     };
-    let mut term = wire(LABELS - 1);
-    let mut of = qubit();
-    for number in (0..LABELS - 1).rev() {
-        term = pair_of(wire(number), term);
-        of = pair(qubit(), of);
+    let wires: Vec<Rc<Term>> = (0..MOST_LABELS).map(wire).collect();
+    typed(MOST_LABELS, in_a_row(&wires, pair_of), qubits(MOST_LABELS))
+}
+
+/// The first three labels.
+fn three_labels() -> Rc<Term> {
+    in_a_row(&[label(0), label(1), label(2)], pair_of)
+}
+
+/// CCX applied, one to the result of the other.
+pub fn applies_on_three(terms: usize) -> Typed {
+    let count = terms.saturating_sub(5) / 2;
+    let term = levels(count, three_labels(), |inside, _| apply(gate(CCX), inside));
+    typed(3, term, qubits(3))
+}
+
+/// The three results of CCX bound by two lets, and taken by the next one in another
+/// order.
+pub fn lets_on_three(terms: usize) -> Typed {
+    let count = terms.saturating_sub(5) / 10;
+    let all = |level: usize| match level {
+        0 => three_labels(),
+        _ => in_a_row(&[variable(0), variable(3), variable(1)], pair_of),
+    };
+    let term = levels(count, all(count), |inside, level| {
+        let made = apply(gate(CCX), all(count - 1 - level));
+        let_in(made, let_in(variable(0), inside))
+    });
+    typed(3, term, qubits(3))
+}
+
+/// A box at three Qubits whose function applies a box, and so on; the innermost one
+/// has a CCX.
+pub fn boxes_on_three(terms: usize) -> Typed {
+    let count = terms.saturating_sub(7) / 5;
+    let end = |level: usize| {
+        if level == 0 {
+            three_labels()
+        } else {
+            variable(0)
+        }
+    };
+    let inside = apply(gate(CCX), end(count));
+    let term = levels(count, inside, |inside, level| {
+        let function = lift(abstraction(qubits(3), inside));
+        apply(boxed(qubits(3), function), end(count - 1 - level))
+    });
+    typed(3, term, qubits(3))
+}
+
+/// Three wires through so many CCX, by functions that call the one inside them twice.
+fn through_ccx(count: usize, wires: Rc<Term>) -> Rc<Term> {
+    let of = qubits(3);
+    let mut function = lift(abstraction(of.clone(), apply(gate(CCX), variable(0))));
+    let mut term = wires;
+    let mut left = count;
+    while left > 0 {
+        if left % 2 == 1 {
+            term = application(force(function.clone()), term);
+        }
+        function = twice(&of, function);
+        left /= 2;
     }
-    typed(LABELS, term, of)
+    term
+}
+
+/// As many labels as there can be, three of them through CCX, with some Qubits from
+/// Init among the outputs, and as many gates as there can be. All gates are in the
+/// one open circuit.
+fn most_gates(inits: usize) -> Typed {
+    let gates = through_ccx(MOST_GATES - inits, three_labels());
+    let mut wires = vec![variable(3), variable(1), variable(0)];
+    wires.extend((3..MOST_LABELS).map(label));
+    wires.resize(MOST_LABELS + inits, apply(gate(INIT), unit_value()));
+    let of = qubits(wires.len());
+    let result = in_a_row(&wires, pair_of);
+    typed(MOST_LABELS, let_in(gates, let_in(variable(0), result)), of)
+}
+
+/// As many wires as a run can make.
+pub fn most_wires() -> Typed {
+    most_gates(0)
+}
+
+/// The longest listing that a run can write.
+pub fn longest_listing() -> Typed {
+    most_gates(MOST_LEAVES - MOST_LABELS)
 }
 
 /// A Qubit that comes, is measured and goes.
@@ -317,14 +401,13 @@ pub fn some_outputs() -> Typed {
 
 /// All 64 labels are Bits that go, and for each of them a Qubit comes.
 fn in_place_of_bits() -> Typed {
-    const LABELS: usize = 64;
     let wire = |number: usize| apply(gate(INIT), apply(gate(DISCARD), label(number)));
     let (mut term, mut of) = (wire(0), qubit());
-    for number in 1..LABELS {
+    for number in 1..MOST_LABELS {
         (term, of) = (pair_of(term, wire(number)), pair(of, qubit()));
     }
     Typed {
-        program: Program::new(vec![Wire::Bit; LABELS], term),
+        program: Program::new(vec![Wire::Bit; MOST_LABELS], term),
         of,
     }
 }
@@ -351,6 +434,9 @@ pub fn all(terms: usize) -> Vec<(&'static str, Typed)> {
         ("Qubits that come and go", helpers(terms)),
         ("boxes at unit inside boxes", boxes_at_unit(terms)),
         ("units bound", binders_of_units(terms)),
+        ("CCX applied to CCX", applies_on_three(terms)),
+        ("CCX in lets", lets_on_three(terms)),
+        ("boxes at three Qubits inside boxes", boxes_on_three(terms)),
     ]
 }
 
@@ -415,6 +501,7 @@ pub fn at_the_type_bound() -> Vec<(&'static str, Typed)> {
             "a box to 255 leaves, some of them units",
             widest_box(|at| at % 3 == 1),
         ),
+        ("the longest listing", longest_listing()),
     ]
 }
 

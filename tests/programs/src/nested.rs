@@ -33,6 +33,13 @@ impl Side {
     }
 }
 
+/// These in pairs nested to the right.
+pub fn in_a_row<T: Clone>(parts: &[T], pair: fn(T, T) -> T) -> T {
+    let (last, others) = parts.split_last().expect("at least one");
+    let others = others.iter().rev();
+    others.fold(last.clone(), |rest, part| pair(part.clone(), rest))
+}
+
 /// From a pair to a part of it.
 pub type Way = Vec<Side>;
 

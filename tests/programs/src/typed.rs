@@ -14,6 +14,9 @@ use program_files::{Lean, Program, Random, Term, Type, Wire, GATES};
 use std::collections::HashSet;
 use std::rc::Rc;
 
+/// The number of the gate.
+const CCX: usize = 11;
+
 /// How a term is made.
 #[derive(Clone, Copy, PartialEq, Eq, Debug)]
 pub enum Rule {
@@ -634,8 +637,12 @@ impl Generator<'_> {
         Some(terms::apply(head, argument))
     }
 
+    /// A gate, more often than others the one that needs three wires.
     fn gate(&mut self, sequent: &Sequent, size: usize) -> Option<Rc<Term>> {
-        let number = self.random.below(GATES.len());
+        let number = match self.random.below(5) {
+            0 => CCX,
+            _ => self.random.below(GATES.len()),
+        };
         let Type::Circuit(from, to) = &*GATES[number].circuit_type() else {
             unreachable!("a gate is a circuit");
         };

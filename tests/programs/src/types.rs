@@ -1,5 +1,6 @@
 //! Types from a seed.
 
+use crate::nested::in_a_row;
 use crate::rules::copyable;
 use program_files::{Random, Type, Wire};
 use std::rc::Rc;
@@ -20,6 +21,11 @@ pub fn shuffle<T>(random: &mut Random, list: &mut [T]) {
 
 pub fn qubit() -> Rc<Type> {
     Wire::Qubit.as_type()
+}
+
+/// So many Qubits, nested to the right.
+pub fn qubits(count: usize) -> Rc<Type> {
+    in_a_row(&vec![qubit(); count], pair)
 }
 
 pub fn unit() -> Rc<Type> {

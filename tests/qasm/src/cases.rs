@@ -1,5 +1,6 @@
 //! Listings written by hand with their texts, and texts that are refused.
 
+use crate::lengths::LONGEST_TEXT;
 use listings::cases::{crossed, helper, listing};
 use listings::sizes::{MOST_GATES, MOST_INPUTS};
 use listings::{Entry, Listing};
@@ -17,6 +18,7 @@ const BX: u8 = 7;
 const BZ: u8 = 8;
 const INIT: u8 = 9;
 const DISCARD: u8 = 10;
+const CCX: u8 = 11;
 
 /// A listing that is accepted, and its text.
 pub struct Exported {
@@ -58,40 +60,44 @@ fn measured() -> Exported {
     )
 }
 
-/// Every gate once, on three lines of which one is a Bit from the start.
+/// Every gate that has a line, on four lines of which one is a Bit from the start.
 fn all_gates() -> Exported {
-    let gates: [(u8, &[u16]); 10] = [
-        (H, &[2]),       // 3 on line 2
-        (CNOT, &[3, 0]), // 4 on line 2, 5 on line 0
-        (X, &[5]),       // 6 on line 0
-        (Z, &[4]),       // 7 on line 2
-        (S, &[6]),       // 8 on line 0
-        (T, &[7]),       // 9 on line 2
-        (BX, &[1, 9]),   // 10 on line 1, 11 on line 2
-        (MEASURE, &[8]), // 12 on line 0
-        (BZ, &[12, 11]), // 13 on line 0, 14 on line 2
-        (BX, &[10, 14]), // 15 on line 1, 16 on line 2
+    let gates: [(u8, &[u16]); 11] = [
+        (H, &[2]),          // 4 on line 2
+        (CNOT, &[4, 0]),    // 5 on line 2, 6 on line 0
+        (X, &[6]),          // 7 on line 0
+        (Z, &[5]),          // 8 on line 2
+        (S, &[7]),          // 9 on line 0
+        (T, &[8]),          // 10 on line 2
+        (CCX, &[3, 9, 10]), // 11 on line 3, 12 on line 0, 13 on line 2
+        (BX, &[1, 13]),     // 14 on line 1, 15 on line 2
+        (MEASURE, &[12]),   // 16 on line 0
+        (BZ, &[16, 15]),    // 17 on line 0, 18 on line 2
+        (BX, &[14, 18]),    // 19 on line 1, 20 on line 2
     ];
     exported(
         "every gate",
-        listing(&[Qubit, Bit, Qubit], &gates, &[16, 13, 15]),
+        listing(&[Qubit, Bit, Qubit, Qubit], &gates, &[20, 17, 19, 11]),
         &[
             "qreg q0[1];",
             "creg c0[1];",
             "creg c1[1];",
             "qreg q2[1];",
             "creg c2[1];",
+            "qreg q3[1];",
+            "creg c3[1];",
             "h q2[0];",
             "cx q2[0],q0[0];",
             "x q0[0];",
             "z q2[0];",
             "s q0[0];",
             "t q2[0];",
+            "ccx q3[0],q0[0],q2[0];",
             "if(c1==1) x q2[0];",
             "measure q0[0] -> c0[0];",
             "if(c0==1) z q2[0];",
             "if(c1==1) x q2[0];",
-            "// out q2 c0 c1",
+            "// out q2 c0 c1 q3",
         ],
     )
 }
@@ -100,8 +106,13 @@ fn all_gates() -> Exported {
 fn twelve_lines() -> Exported {
     let mut inputs = [Bit; 12];
     (inputs[9], inputs[10], inputs[11]) = (Qubit, Qubit, Qubit);
-    let gates: [(u8, &[u16]); 3] = [(CNOT, &[11, 9]), (MEASURE, &[10]), (BZ, &[14, 12])];
-    let outputs = [16, 15, 13, 0, 1, 2, 3, 4, 5, 6, 7, 8];
+    let gates: [(u8, &[u16]); 4] = [
+        (CCX, &[9, 10, 11]), // 12 on line 9, 13 on line 10, 14 on line 11
+        (CNOT, &[14, 12]),   // 15 on line 11, 16 on line 9
+        (MEASURE, &[13]),    // 17 on line 10
+        (BZ, &[17, 15]),     // 18 on line 10, 19 on line 11
+    ];
+    let outputs = [19, 18, 16, 0, 1, 2, 3, 4, 5, 6, 7, 8];
     exported(
         "lines of two digits",
         listing(&inputs, &gates, &outputs),
@@ -121,6 +132,7 @@ fn twelve_lines() -> Exported {
             "creg c10[1];",
             "qreg q11[1];",
             "creg c11[1];",
+            "ccx q9[0],q10[0],q11[0];",
             "cx q11[0],q9[0];",
             "measure q10[0] -> c10[0];",
             "if(c10==1) z q11[0];",
@@ -133,6 +145,10 @@ fn twelve_lines() -> Exported {
 pub fn exports() -> Vec<Exported> {
     let one = ["qreg q0[1];", "creg c0[1];"];
     let two = [one[0], one[1], "qreg q1[1];", "creg c1[1];"];
+    let three = |gates: &[&'static str], outputs| {
+        let third = ["qreg q2[1];", "creg c2[1];"];
+        [&two[..], &third, gates, &[outputs]].concat()
+    };
     let mut all = vec![
         measured(),
         all_gates(),
@@ -205,6 +221,28 @@ pub fn exports() -> Vec<Exported> {
             "// out c2 q1 q0",
         ],
     ));
+    all.push(exported(
+        "CCX",
+        listing(&[Qubit; 3], &[(CCX, &[0, 1, 2])], &[3, 4, 5]),
+        &three(&["ccx q0[0],q1[0],q2[0];"], "// out q0 q1 q2"),
+    ));
+    all.push(exported(
+        "CCX of the last wire and the first two",
+        listing(&[Qubit; 3], &[(CCX, &[2, 0, 1])], &[3, 4, 5]),
+        &three(&["ccx q2[0],q0[0],q1[0];"], "// out q2 q0 q1"),
+    ));
+    all.push(exported(
+        "two CCX, the second on crossed registers",
+        listing(
+            &[Qubit; 3],
+            &[(CCX, &[0, 1, 2]), (CCX, &[5, 3, 4])],
+            &[6, 7, 8],
+        ),
+        &three(
+            &["ccx q0[0],q1[0],q2[0];", "ccx q2[0],q0[0],q1[0];"],
+            "// out q2 q0 q1",
+        ),
+    ));
     all
 }
 
@@ -250,35 +288,59 @@ pub fn wordless() -> Vec<Wordless> {
     all.into_iter().map(case).collect()
 }
 
-/// The longest text that a listing has: all Qubits but the last are measured,
-/// and under the bit of the last of those are as many gates as there can be.
-pub fn longest() -> Listing {
+/// As many gates as there can be: all Qubits but the last are measured, and under the
+/// bit of the last of those are all other gates.
+pub fn under_a_bit() -> Listing {
     let inputs = MOST_INPUTS as u16;
-    let mut longest = listing(&[Qubit; MOST_INPUTS], &[], &[]);
+    let mut all = listing(&[Qubit; MOST_INPUTS], &[], &[]);
     for wire in 0..inputs - 1 {
-        longest.gates.push(Entry::gate(MEASURE, &[wire]));
+        all.gates.push(Entry::gate(MEASURE, &[wire]));
     }
     let (mut bit, mut qubit) = (2 * inputs - 2, inputs - 1);
-    for number in longest.gates.len() as u16..MOST_GATES as u16 {
-        longest.gates.push(Entry::gate(BX, &[bit, qubit]));
+    for number in all.gates.len() as u16..MOST_GATES as u16 {
+        all.gates.push(Entry::gate(BX, &[bit, qubit]));
         bit = 2 * inputs - 1 + 2 * (number - (inputs - 1));
         qubit = bit + 1;
     }
-    longest.outputs = (inputs..2 * inputs - 2).chain([bit, qubit]).collect();
-    longest
+    all.outputs = (inputs..2 * inputs - 2).chain([bit, qubit]).collect();
+    all
 }
 
 /// The length of its text.
-pub const LONGEST: usize = 45_236;
+pub const UNDER_A_BIT: usize = 45_236;
+
+/// The longest text that a listing has: as many CCX as there can be, on lines of two
+/// digits.
+pub fn longest() -> Listing {
+    let inputs = MOST_INPUTS as u16;
+    let mut longest = listing(&[Qubit; MOST_INPUTS], &[], &[]);
+    let mut wires = [inputs - 1, inputs - 2, inputs - 3];
+    for number in 0..MOST_GATES as u16 {
+        longest.gates.push(Entry::gate(CCX, &wires));
+        let first = inputs + 3 * number;
+        wires = [first + 1, first + 2, first];
+    }
+    longest.outputs = (0..inputs - 3).chain(wires).collect();
+    longest
+}
+
+/// The length of its text: of the ten lines of one digit the names of two registers and
+/// the output are shorter by one than those for which there must be room.
+pub const LONGEST: usize = LONGEST_TEXT - 3 * 10;
 
 /// So many lines that are Qubits and pass, so many gates on the first, and so
 /// many lines among the outputs.
 pub fn many(lines: usize, gates: usize, outputs: usize) -> Vec<u8> {
+    many_of("h q0[0];\n", lines, gates, outputs)
+}
+
+/// The same with the line of another gate.
+pub fn many_of(gate: &str, lines: usize, gates: usize, outputs: usize) -> Vec<u8> {
     let mut text = HEAD.to_string();
     for line in 0..lines {
         text += &format!("qreg q{line}[1];\ncreg c{line}[1];\n");
     }
-    text += &"h q0[0];\n".repeat(gates);
+    text += &gate.repeat(gates);
     text += "// out";
     for line in 0..outputs {
         text += &format!(" q{line}");
@@ -376,9 +438,55 @@ const CHANGES: [(&str, &str); 71] = [
     ("// out q0 c1\n", "// out q0 c1"),
 ];
 
+/// What in the place of the line of CCX, on three Qubits, is refused.
+const NO_CCX: [&str; 40] = [
+    "ccx q0[0],q1[0];",
+    "ccx q0[0];",
+    "ccx ;",
+    "ccx q0[0],q1[0],q2[0],q0[0];",
+    "ccx q0[0],q1[0],q2[0],q3[0];",
+    "ccx q0[0],q1[0],q1[0];",
+    "ccx q0[0],q1[0],q0[0];",
+    "ccx q0[0],q0[0],q2[0];",
+    "ccx q0[0],q0[0],q0[0];",
+    "ccx q0[0],q1[0],q3[0];",
+    "ccx q0[0],q3[0],q2[0];",
+    "ccx q3[0],q1[0],q2[0];",
+    "ccx q0[0],q1[0],q64[0];",
+    "ccx q0[0],q1[0],c2[0];",
+    "ccx q0[0],c1[0],q2[0];",
+    "ccx q0[0],q1[0],q02[0];",
+    "ccx q0[0],q1[0],q2[1];",
+    "ccx q0[0],q1[1],q2[0];",
+    "ccx q0[0],q1[0],q2;",
+    "ccx q0,q1,q2;",
+    "ccx q0[0],q1[0],q2[0]",
+    "ccx q0[0],q1[0],,q2[0];",
+    "ccx q0[0],q1[0],q2[0],;",
+    "ccx q0[0] q1[0] q2[0];",
+    "ccx q0[0], q1[0],q2[0];",
+    "ccx q0[0],q1[0], q2[0];",
+    "ccx q0[0],q1[0] ,q2[0];",
+    "ccx  q0[0],q1[0],q2[0];",
+    "ccx q0[0],q1[0],q2[0] ;",
+    "ccx\tq0[0],q1[0],q2[0];",
+    "ccxq0[0],q1[0],q2[0];",
+    "cx q0[0],q1[0],q2[0];",
+    "cccx q0[0],q1[0],q2[0];",
+    "CCX q0[0],q1[0],q2[0];",
+    "Ccx q0[0],q1[0],q2[0];",
+    "ccz q0[0],q1[0],q2[0];",
+    "cswap q0[0],q1[0],q2[0];",
+    "toffoli q0[0],q1[0],q2[0];",
+    "if(c0==1) ccx q0[0],q1[0],q2[0];",
+    "measure q2[0] -> c2[0];\nccx q0[0],q1[0],q2[0];",
+];
+
 /// The table of texts that are refused.
 pub fn texts() -> Vec<Refused> {
     let text = measured().text;
+    let ccx = "ccx q0[0],q1[0],q2[0];\n";
+    let three = String::from_utf8(many_of(ccx, 3, 1, 3)).expect("a text");
     let mut all = vec![
         refused("no byte", ""),
         refused("one line end", "\n"),
@@ -406,6 +514,14 @@ pub fn texts() -> Vec<Refused> {
         let name = format!("{new:?} for {old:?}");
         all.push(refused(name, text.replace(old, new)));
     }
+    for line in NO_CCX {
+        let name = format!("{line:?} for the line of CCX");
+        all.push(refused(name, three.replace(ccx, &format!("{line}\n"))));
+    }
+    for (old, new) in [(" q2\n", "\n"), (" q2\n", " c2\n"), (" q2\n", " q2 q2\n")] {
+        let name = format!("CCX, and {new:?} for {old:?} at the end");
+        all.push(refused(name, three.replace(old, new)));
+    }
     all
 }
 
@@ -414,7 +530,7 @@ const TWO: &str = "qreg q0[1];\ncreg c0[1];\nqreg q1[1];\ncreg c1[1];\n";
 
 /// Statements behind these that the language's grammar, its scopes or its types
 /// do not allow.
-const NOT_ALLOWED: [&str; 36] = [
+const NOT_ALLOWED: [&str; 42] = [
     "h q2[0];",
     "h q0[1];",
     "h q0[00];",
@@ -431,6 +547,12 @@ const NOT_ALLOWED: [&str; 36] = [
     "cx q0[0],q0[0];",
     "cx q0[0] q1[0];",
     "cx q0[0],c1[0];",
+    "ccx q0[0],q1[0];",
+    "ccx q0[0],q1[0],q0[0];",
+    "ccx q0[0],q1[0],q1[0];",
+    "ccx q0[0],q1[0],q2[0];",
+    "ccx q0[0],q1[0],c1[0];",
+    "creg ccx[1];",
     "qreg q0[1];",
     "creg q0[1];",
     "creg h[1];",
@@ -466,7 +588,9 @@ pub fn wrong_programs() -> Vec<String> {
 
 /// A program in two layouts, which mean the same.
 pub fn same_programs() -> [String; 2] {
-    let plain = "cx q0[0],q1[0];\nmeasure q0[0] -> c0[0];\nif(c0==1) x q1[0];\n";
-    let other = "// a CNOT\r\ncx q0 [ 0 ] ,q1;measure q0->c0 ;\tif ( c0 == 1 )\nx // an X\nq1[0] ;";
+    let plain = "qreg q2[1];\nccx q0[0],q1[0],q2[0];\n\
+                 cx q0[0],q1[0];\nmeasure q0[0] -> c0[0];\nif(c0==1) x q1[0];\n";
+    let other = "qreg q2 [1] ;ccx q0\n, q1[ 0 ],q2 ; // a CNOT\r\n\
+                 cx q0 [ 0 ] ,q1;measure q0->c0 ;\tif ( c0 == 1 )\nx // an X\nq1[0] ;";
     [plain, other].map(|statements| format!("{HEAD}{TWO}{statements}"))
 }

@@ -9,7 +9,7 @@ type Taker<'a> = &'a mut dyn FnMut(&[u8]);
 pub type Damage = fn(&[u8], Taker);
 
 /// The kinds, by what is done.
-pub const KINDS: [(&str, Damage); 8] = [
+pub const KINDS: [(&str, Damage); 9] = [
     ("with a byte changed to every value", changed),
     (
         "with a byte or an index left out, a byte doubled, or two exchanged",
@@ -20,6 +20,7 @@ pub const KINDS: [(&str, Damage); 8] = [
     ("with lines left out, doubled, exchanged or moved", lines),
     ("with other spaces and line ends", spaces),
     ("with other numbers", numbers),
+    ("with other gates and other registers of a gate", gates),
     ("with bytes before or behind", around),
 ];
 
@@ -181,6 +182,62 @@ fn numbers(text: &[u8], take: Taker) {
     }
 }
 
+/// The names of gates, and some that look alike.
+const GATES: [&[u8]; 13] = [
+    b"h", b"x", b"z", b"s", b"t", b"cx", b"ccx", b"cccx", b"CX", b"CCX", b"ccz", b"cswap", b"c",
+];
+
+/// The name and the registers of a gate that is on qubits alone.
+fn registers(line: &[u8]) -> Option<(&[u8], Vec<&[u8]>)> {
+    let line = line.strip_suffix(b";\n")?;
+    let space = line.iter().position(|&byte| byte == b' ')?;
+    let (name, registers) = (&line[..space], &line[space + 1..]);
+    let registers = registers.split(|&byte| byte == b',').collect();
+    GATES.contains(&name).then_some((name, registers))
+}
+
+/// The line of a gate with another name, with a register left out or put in, with two
+/// exchanged, or with one for another.
+fn other_gates(name: &[u8], registers: &[&[u8]]) -> Vec<Vec<u8>> {
+    let written = |name: &[u8], registers: &[&[u8]]| {
+        [name, b" ", &registers.join(&b","[..]), b";\n"].concat()
+    };
+    let mut all: Vec<Vec<u8>> = GATES.iter().map(|name| written(name, registers)).collect();
+    for at in 0..registers.len() {
+        let mut fewer = registers.to_vec();
+        fewer.remove(at);
+        all.push(written(name, &fewer));
+        for other in 0..registers.len() {
+            let mut exchanged = registers.to_vec();
+            exchanged.swap(at, other);
+            all.push(written(name, &exchanged));
+            let mut same = registers.to_vec();
+            same[at] = registers[other];
+            all.push(written(name, &same));
+            let mut more = registers.to_vec();
+            more.insert(other, registers[at]);
+            all.push(written(name, &more));
+        }
+        let more = [registers, &[registers[at]]].concat();
+        all.push(written(name, &more));
+    }
+    all
+}
+
+fn gates(text: &[u8], take: Taker) {
+    let lines: Vec<&[u8]> = text.split_inclusive(|&byte| byte == b'\n').collect();
+    for at in 0..lines.len() {
+        let Some((name, registers)) = registers(lines[at]) else {
+            continue;
+        };
+        for other in other_gates(name, &registers) {
+            let mut changed = lines.clone();
+            changed[at] = &other;
+            take(&changed.concat());
+        }
+    }
+}
+
 /// What stands before a text or behind it.
 const AROUND: [&[u8]; 12] = [
     b"\n",
@@ -221,7 +278,7 @@ fn one(random: &mut Random, text: &[u8]) -> Vec<u8> {
     }
     let at = random.below(text.len());
     let (from, to) = random.pick(&places);
-    match random.below(8) {
+    match random.below(9) {
         0 => with(text, at, at + 1, &[random.byte()]),
         1 => with(text, at, at + 1, b""),
         2 => with(text, at, at, &[random.pick(BYTES)]),
@@ -241,6 +298,17 @@ fn one(random: &mut Random, text: &[u8]) -> Vec<u8> {
             with(text, from, to, &text[other..end])
         }
         6 => with(text, from, from, b"0"),
+        7 => {
+            let mut lines: Vec<&[u8]> = text.split_inclusive(|&byte| byte == b'\n').collect();
+            let at = random.below(lines.len());
+            let others = registers(lines[at]).map_or(Vec::new(), |(name, registers)| {
+                other_gates(name, &registers)
+            });
+            if !others.is_empty() {
+                lines[at] = &others[random.below(others.len())];
+            }
+            lines.concat()
+        }
         _ => {
             let letters = (0..text.len()).filter(|&at| b"qchxzst".contains(&text[at]));
             let letters: Vec<usize> = letters.collect();

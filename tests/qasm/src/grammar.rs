@@ -54,7 +54,15 @@ pub enum Action {
 }
 
 /// The gates of qelib1.inc that are used, and on how many qubits each is.
-const LIBRARY: [(&str, usize); 6] = [("h", 1), ("x", 1), ("z", 1), ("s", 1), ("t", 1), ("cx", 2)];
+const LIBRARY: [(&str, usize); 7] = [
+    ("h", 1),
+    ("x", 1),
+    ("z", 1),
+    ("s", 1),
+    ("t", 1),
+    ("cx", 2),
+    ("ccx", 3),
+];
 
 /// Names that no register can have, those of the gates beside.
 const KEYWORDS: [&str; 16] = [

@@ -28,6 +28,48 @@ fn gates() -> Vec<String> {
     gates
 }
 
+/// CCX on all lines below this number.
+fn on_three(lines: usize) -> Vec<String> {
+    let all = (0..lines.pow(3)).map(|number| {
+        let [a, b, c] = [lines * lines, lines, 1].map(|weight| number / weight % lines);
+        format!("ccx q{a}[0],q{b}[0],q{c}[0];\n")
+    });
+    all.collect()
+}
+
+/// All texts of three inputs with CCX on lines below four, or with CCX on lines below
+/// three and another gate before it or behind, and with some outputs.
+pub fn three(mut take: impl FnMut(&[u8])) {
+    let mut bodies = on_three(4);
+    for ccx in on_three(3) {
+        for other in gates().into_iter().chain(on_three(3)) {
+            bodies.push(format!("{ccx}{other}"));
+            bodies.push(format!("{other}{ccx}"));
+        }
+    }
+    let outputs = [
+        " q0 q1 q2",
+        " q2 q0 q1",
+        " c0 q1 q2",
+        " q0 c1 q2",
+        " q0 q1 c2",
+        " q0 q1",
+    ];
+    for types in 0..8 {
+        let of = |line: usize| match types >> line & 1 {
+            0 => Qubit,
+            _ => Bit,
+        };
+        let declared: String = (0..3).map(|line| declaration(line, of(line))).collect();
+        for body in &bodies {
+            for named in outputs {
+                let text = format!("{HEAD}{declared}{body}// out{named}\n");
+                take(text.as_bytes());
+            }
+        }
+    }
+}
+
 /// All texts of at most two inputs, so many gates and at most two outputs.
 pub fn small(most: usize, mut take: impl FnMut(&[u8])) {
     let inputs: [&[Wire]; 7] = [
@@ -104,17 +146,18 @@ pub fn any(random: &mut Random) -> Vec<u8> {
 
 /// A gate on lines that mostly have its types, or now and then a declaration.
 fn gate(random: &mut Random, lines: &mut Vec<Wire>) -> String {
-    let mut pick = |needs: Wire, but: Option<usize>| {
-        let right = |&line: &usize| lines[line] == needs && Some(line) != but;
+    let mut pick = |needs: Wire, but: &[usize]| {
+        let right = |line: &usize| lines[*line] == needs && !but.contains(line);
         let right: Vec<usize> = (0..lines.len()).filter(right).collect();
         match right.is_empty() || random.one_in(60) {
             true => random.below(lines.len() + 1),
             false => random.pick(&right),
         }
     };
-    let (qubit, bit) = (pick(Qubit, None), pick(Bit, None));
-    let other = pick(Qubit, Some(qubit));
-    match random.below(16) {
+    let (qubit, bit) = (pick(Qubit, &[]), pick(Bit, &[]));
+    let other = pick(Qubit, &[qubit]);
+    let third = pick(Qubit, &[qubit, other]);
+    match random.below(20) {
         0..=6 => format!("{} q{qubit}[0];\n", char::from(random.pick(b"hxzst"))),
         7..=10 => format!("cx q{qubit}[0],q{other}[0];\n"),
         11..=13 => format!(
@@ -127,6 +170,7 @@ fn gate(random: &mut Random, lines: &mut Vec<Wire>) -> String {
             }
             format!("measure q{qubit}[0] -> c{qubit}[0];\n")
         }
+        15..=18 => format!("ccx q{qubit}[0],q{other}[0],q{third}[0];\n"),
         _ if random.one_in(8) => format!("measure q{qubit}[0] -> c{bit}[0];\n"),
         _ if random.one_in(8) => {
             lines.push(Bit);

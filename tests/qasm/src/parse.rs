@@ -120,10 +120,20 @@ fn gate(line: &[u8]) -> Option<(u8, Vec<usize>)> {
         let (control, target) = parted(line, b"[0],q")?;
         return Some((5, vec![control, target]));
     }
+    if let Some(line) = line.strip_prefix(b"ccx q") {
+        return on_three(line);
+    }
     let (&name, line) = line.split_first()?;
     let gate = b"hxzst".iter().position(|&other| other == name)?;
     let line = number(line.strip_prefix(b" q")?)?;
     Some((gate as u8, vec![line]))
+}
+
+/// The registers of CCX, without what stands around the first and the last.
+fn on_three(line: &[u8]) -> Option<(u8, Vec<usize>)> {
+    let (first, others) = split(line, b"[0],q")?;
+    let (second, third) = parted(others, b"[0],q")?;
+    Some((11, vec![number(first)?, second, third]))
 }
 
 /// What follows the bit's register.
@@ -135,11 +145,16 @@ fn conditional(line: &[u8]) -> Option<(u8, Vec<usize>)> {
 
 /// The numbers before and behind these bytes.
 fn parted(line: &[u8], between: &[u8]) -> Option<(usize, usize)> {
+    let (before, behind) = split(line, between)?;
+    Some((number(before)?, number(behind)?))
+}
+
+/// What stands before these bytes, where they come first, and what behind.
+fn split<'a>(line: &'a [u8], between: &[u8]) -> Option<(&'a [u8], &'a [u8])> {
     let at = line
         .windows(between.len())
         .position(|bytes| bytes == between)?;
-    let behind = &line[at + between.len()..];
-    Some((number(&line[..at])?, number(behind)?))
+    Some((&line[..at], &line[at + between.len()..]))
 }
 
 /// Decimal, without leading zeros. No line has more than two digits.

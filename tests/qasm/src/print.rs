@@ -56,6 +56,7 @@ fn gate_line(name: &str, lines: &[usize]) -> String {
         ("Meas", [a]) => format!("measure q{a}[0] -> c{a}[0];\n"),
         ("BX", [a, b]) => format!("if(c{a}==1) x q{b}[0];\n"),
         ("BZ", [a, b]) => format!("if(c{a}==1) z q{b}[0];\n"),
+        ("CCX", [a, b, c]) => format!("ccx q{a}[0],q{b}[0],q{c}[0];\n"),
         _ => panic!("no line for {name} on {lines:?}"),
     }
 }

@@ -89,9 +89,11 @@ impl<N: Ord + Clone> State<N> {
         });
     }
 
-    fn cnot(&mut self, control: &N, target: &N) {
+    /// An X on a qubit where all of the others are 1.
+    fn controlled(&mut self, controls: &[&N], target: &N) {
         self.change(|(measured, mut values)| {
-            let value = values[target] != values[control];
+            let flips = controls.iter().all(|&control| values[control]);
+            let value = values[target] != flips;
             values.insert(target.clone(), value);
             vec![((measured, values), ONE)]
         });
@@ -204,10 +206,13 @@ fn of_text(program: &Program, listing: &Listing, inputs: &[bool]) -> State<Strin
         let under = operation.condition.as_ref();
         let under = under.map(|of| (&of.register, of.value == 1));
         match &operation.action {
-            Action::Gate(_, qubits) if qubits.len() == 2 => {
-                state.cnot(name(&qubits[0]), name(&qubits[1]));
+            Action::Gate(gate, qubits) => {
+                let qubits: Vec<&String> = qubits.iter().map(name).collect();
+                match (gate.as_str(), &qubits[..]) {
+                    ("cx" | "ccx", [controls @ .., target]) => state.controlled(controls, target),
+                    (gate, qubits) => state.gate(gate, qubits[0], under),
+                }
             }
-            Action::Gate(gate, qubits) => state.gate(gate, name(&qubits[0]), under),
             Action::Measure(from, to) => state.measure(name(from), name(to)),
         }
     }
@@ -224,19 +229,20 @@ fn of_listing(listing: &Listing, inputs: &[bool]) -> State<u16> {
     let mut state = State::new((0..).zip(inputs.iter().copied()));
     let mut next = inputs.len() as u16;
     for gate in &listing.gates {
-        let [first, second] = gate.slots;
+        let [first, second, third] = gate.slots;
         match gate.kind {
             0..=4 => state.gate(
                 ["h", "x", "z", "s", "t"][usize::from(gate.kind)],
                 &first,
                 None,
             ),
-            5 => state.cnot(&first, &second),
+            5 => state.controlled(&[&first], &second),
             6 => state.measure(&first, &first),
             7 => state.gate("x", &second, Some((&first, true))),
             8 => state.gate("z", &second, Some((&first, true))),
             9 => {}
             10 => state.go(&first),
+            11 => state.controlled(&[&first, &second], &third),
             kind => panic!("no gate {kind}"),
         }
         let made = gate.as_gate().map_or(0, |gate| gate.makes.len());

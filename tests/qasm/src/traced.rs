@@ -44,6 +44,7 @@ fn program_of(listing: &Listing) -> Program {
             6 => (None, Action::Measure(qubit(0), element('c', line(0)))),
             7 => (Some(under(0)), named("x", vec![qubit(1)])),
             8 => (Some(under(0)), named("z", vec![qubit(1)])),
+            11 => (None, named("ccx", vec![qubit(0), qubit(1), qubit(2)])),
             kind => panic!("no gate {kind}"),
         };
         program.operations.push(Operation { condition, action });

@@ -25,12 +25,16 @@ const GATES: [usize; 4] = [MOST_GATES / 8, MOST_GATES / 4, MOST_GATES / 2, MOST_
 const H: u8 = 0;
 const CNOT: u8 = 5;
 const BX: u8 = 7;
+const CCX: u8 = 11;
 
 fn main() {
     println!("export and import under test: {NAME}");
     row("gates on one line", one_line);
     row("CNOTs on 64 lines", |gates| {
         of_shape(gates, vec![CNOT], Order::OldestFirst)
+    });
+    row("CCXs on 64 lines", |gates| {
+        of_shape(gates, vec![CCX], Order::OldestFirst)
     });
     row("gates under a Bit on 64 lines", |gates| {
         of_shape(gates, vec![BX], Order::Any)

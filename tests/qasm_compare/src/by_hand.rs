@@ -6,7 +6,8 @@ use comparing::Known;
 use example_programs::examples;
 use listings::{Listing, Sizes};
 use qasm::answer::first_helper;
-use qasm::cases::{exports, longest, same_programs, texts, wordless, wrong_programs, LONGEST};
+use qasm::cases::{exports, same_programs, texts, wordless, wrong_programs};
+use qasm::cases::{longest, under_a_bit, LONGEST, UNDER_A_BIT};
 use qasm::{grammar, parse};
 
 pub fn compare(comparison: &mut Comparison) {
@@ -41,8 +42,10 @@ pub fn compare(comparison: &mut Comparison) {
         assert_eq!(parse(&case.text), None, "{}", case.name);
         comparison.text(&case.text, &Known::Refused(27, 0));
     }
-    let text = comparison.accepted(&longest());
-    assert_eq!(text.len(), LONGEST, "the longest text");
+    for (listing, length) in [(longest(), LONGEST), (under_a_bit(), UNDER_A_BIT)] {
+        let text = comparison.accepted(&listing);
+        assert_eq!(text.len(), length, "the length of a long text");
+    }
     comparison.group("of the cases and examples that run");
     for program in programs::all() {
         for limit in LIMITS {

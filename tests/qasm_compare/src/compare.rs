@@ -40,8 +40,8 @@ pub struct Comparison {
     export: Lent<2>,
     import: Lent<5>,
     random: Random,
-    /// Faults in the printer and the parser, in the refusal of Init and Discard, and
-    /// in the use of memory.
+    /// Faults in the printer and the parser, in which gates have a text, and in the use
+    /// of memory.
     exports: Planted<Export>,
     printers: [Planted<Print>; 2],
     parsers: [Planted<Parse>; 2],
@@ -167,7 +167,7 @@ impl Comparison {
         }
         let number = answer.as_ref().err().map_or(0, |refusal| refusal.number);
         self.texts.count(text, number);
-        self.seen.imported(text);
+        self.seen.text(text, answer.is_ok());
         if let Ok(listing) = &answer {
             if qasm::export(listing).as_deref() != Ok(text) {
                 self.texts.differs(text, "the printer gives another text");

@@ -29,6 +29,9 @@ pub fn compare(comparison: &mut Comparison) {
         shape.bits = random.between(0, 1);
         texts.push(print(&valid(&mut random, &shape)));
     }
+    let mut shape = Shape::three_wires(&mut random, 4, 2).without_helpers();
+    (shape.inputs, shape.gates) = (4, 2);
+    texts.push(print(&valid(&mut random, &shape)));
     for (name, damage) in KINDS {
         comparison.texts_group(name);
         for text in &texts {
@@ -40,13 +43,18 @@ pub fn compare(comparison: &mut Comparison) {
     comparison.texts_group("with damage somewhere");
     for (count, inputs, gates) in SOMEWHERE {
         for _ in 0..count {
-            let shape = Shape::any(&mut random, inputs, gates).without_helpers();
-            let text = print(&valid(&mut random, &shape));
+            let shape = match random.below(4) {
+                0 => Shape::three_wires(&mut random, inputs, gates),
+                _ => Shape::any(&mut random, inputs, gates),
+            };
+            let text = print(&valid(&mut random, &shape.without_helpers()));
             comparison.text(&damaged::any(&mut random, &text), &Known::Nothing);
         }
     }
     comparison.texts_group("of few lines and at most two gates");
     loose::small(2, |text| comparison.text(text, &Known::Nothing));
+    comparison.texts_group("of three lines and CCX on any of them");
+    loose::three(|text| comparison.text(text, &Known::Nothing));
     comparison.texts_group("of gates on any lines");
     for _ in 0..60_000 {
         comparison.text(&loose::any(&mut random), &Known::Nothing);

@@ -1,5 +1,5 @@
-//! Exports with one fault each in what they do with Init and Discard. The
-//! comparison must tell every one of them from the export under test.
+//! Exports with one fault each in which gates have a text. The comparison must tell
+//! every one of them from the export under test.
 
 use listings::{Entry, Listing, Sizes};
 use program_files::{Refusal, Wire, GATES};
@@ -8,7 +8,7 @@ use qasm::{export, print};
 
 pub type Export = fn(&[u8]) -> Answer;
 
-pub const PLANTED: [(&str, Export); 11] = [
+pub const PLANTED: [(&str, Export); 13] = [
     ("28 at the number of the gate", |bytes| {
         at(bytes, |listing, place| place - listing.inputs.len())
     }),
@@ -40,10 +40,23 @@ pub const PLANTED: [(&str, Export); 11] = [
             _ => refusal,
         })
     }),
+    ("28 for CCX alone, too", |bytes| match export(bytes) {
+        Ok(_) if has(&parts(bytes), CCX) => refused_at_first(bytes, |entry| entry.kind == CCX),
+        answer => answer,
+    }),
+    ("28 at CCX before Init and Discard", |bytes| {
+        match export(bytes) {
+            Err(Refusal { number: 28, .. }) => {
+                refused_at_first(bytes, |entry| entry.kind == CCX || is_helper(entry))
+            }
+            answer => answer,
+        }
+    }),
 ];
 
 const INIT: u8 = 9;
 const DISCARD: u8 = 10;
+const CCX: u8 = 11;
 
 /// The parts of a listing whose sizes are right.
 fn parts(bytes: &[u8]) -> Listing {
@@ -78,21 +91,24 @@ fn at(bytes: &[u8], other: fn(&Listing, usize) -> usize) -> Answer {
 
 /// 28 for a listing that is to be refused with another number.
 fn before(bytes: &[u8], other: u8) -> Answer {
-    let answer = export(bytes);
-    match answer {
-        Err(Refusal { number, .. }) if number == other => {
-            let listing = parts(bytes);
-            let gate = listing.gates.iter().position(is_helper);
-            match gate {
-                Some(gate) => Err(Refusal {
-                    number: 28,
-                    place: listing.inputs.len() + gate,
-                }),
-                None => answer,
-            }
+    match export(bytes) {
+        Err(Refusal { number, .. })
+            if number == other && parts(bytes).gates.iter().any(is_helper) =>
+        {
+            refused_at_first(bytes, is_helper)
         }
-        _ => answer,
+        answer => answer,
     }
+}
+
+/// 28 at the first gate that is so.
+fn refused_at_first(bytes: &[u8], so: fn(&Entry) -> bool) -> Answer {
+    let listing = parts(bytes);
+    let gate = listing.gates.iter().position(so);
+    Err(Refusal {
+        number: 28,
+        place: listing.inputs.len() + gate.expect("such a gate"),
+    })
 }
 
 /// Some listings are exported as if Init were an input and Discard nothing.

@@ -25,6 +25,14 @@ const HELPERS: [(usize, usize, usize); 5] = [
     (20, 64, 2_048),
 ];
 
+/// The same of those with CCX, half of which have Init or Discard, too.
+const THREE_WIRES: [(usize, usize, usize); 4] = [
+    (6_000, 3, 3),
+    (4_000, 16, 40),
+    (100, 64, 400),
+    (20, 64, 2_048),
+];
+
 /// The same for each way to break them.
 const BROKEN: [(usize, usize, usize); 3] = [(600, 4, 6), (200, 16, 40), (10, 64, 2_048)];
 
@@ -45,6 +53,19 @@ pub fn compare(comparison: &mut Comparison) {
                 _ => Shape::any(&mut random, inputs, gates),
             };
             comparison.sound(&valid(&mut random, &shape));
+        }
+    }
+    comparison.group("generated, with CCX");
+    for (count, inputs, gates) in THREE_WIRES {
+        for round in 0..count {
+            let shape = Shape::three_wires(&mut random, inputs, gates);
+            comparison.sound(&valid(
+                &mut random,
+                &match round % 2 {
+                    0 => shape.without_helpers(),
+                    _ => shape,
+                },
+            ));
         }
     }
     comparison.group("generated, of one gate");
@@ -94,6 +115,16 @@ fn broken_ones(comparison: &mut Comparison, random: &mut Random) {
                 if let Some((listing, known)) = broken(random, &listing, way) {
                     comparison.listing(&listing.bytes(), &known);
                 }
+            }
+        }
+    }
+    comparison.group("with CCX, broken in one way");
+    for way in WAYS {
+        for _ in 0..300 {
+            let shape = Shape::three_wires(random, 6, 6);
+            let listing = valid(random, &shape);
+            if let Some((listing, known)) = broken(random, &listing, way) {
+                comparison.listing(&listing.bytes(), &known);
             }
         }
     }

@@ -5,7 +5,7 @@ use comparing::Known;
 use listings::generate::{valid, Shape};
 use listings::sizes::{MOST_GATES, MOST_INPUTS};
 use program_files::Random;
-use qasm::cases::{longest, many, HEAD};
+use qasm::cases::{longest, many, many_of, under_a_bit, HEAD};
 use qasm::lengths::LONGEST_TEXT;
 use qasm::print;
 
@@ -27,6 +27,19 @@ pub fn compare(comparison: &mut Comparison) {
                     comparison.text(&many(lines, gates, outputs), &known);
                 }
             }
+        }
+    }
+    comparison.texts_group("with so many CCX, around the limits");
+    for lines in [2, 3, 63, 64, 65] {
+        for gates in [0, 1, 2, 2_046, 2_047, 2_048, 2_049, 2_050, 4_096] {
+            let last = lines - 1;
+            let line = format!("ccx q{last}[0],q0[0],q1[0];\n");
+            let right = (3..=MOST_INPUTS).contains(&lines) && gates <= MOST_GATES;
+            let known = match right || (lines == 2 && gates == 0) {
+                true => Known::Accepted,
+                false => Known::Refused(27, 0),
+            };
+            comparison.text(&many_of(&line, lines, gates, lines), &known);
         }
     }
     comparison.texts_group("with bits around the limits");
@@ -53,7 +66,7 @@ pub fn compare(comparison: &mut Comparison) {
 /// As long as the longest that is read, and longer than that.
 fn long_ones(comparison: &mut Comparison, random: &mut Random) {
     comparison.group("that are long");
-    let longest = print(&longest());
+    let [longest, under_a_bit] = [longest(), under_a_bit()].map(|listing| print(&listing));
     let shape = Shape::most(random).without_helpers();
     let other = print(&valid(random, &shape));
     let refused = Known::Refused(27, 0);
@@ -70,7 +83,7 @@ fn long_ones(comparison: &mut Comparison, random: &mut Random) {
         200_000,
         262_000,
     ] {
-        for text in [&longest, &other, &many(1, 2, 1)] {
+        for text in [&longest, &under_a_bit, &other, &many(1, 2, 1)] {
             for byte in [0, b' ', b'\n', b'#'] {
                 let mut text = text.clone();
                 text.resize(length, byte);
@@ -91,7 +104,7 @@ fn long_ones(comparison: &mut Comparison, random: &mut Random) {
         comparison.text(&many(1, gates, 1), &refused);
     }
     // A text, and so many bytes that 16 bits hold its length.
-    for text in [&longest, &other, &many(1, 2, 1)] {
+    for text in [&longest, &under_a_bit, &other, &many(1, 2, 1)] {
         for more in [65_536, 131_072] {
             for byte in [0, b'\n'] {
                 let mut text = text.clone();
@@ -100,17 +113,19 @@ fn long_ones(comparison: &mut Comparison, random: &mut Random) {
             }
         }
     }
-    // Lines of the longest left out, and a byte of them changed.
-    let lines: Vec<&[u8]> = longest.split_inclusive(|&byte| byte == b'\n').collect();
-    for at in (0..lines.len()).step_by(7) {
-        let mut fewer = lines.clone();
-        fewer.remove(at);
-        comparison.text(&fewer.concat(), &Known::Nothing);
-        let mut line = lines[at].to_vec();
-        let place = random.below(line.len());
-        line[place] ^= 1 << random.below(8);
-        let mut changed = lines.clone();
-        changed[at] = &line;
-        comparison.text(&changed.concat(), &Known::Nothing);
+    // Lines of two long ones left out, and a byte of them changed.
+    for text in [&longest, &under_a_bit] {
+        let lines: Vec<&[u8]> = text.split_inclusive(|&byte| byte == b'\n').collect();
+        for at in (0..lines.len()).step_by(7) {
+            let mut fewer = lines.clone();
+            fewer.remove(at);
+            comparison.text(&fewer.concat(), &Known::Nothing);
+            let mut line = lines[at].to_vec();
+            let place = random.below(line.len());
+            line[place] ^= 1 << random.below(8);
+            let mut changed = lines.clone();
+            changed[at] = &line;
+            comparison.text(&changed.concat(), &Known::Nothing);
+        }
     }
 }

@@ -13,6 +13,7 @@ mod meaning;
 mod memory;
 mod seen;
 mod stack;
+mod three;
 
 use compare::Comparison;
 use comparing::process;

@@ -15,7 +15,7 @@ const GATES: usize = 12;
 const LEAST_FOUND: usize = 3;
 
 /// Faults of the printer whose texts have a meaning, but another one.
-const OTHER_MEANING: [&str; 19] = [
+const OTHER_MEANING: [&str; 28] = [
     "BX under a Bit that is 0",
     "BZ under a Bit that is 0",
     "BX on the Bit's line",
@@ -35,7 +35,19 @@ const OTHER_MEANING: [&str; 19] = [
     "outputs reversed",
     "outputs sorted",
     "every output a Bit",
+    "cx for CCX",
+    "the second and the third register of CCX exchanged",
+    "the first and the third register of CCX exchanged",
+    "the target of CCX first",
+    "the first register of CCX last",
+    "CCX as two CNOTs",
+    "CCX left out",
+    "the last two outputs of CCX on each other's lines",
+    "the third output of CCX on the second's line",
 ];
+
+/// The fault of the printer whose texts have the same meaning.
+const SAME_MEANING: &str = "the controls of CCX exchanged";
 
 /// Simulates the texts, which have been compared with those under test.
 pub fn compare() {
@@ -45,13 +57,20 @@ pub fn compare() {
     let meant: Vec<(&str, Print)> = meant.collect();
     assert_eq!(meant.len(), OTHER_MEANING.len(), "a fault of another name");
     let mut planted = Planted::new(LEAST_FOUND, meant);
+    let same = PRINTERS.into_iter().find(|(name, _)| *name == SAME_MEANING);
+    let (_, same) = same.expect("a fault of this name");
     let mut gates = 0;
     for number in 0..LISTINGS {
-        let shape = Shape::any(&mut random, INPUTS, GATES).without_helpers();
-        let listing = valid(&mut random, &shape);
+        let shape = match number % 2 {
+            0 => Shape::any(&mut random, INPUTS, GATES),
+            _ => Shape::three_wires(&mut random, INPUTS, GATES),
+        };
+        let listing = valid(&mut random, &shape.without_helpers());
         gates += listing.gates.len();
-        if let Err(words) = simulate::compare(&print(&listing), &listing) {
-            panic!("difference in meaning: {words}\n{listing:?}");
+        for text in [print(&listing), same(&listing)] {
+            if let Err(words) = simulate::compare(&text, &listing) {
+                panic!("difference in meaning: {words}\n{listing:?}");
+            }
         }
         planted.look(number, |print| {
             simulate::compare(&print(&listing), &listing).is_err()

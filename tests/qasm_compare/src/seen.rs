@@ -1,5 +1,6 @@
 //! What has been seen in the listings that were exported and in the texts.
 
+use crate::three::Three;
 use listings::sizes::{MOST_GATES, MOST_INPUTS};
 use listings::{Listing, Sizes};
 use program_files::{Refusal, Wire, GATES};
@@ -34,6 +35,7 @@ pub struct Seen {
     longest_text: usize,
     /// In the order of `HELPED`.
     helped: [usize; HELPED.len()],
+    three: Three,
 }
 
 impl Seen {
@@ -85,8 +87,10 @@ impl Seen {
         self.longest_exported = self.longest_exported.max(text.len());
     }
 
-    pub fn imported(&mut self, text: &[u8]) {
+    /// Counts a text, which is imported or refused.
+    pub fn text(&mut self, text: &[u8], imported: bool) {
         self.longest_text = self.longest_text.max(text.len());
+        self.three.count(text, imported);
     }
 
     pub fn report(&self) {
@@ -102,6 +106,7 @@ impl Seen {
         for ((name, _), count) in HELPED.iter().zip(self.helped) {
             println!("{count:>9} {name}");
         }
+        self.three.report();
         println!("longest exported: {} bytes", self.longest_exported);
         println!("longest text: {} bytes", self.longest_text);
     }
@@ -115,6 +120,7 @@ impl Seen {
         for ((name, least), count) in HELPED.iter().zip(self.helped) {
             assert!(count >= *least, "too few {name}");
         }
+        self.three.assert();
         let inputs = self.inputs.iter().all(|&count| count >= LEAST_LINES);
         assert!(inputs, "too few inputs");
         assert!(self.crossed >= LEAST_LINES, "too few crossed outputs");

@@ -3,7 +3,7 @@
 
 use comparing::stack;
 use listings::cases::{most_gates, most_wires};
-use qasm::cases::longest;
+use qasm::cases::{longest, under_a_bit};
 use qasm::{answer, lengths, print};
 use qasm_compare::under_test;
 
@@ -30,6 +30,7 @@ pub fn measure() {
     let mut files = Vec::new();
     for (name, listing) in [
         ("the longest text", longest()),
+        ("gates under a Bit", under_a_bit()),
         ("the listing of the most gates", most_gates()),
         ("the listing of the most wires", most_wires()),
     ] {

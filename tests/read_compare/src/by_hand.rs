@@ -5,7 +5,10 @@ use comparing::cases;
 use comparing::written::{file, Written};
 use comparing::Known;
 use program_files::kinds::*;
-use program_files::read;
+use program_files::{read, GATES};
+
+/// The first number that is no gate's.
+const NO_GATE: u16 = GATES.len() as u16;
 
 /// Refused files: the number and the place.
 const REFUSED: [(u8, usize, Written); 30] = [
@@ -17,8 +20,8 @@ const REFUSED: [(u8, usize, Written); 30] = [
     (4, 0, (&[], &[], &[(UNIT, 0)])),
     (4, 0, (&[], &[UNIT_VALUE], &[(GATE, 0)])),
     (5, 2, (&[0], &[5], &[(LABEL, 1)])),
-    (5, 0, (&[], &[], &[(GATE, 11)])),
-    (5, 0, (&[], &[], &[(ABSTRACTION, 0), (GATE, 11)])),
+    (5, 0, (&[], &[], &[(GATE, NO_GATE)])),
+    (5, 0, (&[], &[], &[(ABSTRACTION, 0), (GATE, NO_GATE)])),
     (5, 0, (&[], &[], &[(UNIT_VALUE, 1)])),
     (5, 1, (&[], &[UNIT], &[(UNIT_VALUE, 256)])),
     (5, 1, (&[], &[REUSABLE], &[(BOX, 1)])),
@@ -82,10 +85,11 @@ const REFUSED: [(u8, usize, Written); 30] = [
 ];
 
 /// Accepted files.
-const ACCEPTED: [Written; 6] = [
+const ACCEPTED: [Written; 7] = [
     (&[], &[], &[(UNIT_VALUE, 0)]),
     (&[], &[], &[(GATE, 9)]),
     (&[], &[], &[(GATE, 10)]),
+    (&[], &[], &[(GATE, 11)]),
     (&[], &[UNIT], &[(BOX, 0), (UNIT_VALUE, 0)]),
     (
         &[],

@@ -4,19 +4,26 @@ use crate::library;
 use crate::planted::{Reader, PLANTED};
 use comparing::{Counts, Expected, Known, Lent, Planted};
 use program_files::read::sections;
-use program_files::{kinds, read, Accepted, Entry};
+use program_files::{kinds, read, Accepted, Entry, Refusal, GATES};
 
 /// The least number of files in all, and for each answer.
 const LEAST_FILES: usize = 200_000;
 const LEAST_EACH: usize = 5_000;
 
-/// What accepted files have of unit, and in how many of them at least.
-const UNITS: [(&str, usize); 4] = [
+/// What accepted files have of unit and of CCX, and in how many of them at least.
+const ACCEPTED: [(&str, usize); 5] = [
     ("unit in the type section", 20_000),
     ("a Circ with unit inside", 3_000),
     ("a box at a type with unit inside", 1_000),
     ("unit's value", 20_000),
+    ("CCX", 10_000),
 ];
+
+/// Files that are refused at the first number that is no gate's.
+const LEAST_NO_GATE: usize = 200;
+
+/// The number of the gate.
+const CCX: u16 = 11;
 
 pub struct Comparison {
     counts: Counts,
@@ -26,8 +33,9 @@ pub struct Comparison {
     deepest_type: usize,
     least_sizes: [usize; 3],
     most_sizes: [usize; 3],
-    /// In the order of `UNITS`.
-    units: [usize; UNITS.len()],
+    /// In the order of `ACCEPTED`.
+    accepted: [usize; ACCEPTED.len()],
+    no_gate: usize,
     planted: Planted<Reader>,
 }
 
@@ -41,7 +49,8 @@ impl Comparison {
             deepest_type: 0,
             least_sizes: [usize::MAX; 3],
             most_sizes: [0; 3],
-            units: [0; UNITS.len()],
+            accepted: [0; ACCEPTED.len()],
+            no_gate: 0,
             planted: Planted::new(1, PLANTED),
         }
     }
@@ -83,6 +92,12 @@ impl Comparison {
         let number = refusal.map_or(0, |refusal| refusal.number);
         self.counts.count(file, number);
         self.longest = self.longest.max(file.len());
+        if let Err(Refusal { number: 5, place }) = accepted {
+            let entries = sections(file).expect("a file with right sizes");
+            let wrong = entries.all().nth(place);
+            let no_gate = Entry::new(kinds::GATE, GATES.len() as u16);
+            self.no_gate += usize::from(wrong == Some(&no_gate));
+        }
         if let Ok(accepted) = accepted {
             let sizes = [
                 accepted.sizes.labels,
@@ -97,11 +112,11 @@ impl Comparison {
             for of in &accepted.types {
                 self.deepest_type = self.deepest_type.max(of.depth());
             }
-            self.count_units(file, &accepted);
+            self.count_accepted(file, &accepted);
         }
     }
 
-    fn count_units(&mut self, file: &[u8], accepted: &Accepted) {
+    fn count_accepted(&mut self, file: &[u8], accepted: &Accepted) {
         let entries = sections(file).expect("an accepted file");
         let has = |at: usize| accepted.types[at].preorder().contains(&kinds::UNIT);
         let mut types = entries.types.iter().enumerate();
@@ -112,8 +127,9 @@ impl Comparison {
             types.any(|(at, entry)| entry.kind == kinds::CIRCUIT && has(at)),
             entries.terms.iter().any(is_box),
             terms.any(|entry| entry.kind == kinds::UNIT_VALUE),
+            entries.terms.contains(&Entry::new(kinds::GATE, CCX)),
         ];
-        for (count, seen) in self.units.iter_mut().zip(seen) {
+        for (count, seen) in self.accepted.iter_mut().zip(seen) {
             *count += usize::from(seen);
         }
     }
@@ -128,9 +144,10 @@ impl Comparison {
         }
         println!("deepest term accepted: {}", self.deepest_term);
         println!("deepest type accepted: {}", self.deepest_type);
-        for ((name, _), files) in UNITS.iter().zip(self.units) {
+        for ((name, _), files) in ACCEPTED.iter().zip(self.accepted) {
             println!("{files:>9} accepted with {name}");
         }
+        println!("{:>9} refused with 5 at gate {}", self.no_gate, GATES.len());
         self.planted.report("file");
         assert!(self.counts.distinct() >= LEAST_FILES, "too few files");
         assert!(
@@ -142,8 +159,9 @@ impl Comparison {
         assert_eq!(self.most_sizes, [64, 512, 2_048], "most sizes not reached");
         assert_eq!(self.deepest_term, 2_048, "deepest term not reached");
         assert_eq!(self.deepest_type, 512, "deepest type not reached");
-        for ((name, least), files) in UNITS.iter().zip(self.units) {
+        for ((name, least), files) in ACCEPTED.iter().zip(self.accepted) {
             assert!(files >= *least, "too few with {name}");
         }
+        assert!(self.no_gate >= LEAST_NO_GATE, "too few at the last gate");
     }
 }

@@ -7,11 +7,11 @@ use program_files::read::{
     read, sections, term_of, test_arguments, test_binders, test_kinds, test_one_term,
     test_types_end, test_wire_types, type_end, types_at,
 };
-use program_files::{Refusal, Sizes, Term};
+use program_files::{Refusal, Sizes, Term, GATES};
 
 pub type Reader = fn(&[u8]) -> Result<Sizes, Refusal>;
 
-pub const PLANTED: [(&str, Reader); 21] = [
+pub const PLANTED: [(&str, Reader); 22] = [
     ("test 5 before test 4", arguments_first),
     ("tests 4 and 5 in one pass", one_pass),
     ("test 7 before test 6", wire_types_first),
@@ -25,20 +25,9 @@ pub const PLANTED: [(&str, Reader); 21] = [
     ),
     ("a longer file read", longer_read),
     ("N 2,048 outside its range", most_terms_refused),
-    ("gate 11 allowed", |file| {
-        changed(file, |entries| {
-            for entry in of_kind(&mut entries.terms, kinds::GATE) {
-                entry.argument -= u16::from(entry.argument == 11);
-            }
-        })
-    }),
-    ("gate 10 refused", |file| {
-        changed(file, |entries| {
-            for entry in of_kind(&mut entries.terms, kinds::GATE) {
-                entry.argument += u16::from(entry.argument == 10);
-            }
-        })
-    }),
+    ("gate 12 allowed", |file| with_gate(file, 12, 0)),
+    ("gate 11 refused", |file| with_gate(file, 11, NO_GATE)),
+    ("gate 10 refused", |file| with_gate(file, 10, NO_GATE)),
     ("unit's value with argument 1 allowed", |file| {
         changed(file, |entries| {
             for entry in of_kind(&mut entries.terms, kinds::UNIT_VALUE) {
@@ -77,6 +66,20 @@ pub const PLANTED: [(&str, Reader); 21] = [
     ("let binds in its first part", let_binds_in_first),
     ("the last variable with no binder", last_unbound),
 ];
+
+/// The first number that is no gate's.
+const NO_GATE: u16 = GATES.len() as u16;
+
+/// The answer for a file in which one gate is taken for another.
+fn with_gate(file: &[u8], number: u16, other: u16) -> Result<Sizes, Refusal> {
+    let mut entries = sections(file)?;
+    for entry in of_kind(&mut entries.terms, kinds::GATE) {
+        if entry.argument == number {
+            entry.argument = other;
+        }
+    }
+    plain(&entries.bytes())
+}
 
 fn plain(file: &[u8]) -> Result<Sizes, Refusal> {
     read(file).map(|accepted| accepted.sizes)

@@ -5,10 +5,11 @@ use evaluator::{prepare, Answer};
 use port::Memory;
 use program_files::{Program, Term, Wire};
 use programs::extremes;
+use programs::nested::in_a_row;
 use programs::terms::{
     abstraction, application, apply, boxed, gate, label, let_in, lift, pair, variable,
 };
-use programs::types::{circuit, function, qubit, reusable};
+use programs::types::{circuit, function, qubit, qubits, reusable};
 use run_compare::interface::{number, LEAST};
 use run_compare::under_test;
 use std::rc::Rc;
@@ -24,7 +25,11 @@ fn main() {
     println!("run under test: {}", under_test::NAME);
     let many_steps = extremes::calls(18).program;
     row("a million steps", &many_steps);
-    row("2,048 gates from nested boxes", &nested_boxes());
+    row("2,048 gates from nested boxes", &nested_boxes(1, 0));
+    row(
+        "2,048 gates on three wires from nested boxes",
+        &nested_boxes(3, CCX),
+    );
     row("4,000 nodes, small steps", &beside(WHOLE, Side::Walked));
     println!();
     println!("nanoseconds a step in terms of three sizes:");
@@ -37,18 +42,25 @@ fn with_one_label(term: Rc<Term>) -> Program {
     Program::new(vec![Wire::Qubit], term)
 }
 
-/// Ten boxes inside each other, each of which applies the one inside it twice:
-/// 1,023 gates in closed circuits and 1,025 in the open one.
-fn nested_boxes() -> Program {
-    let boxed = |body| boxed(qubit(), lift(abstraction(qubit(), body)));
-    let over = || circuit(qubit(), qubit());
-    let twice = |circuit, wire| {
-        let body = apply(variable(0), apply(variable(0), wire));
-        application(abstraction(over(), body), circuit)
+/// The number of a gate.
+const CCX: usize = 11;
+
+/// Ten boxes inside each other, each of which applies the one inside it twice: 1,023
+/// gates on so many wires in closed circuits and 1,024 in the open one, and one more
+/// there on the first wire.
+fn nested_boxes(wires: usize, number: usize) -> Program {
+    let of = || qubits(wires);
+    let boxed = |body| boxed(of(), lift(abstraction(of(), body)));
+    let twice = |inside, wires| {
+        let body = apply(variable(0), apply(variable(0), wires));
+        application(abstraction(circuit(of(), of()), body), inside)
     };
-    let first = boxed(apply(gate(0), variable(0)));
+    let first = boxed(apply(gate(number), variable(0)));
     let nested = (0..9).fold(first, |inside, _| boxed(twice(inside, variable(1))));
-    with_one_label(twice(nested, apply(gate(1), label(0))))
+    let mut labels: Vec<Rc<Term>> = (0..wires).map(label).collect();
+    labels[0] = apply(gate(1), label(0));
+    let term = twice(nested, in_a_row(&labels, pair));
+    Program::new(vec![Wire::Qubit; wires], term)
 }
 
 /// How often the calls of a small function are doubled, beside which a large

@@ -7,7 +7,7 @@ use comparing::written::{file, Written, ABS, APP, FUN, REU, VAR};
 use comparing::Known;
 use evaluator::text::LIMIT;
 use evaluator::{prepare, Answer};
-use example_programs::examples;
+use example_programs::{adder_without_ccx, examples};
 use program_files::kinds::*;
 
 /// Programs besides the cases.
@@ -213,7 +213,7 @@ pub fn compare(comparison: &mut Comparison) {
     }
     assert_eq!(totals(cases::C4), [8, 14, 11, 9, 3, 1], "the nodes of c4");
     comparison.group("examples");
-    for example in examples() {
+    for example in examples().into_iter().chain([adder_without_ccx()]) {
         comparison.program(&example.file, &Known::Accepted);
         comparison.at_limit(&example.file, LIMIT, &example.lines);
     }

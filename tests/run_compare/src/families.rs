@@ -13,12 +13,13 @@ use programs::blocks::{self, blocks};
 use programs::broken::{Way, WAYS};
 use programs::edit::{map_leaves, shifted};
 use programs::extremes;
+use programs::nested::in_a_row;
 use programs::rules::MOST_ENTRIES;
 use programs::terms::{
     abstraction, application, apply, boxed, gate, label, let_in, lift, pair, unit_value, variable,
 };
 use programs::typed::{padded, Plan, Typed, RULES};
-use programs::types::{self, any_wires, reusable, shuffle, unit};
+use programs::types::{self, any_wires, qubits, reusable, shuffle, unit};
 use std::rc::Rc;
 
 /// The numbers of gates.
@@ -184,7 +185,7 @@ fn come_at_once(comparison: &mut Comparison) {
     let mut random = Random::new(21);
     for count in 1..=60 {
         let come = apply(gate(INIT), variable(0));
-        let come = in_a_row(vec![come; count], pair);
+        let come = in_a_row(&vec![come; count], pair);
         let coming = boxed(unit(), lift(abstraction(unit(), come)));
         let of = qubits(count);
         let going = boxed(of.clone(), lift(abstraction(of.clone(), all_gone(count))));
@@ -232,14 +233,14 @@ fn init_boxes(comparison: &mut Comparison) {
             });
         }
         let (terms, types): (Vec<Rc<Term>>, Vec<Rc<Type>>) = leaves.into_iter().unzip();
-        let (body, of) = (in_a_row(terms, pair), in_a_row(types, types::pair));
+        let (body, of) = (in_a_row(&terms, pair), in_a_row(&types, types::pair));
         let circuit = boxed(unit(), lift(abstraction(unit(), body)));
         let times = random.between(2, 6);
-        let applied = in_a_row(vec![apply(variable(0), unit_value()); times], pair);
+        let applied = in_a_row(&vec![apply(variable(0), unit_value()); times], pair);
         let bound = abstraction(types::circuit(unit(), of.clone()), applied);
         let typed = Typed {
             program: Program::new(Vec::new(), application(bound, circuit)),
-            of: in_a_row(vec![of; times], types::pair),
+            of: in_a_row(&vec![of; times], types::pair),
         };
         well_typed(comparison, &mut random, &typed).expect("a file");
     }
@@ -379,7 +380,8 @@ fn many_boxes(comparison: &mut Comparison) {
             0 => most,
             _ => random.between(1, most),
         };
-        let labels = in_a_row((0..wires).map(label).collect(), pair);
+        let labels: Vec<Rc<Term>> = (0..wires).map(label).collect();
+        let labels = in_a_row(&labels, pair);
         let term = (0..count).fold(labels, |argument, _| {
             apply(any_box(&mut random, wires), argument)
         });
@@ -389,17 +391,6 @@ fn many_boxes(comparison: &mut Comparison) {
         };
         well_typed(comparison, &mut random, &typed);
     }
-}
-
-/// Pairs nested to the right.
-fn in_a_row<T: Clone>(parts: Vec<T>, pair: fn(T, T) -> T) -> T {
-    let last = parts.last().expect("at least one").clone();
-    let others = parts[..parts.len() - 1].iter().rev();
-    others.fold(last, |rest, part| pair(part.clone(), rest))
-}
-
-fn qubits(count: usize) -> Rc<Type> {
-    in_a_row(vec![Wire::Qubit.as_type(); count], types::pair)
 }
 
 /// A box of few nodes from one, two or three Qubits to as many: its wires in
@@ -416,7 +407,7 @@ fn any_box(random: &mut Random, count: usize) -> Rc<Term> {
             *wire = apply(gate(random.below(5)), wire.clone());
         }
     }
-    let result = in_a_row(wires, pair);
+    let result = in_a_row(&wires, pair);
     let body = (1..count).fold(result, |body, _| let_in(variable(0), body));
     let of = qubits(count);
     boxed(of.clone(), lift(abstraction(of, body)))

@@ -3,6 +3,7 @@
 pub use comparing::packed::number;
 use comparing::packed::{self, bits, put};
 use evaluator::Answer;
+use listings::sizes::LONGEST;
 
 /// The working memories, in the order in which they are lent, with their
 /// least lengths.
@@ -29,7 +30,7 @@ pub type Lent = comparing::Lent<BUFFERS>;
 pub type Lengths = [usize; BUFFERS];
 
 /// The least length of the output buffer.
-pub const LEAST_OUT: usize = 11_078;
+pub const LEAST_OUT: usize = LONGEST;
 
 pub const LEAST: Lengths = {
     let mut least = [LEAST_OUT; BUFFERS];

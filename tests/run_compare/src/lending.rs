@@ -61,6 +61,7 @@ fn files(random: &mut Random) -> Vec<(Vec<u8>, u32)> {
     files.push((extremes::forced_lifts(2_047).program.bytes(), u32::MAX));
     files.push((extremes::applies(2_047).program.bytes(), u32::MAX));
     files.push((extremes::labels(2_047).program.bytes(), u32::MAX));
+    files.push((extremes::longest_listing().program.bytes(), u32::MAX));
     for way in [Way::NotReusable, Way::LabelNotUsed, Way::UseUnderLift] {
         let broken_one = std::iter::repeat_with(|| {
             let plan = Plan::of_wires(random, 4, 30);

@@ -9,6 +9,7 @@ use evaluator::{terms, Configuration};
 use program_files::entries::MOST_TERMS;
 use program_files::{Program, Term, Type, Wire};
 use programs::extremes;
+use programs::nested::in_a_row;
 use programs::terms::{
     abstraction, application, apply, boxed, force, gate, label, let_in, lift, pair, unit_value,
     variable,
@@ -242,17 +243,35 @@ fn applied(of: Rc<Type>, circuit_term: Rc<Term>, times: usize, wire: Rc<Term>) -
     application(abstraction(over, body), circuit_term)
 }
 
+/// The numbers of gates.
+const MEAS: usize = 6;
+const INIT: usize = 9;
+const DISCARD: usize = 10;
+const CCX: usize = 11;
+
+/// A Qubit is measured and goes.
+fn gone(qubit: Rc<Term>) -> Rc<Term> {
+    apply(gate(DISCARD), apply(gate(MEAS), qubit))
+}
+
 /// A Qubit comes, is measured and goes.
 fn helper(unit: Rc<Term>) -> Rc<Term> {
-    const MEAS: usize = 6;
-    const INIT: usize = 9;
-    const DISCARD: usize = 10;
-    apply(gate(DISCARD), apply(gate(MEAS), apply(gate(INIT), unit)))
+    gone(apply(gate(INIT), unit))
+}
+
+/// Three Qubits come, go through CCX, are measured and go.
+fn three_helpers(unit: Rc<Term>) -> Rc<Term> {
+    let come = |unit: Rc<Term>| apply(gate(INIT), unit);
+    let all = [come(unit), come(unit_value()), come(unit_value())];
+    let all_gone = [3, 1, 0].map(|wire| gone(variable(wire)));
+    let units = let_in(in_a_row(&all_gone, pair), unit_value());
+    let made = apply(gate(CCX), in_a_row(&all, pair));
+    let_in(made, let_in(variable(0), units))
 }
 
 fn gates(comparison: &mut Comparison) {
     comparison.group("with gates near 2,048");
-    let mut found = [0; 4];
+    let mut found = [0; 5];
     for times in 1..=6 {
         for first in [1, 2, 5, 40] {
             // Each box applies the box inside it several times.
@@ -275,15 +294,17 @@ fn gates(comparison: &mut Comparison) {
                 applied(qubit(), nested(levels), times, wire)
             };
             // The same with Qubits that come and go in boxes at unit.
-            let helpers = |levels: usize, padding: usize| {
-                let first = (0..first).fold(variable(0), |unit, _| helper(unit));
+            let coming = |one: fn(Rc<Term>) -> Rc<Term>, levels: usize, padding: usize| {
+                let first = (0..first).fold(variable(0), |unit, _| one(unit));
                 let nested = (1..levels).fold(unit_box(first), |inside, _| {
                     unit_box(applied(unit(), inside, times, variable(1)))
                 });
                 let rest = abstraction(unit(), gates_around(label(0), padding));
                 application(rest, applied(unit(), nested, times, unit_value()))
             };
-            let builds: [Build; 3] = [&gate_last, &circuit_last, &helpers];
+            let helpers = |levels: usize, padding: usize| coming(helper, levels, padding);
+            let on_three = |levels: usize, padding: usize| coming(three_helpers, levels, padding);
+            let builds: [Build; 4] = [&gate_last, &circuit_last, &helpers, &on_three];
             for (build, found) in builds.into_iter().zip(&mut found) {
                 let levels = if times == 1 { 60 } else { 12 };
                 *found += near(comparison, build, levels, GATES);
@@ -302,7 +323,7 @@ fn gates(comparison: &mut Comparison) {
         });
         application(abstraction(over.clone(), dropped), qubit_box(row))
     };
-    found[3] += near(comparison, &unused, 40, GATES);
+    found[4] += near(comparison, &unused, 40, GATES);
     assert!(found.iter().all(|&found| found >= 5), "too few: {found:?}");
 }
 
@@ -339,7 +360,7 @@ fn boxes(comparison: &mut Comparison) {
     // A reusable function that calls the one inside it twice.
     let doubled = |levels: usize, padding: usize| {
         let first = lift(abstraction(qubit(), apply(identity(), variable(0))));
-        let double = (1..levels).fold(first, |once, _| extremes::twice(once));
+        let double = (1..levels).fold(first, |once, _| extremes::twice(&qubit(), once));
         let wire = application(force(double), label(0));
         (0..padding).fold(wire, |wire, _| apply(identity(), wire))
     };

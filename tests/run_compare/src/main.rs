@@ -12,6 +12,8 @@ mod pairs;
 mod seen;
 mod sound;
 mod stack;
+mod three;
+mod three_wires;
 
 use compare::Comparison;
 use comparing::process;
@@ -33,6 +35,7 @@ fn compare_all() {
     });
     let mut comparison = Comparison::with_planted_faults();
     by_hand::compare(&mut comparison);
+    three_wires::compare(&mut comparison);
     families::small(&mut comparison);
     limits::compare(&mut comparison);
     lending::compare(&mut comparison);

@@ -2,7 +2,7 @@
 //! memory. The comparison must find every one of them.
 
 use evaluator::Answer;
-use run_compare::interface::{is_short, name, number, pack, Lent, LEAST, SHORT};
+use run_compare::interface::{is_short, name, number, pack, Lent, LEAST, LEAST_OUT, SHORT};
 
 /// A run that is lent buffers, on a program that has this answer; its answer is
 /// one number.
@@ -51,7 +51,7 @@ pub fn faults() -> Vec<(String, Fault)> {
         "output buffer touched by 21",
         after(|lent, number| {
             if number == 21 {
-                lent.parts().1[0][11_077] ^= 1;
+                lent.parts().1[0][LEAST_OUT - 1] ^= 1;
             }
         }),
     );

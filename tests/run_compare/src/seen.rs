@@ -1,6 +1,7 @@
 //! What the runs had.
 
 use crate::helped::Helped;
+use crate::three::Three;
 use comparing::Pairs;
 use evaluator::circuits::Boxed;
 use evaluator::configurations::{MOST_BOXES, MOST_GATES, MOST_NODES};
@@ -52,6 +53,7 @@ pub struct Seen {
     /// The same of those that are pairs and may be copied.
     pairs: Pairs<4>,
     helped: Helped,
+    three: Three,
     /// Gates of finished runs.
     gates: [usize; GATES.len()],
 }
@@ -71,6 +73,7 @@ pub struct Run {
     uses: [usize; 3],
     pairs: Pairs<4>,
     helped: Helped,
+    three: Three,
 }
 
 impl Run {
@@ -89,6 +92,7 @@ impl Run {
         let step = match redex(&now.innermost().term) {
             None if now.is_finished() => {
                 self.helped.finish(now);
+                self.three.finish(now);
                 return;
             }
             None => {
@@ -121,10 +125,14 @@ impl Run {
                 self.helped.argument(argument);
                 match &circuit.form {
                     Form::Constant(constant) => {
-                        self.look_at_circuit(constant, frame);
+                        self.look_at_circuit(constant, argument, frame);
                         4
                     }
-                    _ => 3,
+                    Form::Gate(number) => {
+                        self.three.gate(*number, argument, frame - 1);
+                        3
+                    }
+                    other => unreachable!("{other:?} is applied to wires"),
                 }
             }
             Form::Box(at, _) => {
@@ -143,7 +151,7 @@ impl Run {
         }
     }
 
-    fn look_at_circuit(&mut self, constant: &Rc<Boxed>, frame: usize) {
+    fn look_at_circuit(&mut self, constant: &Rc<Boxed>, argument: &Term, frame: usize) {
         let (times, first) = self
             .applied
             .entry(Rc::as_ptr(constant))
@@ -152,6 +160,7 @@ impl Run {
         if *times == 2 {
             self.helped.again(constant);
         }
+        self.three.circuit(constant, argument, frame - 1, *times);
         self.in_frames |= *first != frame;
         let result = constant.result.labels();
         let passes = result.iter().any(|wire| constant.inputs.contains(wire));
@@ -193,6 +202,7 @@ impl Seen {
         add(&mut self.uses, &run.uses);
         self.pairs.add(&run.pairs);
         self.helped.add(&run.helped);
+        self.three.add(&run.three);
         for (most, size) in self.most.iter_mut().zip(run.most) {
             *most = (*most).max(size);
         }
@@ -203,6 +213,7 @@ impl Seen {
         self.passing += run.passing;
         self.crossing += run.crossing;
         if let Answer::Finished { gates, listing, .. } = answer {
+            self.three.listing(listing.len());
             let bounds = [MOST_NODES, MOST_GATES, MOST_BOXES];
             for (at, bound) in bounds.into_iter().enumerate() {
                 self.at_most[at] += usize::from(run.most[at] == bound);
@@ -230,6 +241,7 @@ impl Seen {
         add(&mut self.uses, &other.uses);
         self.pairs.add(&other.pairs);
         self.helped.add(&other.helped);
+        self.three.add(&other.three);
         add(&mut self.gates, &other.gates);
     }
 
@@ -259,6 +271,7 @@ impl Seen {
         println!("values: {none} dropped, {one} used once, {more} copied");
         self.pairs.report(USES_OF_PAIRS);
         self.helped.report();
+        self.three.report();
         println!("gates of finished runs by number: {:?}", self.gates);
     }
 
@@ -283,6 +296,7 @@ impl Seen {
         assert!(self.uses.iter().all(|&uses| uses >= 50_000), "too few uses");
         self.pairs.assert(LEAST_PAIRS);
         self.helped.assert();
+        self.three.assert();
         assert!(
             self.gates.iter().all(|&gates| gates >= 5_000),
             "too few gates"

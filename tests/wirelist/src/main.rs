@@ -1,4 +1,4 @@
-//! The cases of 01, and program files at the limits of `wirelist`, each with
+//! The cases of 01 and 02, and program files at the limits of `wirelist`, each with
 //! the lines that it has to print: written into the folder that the argument
 //! names.
 
@@ -31,6 +31,8 @@ fn main() {
         ("outputs", extremes::most_outputs().program, None),
         ("units", extremes::some_outputs().program, None),
         ("helpers", extremes::helpers(MOST_TERMS).program, None),
+        ("three_wires", extremes::most_wires().program, None),
+        ("longest_listing", extremes::longest_listing().program, None),
     ];
     let write = |name: &str, file: &[u8], lines: String| {
         let path = Path::new(&folder).join(name);

@@ -12,7 +12,7 @@ use std::env;
 use std::fs;
 use std::path::{Path, PathBuf};
 
-/// So many generated listings, whose texts are damaged, too.
+/// So many times two generated listings, whose texts are damaged, too.
 const GENERATED: usize = 12;
 
 struct Folder {
@@ -61,6 +61,8 @@ fn main() {
         let shape = Shape::helpers(&mut random, 16, 40);
         both(&valid(&mut random, &shape).bytes());
         let shape = Shape::any(&mut random, 16, 40).without_helpers();
+        generated.push(valid(&mut random, &shape));
+        let shape = Shape::three_wires(&mut random, 16, 40).without_helpers();
         generated.push(valid(&mut random, &shape));
     }
     for listing in &generated {

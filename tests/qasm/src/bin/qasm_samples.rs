@@ -21,8 +21,11 @@ fn main() {
     let mut all: Vec<Listing> = exports().into_iter().map(|case| case.listing).collect();
     for (count, inputs, gates) in SIZES {
         for _ in 0..count {
-            let shape = Shape::any(&mut random, inputs, gates).without_helpers();
-            all.push(valid(&mut random, &shape));
+            let shape = match random.below(2) {
+                0 => Shape::any(&mut random, inputs, gates),
+                _ => Shape::three_wires(&mut random, inputs, gates),
+            };
+            all.push(valid(&mut random, &shape.without_helpers()));
         }
     }
     for of in FOREIGN {
