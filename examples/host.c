@@ -27,9 +27,9 @@ static const char *const type_names[] = {"Bit", "Qubit", "pair", "function", "re
 static const struct {
     const char *name;
     unsigned made;
-} gate_table[] = {
+} gate_table[GAWIPSOL_GATES] = {
     {"H", 1},    {"X", 1},  {"Z", 1},  {"S", 1},    {"T", 1},       {"CNOT", 2},
-    {"Meas", 1}, {"BX", 2}, {"BZ", 2}, {"Init", 1}, {"Discard", 0},
+    {"Meas", 1}, {"BX", 2}, {"BZ", 2}, {"Init", 1}, {"Discard", 0}, {"CCX", 3},
 };
 
 /* The 16-bit word at a place of the listing, low byte first. */
@@ -51,7 +51,7 @@ static void print_type(size_t length)
 static void print_listing(uint32_t steps)
 {
     const unsigned inputs = word(0), entries = inputs + word(2), outputs = word(4);
-    const size_t kinds = 6, slots = kinds + entries, outs = slots + 4 * (size_t)entries;
+    const size_t kinds = 6, slots = kinds + entries, outs = slots + 2 * GAWIPSOL_SLOTS * (size_t)entries;
     unsigned wire, entry, slot, at;
 
     for (wire = 0; wire < inputs; wire++)
@@ -60,8 +60,8 @@ static void print_listing(uint32_t steps)
         const unsigned gate = listing[kinds + entry], next = wire + gate_table[gate].made;
 
         printf("gate %s", gate_table[gate].name);
-        for (slot = 0; slot < 2; slot++) {
-            const unsigned taken = word(slots + 4 * (size_t)entry + 2 * slot);
+        for (slot = 0; slot < GAWIPSOL_SLOTS; slot++) {
+            const unsigned taken = word(slots + 2 * (GAWIPSOL_SLOTS * (size_t)entry + slot));
 
             if (taken != GAWIPSOL_NO_WIRE)
                 printf(" %u", taken);

@@ -35,17 +35,17 @@ extern "C" {
 #define GAWIPSOL_CHECK_WORK 54880
 
 /* The least length of the output buffer of a run, in bytes, which is the length of the longest listing. */
-#define GAWIPSOL_RUN_OUT 11078
+#define GAWIPSOL_RUN_OUT 15302
 
 /* The least length of the working memory of a check of a listing, in bytes. */
-#define GAWIPSOL_LISTING_WORK 4160
+#define GAWIPSOL_LISTING_WORK 6208
 
 /* The least lengths of the buffers of an export, in bytes. No text is longer than its output buffer. */
 #define GAWIPSOL_EXPORT_OUT 55211
-#define GAWIPSOL_EXPORT_WORK 4160
+#define GAWIPSOL_EXPORT_WORK GAWIPSOL_LISTING_WORK
 
 /* The least length of the output buffer of an import, in bytes, which is the length of the longest listing. */
-#define GAWIPSOL_IMPORT_OUT 11078
+#define GAWIPSOL_IMPORT_OUT GAWIPSOL_RUN_OUT
 
 /*
  * The number of an answer: 0, or that of the refusal. A place is an entry number where one is named here, else 0; where several
@@ -186,9 +186,14 @@ static inline uint32_t gawipsol_run_steps(uint64_t answer)
     return (uint32_t)(answer >> 32);
 }
 
-/* The kind byte of an input in a listing, and the slot that holds no wire. */
+/*
+ * The kind byte of an input in a listing; that of a gate is its number, below GAWIPSOL_GATES. Each entry has GAWIPSOL_SLOTS slots
+ * of 16 bits for the wires that it takes; GAWIPSOL_NO_WIRE stands in a slot that takes none.
+ */
 #define GAWIPSOL_BIT_INPUT 128
 #define GAWIPSOL_QUBIT_INPUT 129
+#define GAWIPSOL_GATES 12
+#define GAWIPSOL_SLOTS 3
 #define GAWIPSOL_NO_WIRE 65535
 
 /*
@@ -295,7 +300,7 @@ static inline uint64_t gawipsol_check_in(struct gawipsol_machine *machine,
 
 /* The working memory of an import as one object, in the same way. */
 struct gawipsol_importer {
-    uint8_t slots[8960];
+    uint8_t slots[13184];
     uint8_t listing[GAWIPSOL_IMPORT_OUT];
     uint8_t table[GAWIPSOL_LISTING_WORK];
     uint8_t exported[GAWIPSOL_EXPORT_OUT];

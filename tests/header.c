@@ -13,6 +13,9 @@
 /* A byte that no answer has at its place, so that a change shows. */
 #define MARK 0xA5
 
+/* The length of a listing of these sizes. */
+#define LISTING_LENGTH(inputs, gates, outputs) (6 + (1 + 2 * GAWIPSOL_SLOTS) * ((inputs) + (gates)) + 2 * (outputs))
+
 static struct gawipsol_machine machine;
 static uint8_t work[GAWIPSOL_CHECK_WORK];
 static uint8_t type[GAWIPSOL_CHECK_OUT];
@@ -363,6 +366,15 @@ static void lifts(unsigned from, unsigned gate)
     entry(gate, 26, 0);
 }
 
+/* So many applies of a gate from an entry on, each to the one behind. */
+static void applies(unsigned from, unsigned count, unsigned gate)
+{
+    for (; count > 0; count--) {
+        entry(from++, 25, 0);
+        entry(from++, 26, gate);
+    }
+}
+
 /* Files with large numbers. */
 static void check_large(void)
 {
@@ -370,7 +382,8 @@ static void check_large(void)
     static const struct answers too_large = {0, 0, 64, 512, 2048, 16, 2113, 0, 9, 16, 2113, 0, 0, 0};
     static const struct answers left_over = {8, 2623, 0, 0, 0, 8, 2623, 0, 9, 8, 2623, 0, 0, 0};
     static const struct answers longest = {0, 0, 0, 0, 510, 0, 0, 512, 9, 20, 0, 0, 0, 0};
-    static const struct answers gates = {0, 0, 1, 0, 2047, 0, 0, 1, 1023, 0, 0, 1023, 5128, 1023};
+    static const struct answers gates = {0, 0, 1, 0, 2047, 0, 0, 1, 1023, 0, 0, 1023, LISTING_LENGTH(1, 1023, 1), 1023};
+    static const struct answers on_three = {0, 0, 3, 0, 2047, 0, 0, 5, 1021, 0, 0, 1021, LISTING_LENGTH(3, 1021, 3), 1021};
     unsigned number;
 
     sizes("2,047 lifts around a gate", 64, 512, 2048);
@@ -388,12 +401,20 @@ static void check_large(void)
 
     sizes("1,023 gates on one wire", 1, 0, 2047);
     entry(0, 1, 0);
-    for (number = 0; number < 1023; number++) {
-        entry(1 + 2 * number, 25, 0);
-        entry(2 + 2 * number, 26, 0);
-    }
+    applies(1, 1023, 0);
     entry(2047, 17, 0);
     check_answers(&gates);
+
+    sizes("1,021 gates on three wires", 3, 0, 2047);
+    for (number = 0; number < 3; number++)
+        entry(number, 1, 0);
+    applies(3, 1021, GAWIPSOL_GATES - 1);
+    for (number = 0; number < 2; number++) {
+        entry(2045 + 2 * number, 20, 0);
+        entry(2046 + 2 * number, 17, number);
+    }
+    entry(2049, 17, 2);
+    check_answers(&on_three);
 }
 
 /* The buffers of a run. */
@@ -496,6 +517,14 @@ static void check_fields(void)
     same("check of a listing", "number of outputs", gawipsol_listing_outputs(ones), 511);
     same("export", "length of the text", (unsigned long)gawipsol_export_length(ones), 65535);
     same("import", "length of the listing", (unsigned long)gawipsol_import_length(ones), 65535);
+
+    /* The lengths of the header follow from the most inputs, gates and outputs, and a byte for each wire. */
+    name = "the longest listing";
+    same("run", "least length of the output buffer", GAWIPSOL_RUN_OUT, LISTING_LENGTH(64, 2048, 256));
+    holds("run", "the field of its length holds that of the longest listing", gawipsol_run_length(ones) >= GAWIPSOL_RUN_OUT);
+    same("check of a listing", "least length of the working memory", GAWIPSOL_LISTING_WORK, 64 + GAWIPSOL_SLOTS * 2048);
+    same("import", "least length of the slots", (unsigned long)sizeof importer.slots,
+         2 * (GAWIPSOL_SLOTS * (64 + 2048) + 256));
 }
 
 int main(void)

@@ -22,7 +22,9 @@ except ModuleNotFoundError as error:
 # The kind of a Bit input, and QuTiP's names of the gates H, X, Z, S, T by their numbers.
 BIT = 128
 NAMES = ["SNOT", "X", "Z", "S", "T"]
-CNOT, MEAS, BX, BZ = 5, 6, 7, 8
+CNOT, MEAS, BX, BZ, CCX = 5, 6, 7, 8, 11
+# The slots of an entry.
+SLOTS = 3
 
 
 def decode(listing):
@@ -30,9 +32,9 @@ def decode(listing):
     inputs, gates, outputs = struct.unpack_from("<3H", listing)
     entries = inputs + gates
     kinds = listing[6:6 + entries]
-    words = struct.unpack_from(f"<{2 * entries + outputs}H", listing, 6 + entries)
-    slots = [words[2 * entry:2 * entry + 2] for entry in range(inputs, entries)]
-    return list(kinds[:inputs]), list(zip(kinds[inputs:], slots)), list(words[2 * entries:])
+    words = struct.unpack_from(f"<{SLOTS * entries + outputs}H", listing, 6 + entries)
+    slots = [words[SLOTS * entry:SLOTS * (entry + 1)] for entry in range(inputs, entries)]
+    return list(kinds[:inputs]), list(zip(kinds[inputs:], slots)), list(words[SLOTS * entries:])
 
 
 def meant(inputs, gates, outputs):
@@ -44,7 +46,7 @@ def meant(inputs, gates, outputs):
     line_of = list(range(len(inputs)))
     measured = {line for line, kind in enumerate(inputs) if kind == BIT}
     operations = []
-    for kind, (first, second) in gates:
+    for kind, (first, second, third) in gates:
         a = line_of[first]
         line_of.append(a)
         if kind == MEAS:
@@ -58,6 +60,10 @@ def meant(inputs, gates, outputs):
         line_of.append(b)
         if kind == CNOT:
             operations.append(("CNOT", [qubits[b]], [qubits[a]], None, None))
+        elif kind == CCX:
+            c = line_of[third]
+            line_of.append(c)
+            operations.append(("TOFFOLI", [qubits[c]], [qubits[a], qubits[b]], None, None))
         else:
             operations.append(("X" if kind == BX else "Z", [qubits[b]], None, [a], 1))
     named = [("c" if line_of[wire] in measured else "q") + str(line_of[wire]) for wire in outputs]
@@ -81,9 +87,16 @@ def read(text):
 
 def with_fault(gates, at):
     """The gates with the one at this place changed."""
-    kind, (first, second) = gates[at]
-    changed = {CNOT: (CNOT, (second, first)), MEAS: (0, (first, second)), BX: (BZ, (first, second)), BZ: (BX, (first, second))}
-    return gates[:at] + [changed.get(kind, ((kind + 1) % 5, (first, second)))] + gates[at + 1:]
+    kind, slots = gates[at]
+    first, second, third = slots
+    changed = {
+        CNOT: (CNOT, (second, first, third)),
+        MEAS: (0, slots),
+        BX: (BZ, slots),
+        BZ: (BX, slots),
+        CCX: (CCX, (first, third, second)),
+    }
+    return gates[:at] + [changed.get(kind, ((kind + 1) % 5, slots))] + gates[at + 1:]
 
 
 def main(folders):
