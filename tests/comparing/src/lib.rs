@@ -18,6 +18,7 @@ pub mod pairs;
 pub mod planted;
 pub mod process;
 pub mod stack;
+pub mod tally;
 pub mod three_wires;
 pub mod written;
 

@@ -1,11 +1,12 @@
 //! What has been seen of CCX and of third slots.
 
+use comparing::tally::{Seen, Tally};
 use evaluator::listing::{NO_WIRE, SLOTS};
 use listings::counting::{Fault, Maker, Why};
 use listings::generate::wire_types;
 use listings::sizes::{MOST_GATES, MOST_WIRES};
 use listings::{Entry, Listing, Sizes};
-use std::collections::{BTreeMap, BTreeSet};
+use std::collections::BTreeSet;
 
 /// The number of the gate.
 const CCX: u8 = 11;
@@ -30,7 +31,15 @@ enum What {
     ThirdOfGate(usize),
 }
 
-impl What {
+fn at_slot(slot: usize, how: &str) -> String {
+    format!("refused with 26: CCX, its wire in slot {slot} {how}")
+}
+
+/// The least number of listings with something, and of those at the limits.
+const LEAST: usize = 150;
+const LEAST_AT_LIMITS: usize = 20;
+
+impl Seen for What {
     fn words(self) -> String {
         match self {
             What::Accepted => "accepted with CCX".to_string(),
@@ -53,71 +62,54 @@ impl What {
             }
         }
     }
-}
 
-fn at_slot(slot: usize, how: &str) -> String {
-    format!("refused with 26: CCX, its wire in slot {slot} {how}")
-}
-
-/// The least number of listings with something, and of those at the limits.
-const LEAST: usize = 150;
-const LEAST_AT_LIMITS: usize = 20;
-
-/// All that must be seen, and how often.
-fn wanted() -> Vec<(What, usize)> {
-    let mut all = vec![
-        (What::Accepted, 2_000),
-        (What::MostWires, LEAST_AT_LIMITS),
-        (What::OnlyCcx, LEAST_AT_LIMITS),
-        (What::OutputGone, LEAST),
-        (What::ThirdOfInput, LEAST),
-    ];
-    for one in 0..SLOTS {
-        for other in (0..SLOTS).filter(|&other| other != one) {
-            let order = [one, other, SLOTS - one - other];
-            all.push((What::AfterAnother(order), LEAST));
-        }
-        all.extend((0..one).map(|earlier| (What::GoneToItself(earlier, one), LEAST)));
-        let of_slot = [
-            What::NotMade(one),
-            What::OtherType(one),
-            What::GoneToGate(one),
-            What::LeftOver(one),
-            What::ThirdOfGate(one),
+    fn wanted() -> Vec<(What, usize)> {
+        let mut all = vec![
+            (What::Accepted, 2_000),
+            (What::MostWires, LEAST_AT_LIMITS),
+            (What::OnlyCcx, LEAST_AT_LIMITS),
+            (What::OutputGone, LEAST),
+            (What::ThirdOfInput, LEAST),
         ];
-        all.extend(of_slot.map(|what| (what, LEAST)));
+        for one in 0..SLOTS {
+            for other in (0..SLOTS).filter(|&other| other != one) {
+                let order = [one, other, SLOTS - one - other];
+                all.push((What::AfterAnother(order), LEAST));
+            }
+            all.extend((0..one).map(|earlier| (What::GoneToItself(earlier, one), LEAST)));
+            let of_slot = [
+                What::NotMade(one),
+                What::OtherType(one),
+                What::GoneToGate(one),
+                What::LeftOver(one),
+                What::ThirdOfGate(one),
+            ];
+            all.extend(of_slot.map(|what| (what, LEAST)));
+        }
+        all
     }
-    all
 }
 
 #[derive(Default)]
 pub struct Three {
-    seen: BTreeMap<What, usize>,
+    seen: Tally<What>,
 }
 
 impl Three {
     /// Counts what is there in a listing whose sizes are right.
     pub fn count(&mut self, listing: &Listing, found: &Result<Sizes, Fault>) {
         for what in seen(listing, found) {
-            *self.seen.entry(what).or_default() += 1;
+            self.seen.add(what);
         }
-    }
-
-    fn of(&self, what: What) -> usize {
-        self.seen.get(&what).copied().unwrap_or(0)
     }
 
     pub fn report(&self) {
-        for (what, _) in wanted() {
-            println!("{:>9} {}", self.of(what), what.words());
-        }
+        self.seen.report();
     }
 
     /// Fails if too little has been seen.
     pub fn assert(&self) {
-        for (what, least) in wanted() {
-            assert!(self.of(what) >= least, "too few {}", what.words());
-        }
+        self.seen.assert();
     }
 }
 

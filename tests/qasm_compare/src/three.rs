@@ -1,7 +1,8 @@
 //! What has been seen of CCX in texts.
 
+use comparing::tally::{Seen, Tally};
 use listings::sizes::MOST_GATES;
-use std::collections::{BTreeMap, BTreeSet};
+use std::collections::BTreeSet;
 
 /// A line that a text has. Registers are counted from 0.
 #[derive(Clone, Copy, PartialEq, Eq, PartialOrd, Ord, Debug)]
@@ -20,7 +21,11 @@ enum What {
     Capitals,
 }
 
-impl What {
+/// The least number of texts with such a line, and of those with the most.
+const LEAST: usize = 100;
+const LEAST_OF_MOST: usize = 10;
+
+impl Seen for What {
     fn words(self) -> String {
         match self {
             What::Ordered(order) => format!("imported with ccx, its registers in order {order:?}"),
@@ -37,35 +42,30 @@ impl What {
             What::Capitals => "refused with ccx in capitals".to_string(),
         }
     }
-}
 
-/// The least number of texts with such a line, and of those with the most.
-const LEAST: usize = 100;
-const LEAST_OF_MOST: usize = 10;
-
-/// All that must be seen, and how often.
-fn wanted() -> Vec<(What, usize)> {
-    let mut all = vec![
-        What::Fewer,
-        What::More,
-        What::CxOnThree,
-        What::Spaces,
-        What::Capitals,
-    ];
-    for one in 0..3 {
-        all.extend([What::NotDeclared(one), What::OfBit(one)]);
-        all.extend((0..one).map(|earlier| What::Same(earlier, one)));
-        for other in (0..3).filter(|&other| other != one) {
-            all.push(What::Ordered([one, other, 3 - one - other]));
+    fn wanted() -> Vec<(What, usize)> {
+        let mut all = vec![
+            What::Fewer,
+            What::More,
+            What::CxOnThree,
+            What::Spaces,
+            What::Capitals,
+        ];
+        for one in 0..3 {
+            all.extend([What::NotDeclared(one), What::OfBit(one)]);
+            all.extend((0..one).map(|earlier| What::Same(earlier, one)));
+            for other in (0..3).filter(|&other| other != one) {
+                all.push(What::Ordered([one, other, 3 - one - other]));
+            }
         }
+        let all = all.into_iter().map(|what| (what, LEAST));
+        all.chain([(What::Most, LEAST_OF_MOST)]).collect()
     }
-    let all = all.into_iter().map(|what| (what, LEAST));
-    all.chain([(What::Most, LEAST_OF_MOST)]).collect()
 }
 
 #[derive(Default)]
 pub struct Three {
-    seen: BTreeMap<What, usize>,
+    seen: Tally<What>,
 }
 
 impl Three {
@@ -79,25 +79,17 @@ impl Three {
             false => in_refused(text),
         };
         for what in seen {
-            *self.seen.entry(what).or_default() += 1;
+            self.seen.add(what);
         }
-    }
-
-    fn of(&self, what: What) -> usize {
-        self.seen.get(&what).copied().unwrap_or(0)
     }
 
     pub fn report(&self) {
-        for (what, _) in wanted() {
-            println!("{:>9} {}", self.of(what), what.words());
-        }
+        self.seen.report();
     }
 
     /// Fails if too little has been seen.
     pub fn assert(&self) {
-        for (what, least) in wanted() {
-            assert!(self.of(what) >= least, "too few {}", what.words());
-        }
+        self.seen.assert();
     }
 }
 

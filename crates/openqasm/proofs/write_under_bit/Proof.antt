@@ -1,7 +1,7 @@
 -- `openqasm::write_under_bit` meets its contract. Assumes nothing.
 use native.Mathlib.Omega.{arith}
 use mathlib.Core.Path.{_≡_, sym, _∙_, ap}
-use mathlib.Core.List.{[], _∷_}
+use mathlib.Core.List.{_∷_}
 use Rattle.text.specs.Text.{ascii}
 use Rattle.text.specs.Laws.Writing.{puts-same}
 use Rattle.openqasm.specs.Layout.{gateLine}

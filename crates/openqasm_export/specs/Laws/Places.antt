@@ -2,7 +2,7 @@
 use Prim.Native.Nat.{ℕ, zero, suc, _+_, _*_, _/_, _%_, _≤_, _<_}
 use native.Mathlib.Omega.{arith}
 use native.Mathlib.Decide.{decLt}
-use mathlib.Core.Path.{_≡_, refl, sym, _∙_, ap, ap₂, subst}
+use mathlib.Core.Path.{_≡_, refl, sym, _∙_, ap, subst}
 use mathlib.Core.Bool.{cond}
 use mathlib.Core.List.{List, [], _∷_, _++_, map, append-assoc, append-nil}
 use lib.Dec.{eqb}
@@ -13,7 +13,7 @@ use Rattle.rules.specs.Types.{Wire, Bit, Qubit, wireCode}
 use Rattle.rules.specs.Gates.{gateOutputs, wiresOut}
 use Rattle.rules.specs.GateCodes.{wiresCode}
 use Rattle.words.specs.Numbers.{wordAt, wordsAt}
-use Rattle.wire_table.specs.Laws.Table.{first-of, none-of}
+use Rattle.wire_table.specs.Laws.Table.{first-of}
 use Rattle.listing.specs.Listing.{entry-slots}
 use Rattle.listing.specs.Laws.ReadBack.{made-fit}
 use Rattle.listing_check.specs.Laws.Answering.{cleared-table}

@@ -7,7 +7,7 @@ use mathlib.Core.List.{List, [], _∷_, _++_, map, append-assoc, append-nil}
 use lib.Dec.{T as IsTrue, eqb}
 use lib.ListN.{length, getD, length-append, length-map}
 use Rattle.rules.specs.Types.{Wire, Bit, Qubit, wireCode}
-use Rattle.rules.specs.Gates.{gateOutputs, wiresIn, wiresOut, nth}
+use Rattle.rules.specs.Gates.{gateOutputs, wiresIn, wiresOut}
 use Rattle.rules.specs.Circuits.{numbers, outputs}
 use Rattle.words.specs.Numbers.{wordAt, wordsAt}
 use Rattle.text.specs.Text.{ascii, spaced}
@@ -21,7 +21,7 @@ use Rattle.listing.specs.Reading.{inputCount, gateCount, outputCount, kindAt, i
 use Rattle.listing.specs.Reading.{firstGates, gatesOf, outputsFrom, outputsOf}
 use Rattle.listing.specs.Laws.Decoding.{length-words, length-inputs}
 use Rattle.listing_check.specs.Laws.Wires.{next-input, one-more-gate}
-use Rattle.openqasm.specs.Layout.{declaration, declarations, statements, hasStatement, AllWritten, statementLine, gateLine}
+use Rattle.openqasm.specs.Layout.{declaration, declarations, hasStatement, AllWritten, gateLine}
 use Rattle.openqasm.specs.Layout.{gateLines, registersOf, header, registerName, outputName, outputLine, exportText, exportOf}
 use Rattle.openqasm_export.specs.Places.{placeBytes, placesOf, Begins, keptPlaces}
 use Rattle.openqasm.specs.Laws.Registers.{each, as-many, first-counted, length-numbers, numbers-more, length-registers}

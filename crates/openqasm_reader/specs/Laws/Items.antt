@@ -84,16 +84,21 @@ inside [] at h = omega arith
 inside (x ∷ xs) zero h = omega arith
 inside (x ∷ xs) (suc at) h = let deeper = inside xs at h in omega arith
 
--- An item with one number and one with two.
+-- Where the first number of an item stands, and where the next one stands behind so many digits and bytes.
+first-at : (s : List ℕ) (at kind b : ℕ) → b ≡ before kind → drop (before kind) (drop at s) ≡ drop (at + b) s
+first-at s at kind b is = drop-drop (before kind) at s ∙ ap (λ k. drop (at + k) s) (sym is)
+
+next-at : (s : List ℕ) (at d g : ℕ) → drop (d + g) (drop at s) ≡ drop (at + d + g) s
+next-at s at d g = let sum : at + (d + g) ≡ at + d + g = omega arith in drop-drop (d + g) at s ∙ ap (λ k. drop k s) sum
+
+-- An item with one number, with two and with three.
 pub one-here : (s : List ℕ) (at kind b n d e : ℕ)
     → b ≡ before kind
     → n ≡ numberIn (drop (at + b) s)
     → d ≡ digitsIn (drop (at + b) s)
     → e ≡ behind kind
     → _≡_ {A = Item} (record { kind = kind; first = n; second = 0; third = 0; length = b + d + e }) (oneNumber kind (drop at s))
-one-here s at kind b n d e hb hn hd he =
-    let p : drop (before kind) (drop at s) ≡ drop (at + b) s = drop-drop (before kind) at s ∙ ap (λ k. drop (at + k) s) (sym hb) in
-    rw (p, ← hb, ← he, ← hd, ← hn)
+one-here s at kind b n d e hb hn hd he = rw (first-at s at kind b hb, ← hb, ← he, ← hd, ← hn)
 
 pub two-here : (s : List ℕ) (at kind b g n d m c e : ℕ)
     → b ≡ before kind
@@ -105,10 +110,7 @@ pub two-here : (s : List ℕ) (at kind b g n d m c e : ℕ)
     → e ≡ behind kind
     → _≡_ {A = Item} (record { kind = kind; first = n; second = m; third = 0; length = b + d + g + c + e }) (twoNumbers kind (drop at s))
 two-here s at kind b g n d m c e hb hg hn hd hm hc he =
-    let p : drop (before kind) (drop at s) ≡ drop (at + b) s = drop-drop (before kind) at s ∙ ap (λ k. drop (at + k) s) (sym hb) in
-    let sum : at + b + (d + g) ≡ at + b + d + g = omega arith in
-    let q : drop (d + g) (drop (at + b) s) ≡ drop (at + b + d + g) s = drop-drop (d + g) (at + b) s ∙ ap (λ k. drop k s) sum in
-    rw (p, ← hb, ← hg, ← he, ← hd, ← hn, q, ← hm, ← hc)
+    rw (first-at s at kind b hb, ← hb, ← hg, ← he, ← hd, ← hn, next-at s (at + b) d g, ← hm, ← hc)
 
 pub three-here : (s : List ℕ) (at kind b g n d m c o f e : ℕ)
     → b ≡ before kind
@@ -123,13 +125,20 @@ pub three-here : (s : List ℕ) (at kind b g n d m c o f e : ℕ)
     → _≡_ {A = Item} (record { kind = kind; first = n; second = m; third = o; length = b + d + g + c + g + f + e })
     (threeNumbers kind (drop at s))
 three-here s at kind b g n d m c o f e hb hg hn hd hm hc ho hf he =
-    let p : drop (before kind) (drop at s) ≡ drop (at + b) s = drop-drop (before kind) at s ∙ ap (λ k. drop (at + k) s) (sym hb) in
-    let sum : at + b + (d + g) ≡ at + b + d + g = omega arith in
-    let q : drop (d + g) (drop (at + b) s) ≡ drop (at + b + d + g) s = drop-drop (d + g) (at + b) s ∙ ap (λ k. drop k s) sum in
-    let sum′ : at + b + d + g + (c + g) ≡ at + b + d + g + c + g = omega arith in
-    let q′ : drop (c + g) (drop (at + b + d + g) s) ≡ drop (at + b + d + g + c + g) s
-    = drop-drop (c + g) (at + b + d + g) s ∙ ap (λ k. drop k s) sum′ in
-    rw (p, ← hb, ← hg, ← he, ← hd, ← hn, q, ← hm, ← hc, q′, ← ho, ← hf)
+    rw (
+      first-at s at kind b hb,
+      ← hb,
+      ← hg,
+      ← he,
+      ← hd,
+      ← hn,
+      next-at s (at + b) d g,
+      ← hm,
+      ← hc,
+      next-at s (at + b + d + g) c g,
+      ← ho,
+      ← hf,
+    )
 
 -- The item at a place, by the kind that its first byte gives.
 abbrev kindBy : ℕ → List ℕ → ℕ

@@ -1,8 +1,5 @@
 -- `openqasm_export::places::keep_place` meets its contract. Assumes nothing.
-use Prim.Native.Nat.{_+_, _≤_}
 use native.Mathlib.Omega.{arith}
-use mathlib.Core.Path.{sym, subst}
-use mathlib.Core.List.{[], _∷_, _++_}
 use Rattle.openqasm_export.specs.Laws.Places.{kept-none, none-made, kept-one, one-made}
 use borrow.Author.Needs.{needs}
 use Rattle.openqasm_export.proofs.places.keep_place.Statement.{statement}

@@ -3,9 +3,9 @@ use Prim.Native.Nat.{_/_}
 use native.Mathlib.Omega.{arith}
 use mathlib.Core.Path.{_≡_}
 use mathlib.Core.List.{[], _∷_, _++_}
-use lib.ListN.{length, take, drop, length-append}
-use Rattle.rules.specs.Gates.{gateOutputs, wiresOut}
-use Rattle.rules.specs.GateCodes.{madeCode, wiresCode}
+use lib.ListN.{length, take, drop}
+use Rattle.rules.specs.Gates.{gateOutputs}
+use Rattle.rules.specs.GateCodes.{madeCode}
 use Rattle.openqasm_export.specs.Places.{placeBytes}
 use Rattle.openqasm_export.specs.Laws.Places.{begins-same, quarter, kept-all, all-made, length-kept}
 use borrow.Author.Needs.{needs}

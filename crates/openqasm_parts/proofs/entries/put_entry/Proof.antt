@@ -1,5 +1,4 @@
 -- `openqasm_parts::entries::put_entry` meets its contract. Assumes nothing.
-use Prim.Native.Nat.{_+_, _*_}
 use native.Mathlib.Omega.{arith}
 use Rattle.openqasm_parts.specs.Laws.Stored.{one-added, slots-added}
 use borrow.Author.Needs.{needs}
