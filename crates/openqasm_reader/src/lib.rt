@@ -119,9 +119,9 @@ fn three_numbers(text: &[u8], at: usize) -> Item
 {
     let first_place = at + 5;
     let first = number_at(text, first_place);
-    let second_place = first_place + first.digits + 5;
-    let second = number_at(text, second_place);
-    let third_place = second_place + second.digits + 5;
+    let next_place = first_place + first.digits + 5;
+    let second = number_at(text, next_place);
+    let third_place = next_place + second.digits + 5;
     let third = number_at(text, third_place);
     Item {
         kind: CCX_ITEM,

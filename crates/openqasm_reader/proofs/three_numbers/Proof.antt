@@ -12,11 +12,11 @@ add-first-place c = search needs
 number-at-requires : tie.Need-number-at-requires
 number-at-requires c κs = search needs
 
-add-second-place : tie.Need-add-second-place
-add-second-place c = search needs
+add-next-place : tie.Need-add-next-place
+add-next-place c = search needs
 
-add-second-place-2 : tie.Need-add-second-place-2
-add-second-place-2 c = search needs
+add-next-place-2 : tie.Need-add-next-place-2
+add-next-place-2 c = search needs
 
 number-at-requires-2 : tie.Need-number-at-requires-2
 number-at-requires-2 c κs = search needs
@@ -66,8 +66,8 @@ three-numbers-spec =
     (tie.spec
     add-first-place
     number-at-requires
-    add-second-place
-    add-second-place-2
+    add-next-place
+    add-next-place-2
     number-at-requires-2
     add-third-place
     add-third-place-2
