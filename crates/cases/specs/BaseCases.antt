@@ -20,7 +20,7 @@ c1-listing =
     ∷ 0xFF ∷ 0xFF ∷ 0xFF ∷ 0xFF ∷ 0xFF ∷ 0xFF
     ∷ 0x00 ∷ 0x00 ∷ []
 
--- Of c2, as 02's ticket 6 has 01's sample rewritten: "listing (hex) 01 00 01 00 01 00 81 00 FF FF FF FF FF FF 00 00 FF FF FF FF 01 00".
+-- Of c2, as 02's ticket 6 has 01's sample rewritten: 01 00 01 00 01 00 81 00 FF FF FF FF FF FF 00 00 FF FF FF FF 01 00.
 abbrev pub c2-listing : List ℕ
 c2-listing =
     0x01 ∷ 0x00 ∷ 0x01 ∷ 0x00 ∷ 0x01 ∷ 0x00

@@ -51,8 +51,8 @@ kindOf first second name =
 abbrev pub kindIn : List ℕ → ℕ
 kindIn s = kindOf (getD s 0 0) (getD s 1 0) (getD s (9 + digitsIn (drop 4 s)) 0)
 
--- How many bytes stand before an item's first number, between that and the second, as between the second and the third, and behind the
--- last; between them 0 where there is one number only.
+-- How many bytes stand before an item's first number, between that and the second, as between the second and the third, and behind
+-- the last; between them 0 where there is one number only.
 unfoldable pub before : ℕ → ℕ
 before kind =
     cond (ltb kind 5) 3

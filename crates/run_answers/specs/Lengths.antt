@@ -31,7 +31,8 @@ types-length = 2 * (most-types + most-labels)
 abbrev pub results-length : ℕ
 results-length = 2 * (most-entries * (most-boxes / 4))
 
--- 02, ticket 6: "at most 15,302, which is also a run's least output buffer in refusal 19"; then nodes, stack, types, frames, gates, circuits, results.
+-- 02, ticket 6: "at most 15,302, which is also a run's least output buffer in refusal 19"; then nodes, stack, types, frames, gates,
+-- circuits, results.
 abbrev pub run-lengths : List ℕ
 run-lengths =
     most-bytes

@@ -15,7 +15,7 @@ pub c1-listing : listing (circuit one-label []) (single 0)
 unfolding listingBytes flatMap
 c1-listing = refl
 
--- c2, as 02's ticket 6 has 01's sample rewritten: "listing (hex) 01 00 01 00 01 00 81 00 FF FF FF FF FF FF 00 00 FF FF FF FF 01 00".
+-- c2, as 02's ticket 6 has 01's sample rewritten: 01 00 01 00 01 00 81 00 FF FF FF FF FF FF 00 00 FF FF FF FF 01 00.
 pub c2-listing : listing (circuit one-label ((H on 0 ∷ []) ∷ [])) (single 1)
     ≡ 1 ∷ 0 ∷ 1 ∷ 0 ∷ 1 ∷ 0
     ∷ 129 ∷ 0

@@ -50,6 +50,16 @@ number-read n t small ends = of (decLt n 10)
           ap (λ s. drop (digitsIn s) s) e ∙ ap (λ b. drop (cond b 2 1) (x ∷ y ∷ t)) two,
         )
 
+-- The same of a text that is known to begin with that number.
+number-in : (n : ℕ) (text t : List ℕ)
+    → n < 100
+    → text ≡ decimal n ++ t
+    → isDigit (getD t 0 0) ≡ false
+    → (numberIn text ≡ n) × (drop (digitsIn text) text ≡ t)
+number-in n text t small e ends =
+    let number = number-read n t small ends in
+    (ap numberIn e ∙ number .0, ap (λ x. drop (digitsIn x) x) e ∙ number .1)
+
 -- An item by its parts.
 abbrev pub item : ℕ → ℕ → ℕ → ℕ → ℕ → Item
 item kind first second third bytes = record { kind = kind; first = first; second = second; third = third; length = bytes }
@@ -84,14 +94,14 @@ module _ (kind r : ℕ) (text t rest : List ℕ) where
       → drop (behind kind) t ≡ rest
       → Reads text kind r 0 0 rest
   one-read is some alone small e ends left =
-      let number = number-read r t small ends in
+      let number = number-in r (drop B text) t small e ends in
       record {
         bytes = B + d + behind kind;
         item-is = item-of-kind kind text is some
             ∙ ap (λ b. cond b (oneNumber kind text) (cond (eqb kind ccx-item) (threeNumbers kind text) (twoNumbers kind text))) alone
-            ∙ ap (λ n. item kind n 0 0 (B + d + behind kind)) (ap numberIn e ∙ number .0);
+            ∙ ap (λ n. item kind n 0 0 (B + d + behind kind)) (number .0);
         rest-is = drop-more (B + d) (behind kind) text
-            ∙ ap (drop (behind kind)) (drop-more B d text ∙ ap (λ s. drop (digitsIn s) s) e ∙ number .1)
+            ∙ ap (drop (behind kind)) (drop-more B d text ∙ number .1)
             ∙ left;
       }
     where
@@ -116,10 +126,9 @@ module _ (kind r : ℕ) (text t rest : List ℕ) where
       → drop (behind kind) u ≡ rest
       → Reads text kind r s 0 rest
   two-read s u is some more two small e ends small′ e′ ends′ left =
-      let number = number-read r t small ends in
-      let number′ = number-read s u small′ ends′ in
-      let second : drop (d + M) (drop B text) ≡ decimal s ++ u
-      = drop-more d M (drop B text) ∙ ap (drop M) (ap (λ x. drop (digitsIn x) x) e ∙ number .1) ∙ e′ in
+      let number = number-in r (drop B text) t small e ends in
+      let second = drop-more d M (drop B text) ∙ ap (drop M) (number .1) ∙ e′ in
+      let number′ = number-in s (drop (d + M) (drop B text)) u small′ second ends′ in
       let sum : B + d + M ≡ B + (d + M) = omega arith in
       record {
         bytes = B + d + M + d′ + behind kind;
@@ -128,15 +137,14 @@ module _ (kind r : ℕ) (text t rest : List ℕ) where
             ∙ ap (λ b. cond b (threeNumbers kind text) (twoNumbers kind text)) two
             ∙ ap₂
             (λ m n. item kind m n 0 (B + d + M + d′ + behind kind))
-            (ap numberIn e ∙ number .0)
-            (ap numberIn second ∙ number′ .0);
+            (number .0)
+            (number′ .0);
         rest-is = drop-more (B + d + M + d′) (behind kind) text
             ∙ ap
             (drop (behind kind))
             (drop-more (B + d + M) d′ text
             ∙ ap (λ k. drop d′ (drop k text)) sum
             ∙ ap (drop d′) (drop-more B (d + M) text)
-            ∙ ap (λ x. drop (digitsIn x) x) second
             ∙ number′ .1)
             ∙ left;
       }
@@ -169,29 +177,25 @@ three-read : (r s q : ℕ) (text t u v rest : List ℕ)
     → Reads text ccx-item r s q rest
 unfolding between
 three-read r s q text t u v rest is small e ends small′ e′ ends′ small″ e″ ends″ left =
-    let number = number-read r t small ends in
-    let number′ = number-read s u small′ ends′ in
-    let number″ = number-read q v small″ ends″ in
-    let second : drop (d + M) (drop B text) ≡ decimal s ++ u
-    = drop-more d M (drop B text) ∙ ap (drop M) (ap (λ x. drop (digitsIn x) x) e ∙ number .1) ∙ e′ in
-    let third : drop (d′ + M) (drop (d + M) (drop B text)) ≡ decimal q ++ v
-    = drop-more d′ M (drop (d + M) (drop B text)) ∙ ap (drop M) (ap (λ x. drop (digitsIn x) x) second ∙ number′ .1) ∙ e″ in
+    let two = drop (d + M) (drop B text) in
+    let number = number-in r (drop B text) t small e ends in
+    let second = drop-more d M (drop B text) ∙ ap (drop M) (number .1) ∙ e′ in
+    let number′ = number-in s two u small′ second ends′ in
+    let third = drop-more d′ M two ∙ ap (drop M) (number′ .1) ∙ e″ in
+    let number″ = number-in q (drop (d′ + M) two) v small″ third ends″ in
     let bytes = B + d + M + d′ + M + d″ + behind ccx-item in
     let sum : B + d + M + d′ + M ≡ B + ((d + M) + (d′ + M)) = omega arith in
     record {
       bytes = bytes;
       item-is = item-of-kind ccx-item text is refl
-          ∙ ap₂ (λ l m. item ccx-item l m (numberIn (drop (d′ + M) (drop (d + M) (drop B text)))) bytes)
-          (ap numberIn e ∙ number .0)
-          (ap numberIn second ∙ number′ .0)
-          ∙ ap (λ n. item ccx-item r s n bytes) (ap numberIn third ∙ number″ .0);
+          ∙ ap₂ (λ l m. item ccx-item l m (numberIn (drop (d′ + M) two)) bytes) (number .0) (number′ .0)
+          ∙ ap (λ n. item ccx-item r s n bytes) (number″ .0);
       rest-is = drop-more (B + d + M + d′ + M + d″) (behind ccx-item) text
           ∙ ap
           (drop (behind ccx-item))
           (drop-more (B + d + M + d′ + M) d″ text
           ∙ ap (λ k. drop d″ (drop k text)) sum
           ∙ ap (drop d″) (drop-more B ((d + M) + (d′ + M)) text ∙ drop-more (d + M) (d′ + M) (drop B text))
-          ∙ ap (λ x. drop (digitsIn x) x) third
           ∙ number″ .1)
           ∙ left;
     }
@@ -287,7 +291,7 @@ name-at r text t small e ends =
     ∙ sym (getD-drop (4 + d) text 5 0)
     ∙ ap
     (λ l. getD l 5 0)
-    (drop-more 4 d text ∙ ap (λ l. drop (digitsIn l) l) e ∙ number-read r t small ends .1)
+    (drop-more 4 d text ∙ number-in r (drop 4 text) t small e ends .1)
 
 -- The line of a gate is read: its number, and the registers of the wires that it takes.
 pub record GateReads (n : ℕ) (rs rest : List ℕ) : Type 0 where
@@ -319,92 +323,58 @@ gate-reads n rs rest known written small = of n known written
     last : (q : ℕ) → (decimal q ++ end) ++ rest ≡ decimal q ++ (end ++ rest)
     last q = append-assoc (decimal q) end rest
 
+    read-as : (m x y : ℕ)
+        → Reads (gateLine m rs ++ rest) m r x y rest
+        → take (wiresIn m) (r ∷ x ∷ y ∷ []) ≡ take (wiresIn m) (each (λ k. getD rs k 0) entry-slots)
+        → GateReads m rs rest
+    read-as m x y reads registers = record { second = x; third = y; reads = reads; registers = registers }
+
     of : (m : ℕ) → IsTrue (isGate m) → IsTrue (hasStatement m) → GateReads m rs rest
     of zero g h =
-        record {
-          second = 0;
-          third = 0;
-          reads = one-read 0 r _ (end ++ rest) rest refl refl refl (small 0) (last r) refl refl;
-          registers = refl;
-        }
+        read-as 0 0 0 (one-read 0 r _ (end ++ rest) rest refl refl refl (small 0) (last r) refl refl) refl
     of (suc zero) g h =
-        record {
-          second = 0;
-          third = 0;
-          reads = one-read 1 r _ (end ++ rest) rest refl refl refl (small 0) (last r) refl refl;
-          registers = refl;
-        }
+        read-as 1 0 0 (one-read 1 r _ (end ++ rest) rest refl refl refl (small 0) (last r) refl refl) refl
     of (suc (suc zero)) g h =
-        record {
-          second = 0;
-          third = 0;
-          reads = one-read 2 r _ (end ++ rest) rest refl refl refl (small 0) (last r) refl refl;
-          registers = refl;
-        }
+        read-as 2 0 0 (one-read 2 r _ (end ++ rest) rest refl refl refl (small 0) (last r) refl refl) refl
     of (suc (suc (suc zero))) g h =
-        record {
-          second = 0;
-          third = 0;
-          reads = one-read 3 r _ (end ++ rest) rest refl refl refl (small 0) (last r) refl refl;
-          registers = refl;
-        }
+        read-as 3 0 0 (one-read 3 r _ (end ++ rest) rest refl refl refl (small 0) (last r) refl refl) refl
     of (suc (suc (suc (suc zero)))) g h =
-        record {
-          second = 0;
-          third = 0;
-          reads = one-read 4 r _ (end ++ rest) rest refl refl refl (small 0) (last r) refl refl;
-          registers = refl;
-        }
+        read-as 4 0 0 (one-read 4 r _ (end ++ rest) rest refl refl refl (small 0) (last r) refl refl) refl
     of (suc (suc (suc (suc (suc zero))))) g h =
         let t = ascii "[0],q" ++ (decimal s ++ end) in
-        record {
-          second = s;
-          third = 0;
-          reads = two-read 5 r _ (t ++ rest) rest s (end ++ rest) refl refl refl refl (small 0)
-              (append-assoc (decimal r) t rest) refl (small 1) (last s) refl refl;
-          registers = refl;
-        }
+        read-as 5 s 0
+        (two-read 5 r _ (t ++ rest) rest s (end ++ rest) refl refl refl refl (small 0) (append-assoc (decimal r) t rest) refl
+        (small 1) (last s) refl refl)
+        refl
     of (suc (suc (suc (suc (suc (suc zero)))))) g h =
         let t = ascii "[0] -> c" ++ (decimal r ++ end) in
-        record {
-          second = r;
-          third = 0;
-          reads = two-read 6 r _ (t ++ rest) rest r (end ++ rest) refl refl refl refl (small 0)
-              (append-assoc (decimal r) t rest) refl (small 0) (last r) refl refl;
-          registers = refl;
-        }
+        read-as 6 r 0
+        (two-read 6 r _ (t ++ rest) rest r (end ++ rest) refl refl refl refl (small 0) (append-assoc (decimal r) t rest) refl
+        (small 0) (last r) refl refl)
+        refl
     of (suc (suc (suc (suc (suc (suc (suc zero))))))) g h =
         let t = ascii "==1) x q" ++ (decimal s ++ end) in
         let first = append-assoc (decimal r) t rest in
-        record {
-          second = s;
-          third = 0;
-          reads = two-read 7 r _ (t ++ rest) rest s (end ++ rest)
-              (ap (kindOf 105 102) (name-at r (gateLine 7 rs ++ rest) (t ++ rest) (small 0) first refl))
-              refl refl refl (small 0) first refl (small 1) (last s) refl refl;
-          registers = refl;
-        }
+        let named = name-at r (gateLine 7 rs ++ rest) (t ++ rest) (small 0) first refl in
+        read-as 7 s 0
+        (two-read 7 r _ (t ++ rest) rest s (end ++ rest) (ap (kindOf 105 102) named) refl refl refl (small 0) first refl (small 1)
+        (last s) refl refl)
+        refl
     of (suc (suc (suc (suc (suc (suc (suc (suc zero)))))))) g h =
         let t = ascii "==1) z q" ++ (decimal s ++ end) in
         let first = append-assoc (decimal r) t rest in
-        record {
-          second = s;
-          third = 0;
-          reads = two-read 8 r _ (t ++ rest) rest s (end ++ rest)
-              (ap (kindOf 105 102) (name-at r (gateLine 8 rs ++ rest) (t ++ rest) (small 0) first refl))
-              refl refl refl (small 0) first refl (small 1) (last s) refl refl;
-          registers = refl;
-        }
+        let named = name-at r (gateLine 8 rs ++ rest) (t ++ rest) (small 0) first refl in
+        read-as 8 s 0
+        (two-read 8 r _ (t ++ rest) rest s (end ++ rest) (ap (kindOf 105 102) named) refl refl refl (small 0) first refl (small 1)
+        (last s) refl refl)
+        refl
     of (suc (suc (suc (suc (suc (suc (suc (suc (suc zero))))))))) g h = absurd h
     of (suc (suc (suc (suc (suc (suc (suc (suc (suc (suc zero)))))))))) g h = absurd h
     of (suc (suc (suc (suc (suc (suc (suc (suc (suc (suc (suc zero))))))))))) g h =
         let u = ascii "[0],q" ++ (decimal q ++ end) in
         let t = ascii "[0],q" ++ (decimal s ++ u) in
-        record {
-          second = s;
-          third = q;
-          reads = three-read r s q _ (t ++ rest) (u ++ rest) (end ++ rest) rest refl (small 0) (append-assoc (decimal r) t rest) refl
-              (small 1) (append-assoc (decimal s) u rest) refl (small 2) (last q) refl refl;
-          registers = refl;
-        }
+        read-as 11 s q
+        (three-read r s q _ (t ++ rest) (u ++ rest) (end ++ rest) rest refl (small 0) (append-assoc (decimal r) t rest) refl
+        (small 1) (append-assoc (decimal s) u rest) refl (small 2) (last q) refl refl)
+        refl
     of (suc (suc (suc (suc (suc (suc (suc (suc (suc (suc (suc (suc m)))))))))))) g h = absurd g

@@ -1,5 +1,5 @@
--- Items by computation: a gate on one qubit, one on two, one on three, a measurement and a gate on a Bit and a Qubit; the declarations of a
--- Qubit, which are one item, and of a Bit; the name of an output; and where the text ends.
+-- Items by computation: a gate on one qubit, one on two, one on three, a measurement and a gate on a Bit and a Qubit; the declarations
+-- of a Qubit, which are one item, and of a Bit; the name of an output; and where the text ends.
 use mathlib.Core.Path.{_≡_, refl}
 use mathlib.Core.List.{[]}
 use Rattle.text.specs.Text.{ascii}
