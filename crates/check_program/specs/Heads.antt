@@ -6,9 +6,6 @@ use Rattle.rules.specs.Kinds.{apply-kind}
 use Rattle.rules.specs.Types.{Ty}
 use Rattle.rules.specs.Inference.{asPair, asReusable, abstractionType, applicationType, pairType, liftType, boxType}
 use Rattle.rules.specs.Inference.{applyType}
-use Rattle.program.specs.Format.{termShape}
-use Rattle.program.specs.declared.format.Shape.{Shape}
-use Rattle.program.specs.declared.format.Shape.the-variants.{Node, Unknown}
 use Rattle.check_program.specs.Checking.{earlier, if-so, usedWrongly}
 
 -- A node of one part, without its part.
@@ -62,11 +59,3 @@ misuseAtLet of-application A count count′ e = none
 misuseAtLet of-pair A count count′ e = none
 misuseAtLet of-let A count count′ e = ownHalves (asPair A) count count′ e
 misuseAtLet of-apply A count count′ e = none
-
--- How many parts an entry of a kind has.
-abbrev pub partsOf : Shape → ℕ
-partsOf (Node parts argument) = parts
-partsOf Unknown = 0
-
-unfoldable pub partCount : ℕ → ℕ
-partCount k = partsOf (termShape k)

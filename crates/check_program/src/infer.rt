@@ -9,17 +9,17 @@ use crate::node::binders_inside;
 use crate::node::finish_one;
 use crate::node::finish_two;
 use crate::node::lifts_inside;
-use crate::node::part_count;
 use check_types::CELL_OF_UNIT;
 use check_types::gate_cell;
 use program::format::argument_at;
 use program::format::kind_at;
 use rules::kinds::GATE;
 use rules::kinds::UNIT_VALUE;
+use rules::parts::parts_of_kind;
 ghost use mathlib.Core.Path.{_≡_};
+ghost use Rattle.rules.specs.Parts.{partsOfKind};
 ghost use Rattle.words.specs.Words.{words};
 ghost use Rattle.program.specs.Format.{kindAt};
-ghost use Rattle.check_program.specs.Heads.{partCount};
 ghost use Rattle.check_program.specs.Inferring.{Possible, Meets};
 
 // A variable, a label, a gate or unit's value at entry e.
@@ -31,7 +31,7 @@ pub(crate) fn leaf(
     lifts: usize,
     cells: usize,
 ) -> Inferred
-    requires { ⌜ Possible (now file) (words (now work)) e binders lifts cells × (partCount (kindAt (now file) e) ≡ 0) ⌝ }
+    requires { ⌜ Possible (now file) (words (now work)) e binders lifts cells × (partsOfKind (kindAt (now file) e) ≡ 0) ⌝ }
     ensures { λ r. ⌜ Meets (now (file .entry)) (words (now (work .entry))) (words (now (work .exit))) e binders lifts cells r ⌝ }
 {
     let kind = kind_at(file, e);
@@ -71,7 +71,7 @@ pub(crate) fn infer(
     ensures { λ r. ⌜ Meets (now (file .entry)) (words (now (work .entry))) (words (now (work .exit))) e binders lifts cells r ⌝ }
 {
     let kind = kind_at(file, e);
-    let parts = part_count(kind);
+    let parts = parts_of_kind(kind);
     if parts == 0 {
         return leaf(file, work, e, binders, lifts, cells);
     }

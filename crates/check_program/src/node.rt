@@ -11,9 +11,7 @@ use check_types::box_type;
 use check_types::force_type;
 use check_types::lift_type;
 use check_types::pair_type;
-use program::format::Shape;
 use program::format::kind_at;
-use program::format::term_shape;
 use rules::kinds::ABSTRACTION;
 use rules::kinds::APPLICATION;
 use rules::kinds::APPLY;
@@ -25,21 +23,9 @@ ghost use mathlib.Core.Path.{_≡_};
 ghost use Prim.Native.Nat.{_≤_, _<_};
 ghost use Rattle.words.specs.Words.{words};
 ghost use Rattle.check_program.specs.Layout.{most-binders};
-ghost use Rattle.check_program.specs.Heads.{partCount};
 ghost use Rattle.check_program.specs.Inferring.{RightLength, bindersInside, liftsInside, bindersAfter, sooner, concludes};
 ghost use Rattle.check_program.specs.Inferring.{SaysOneRule, SaysMisuseAtAbstraction, EndsOne, SaysTwoRule};
 ghost use Rattle.check_program.specs.Inferring.{SaysMisuseAtLet, EndsTwo};
-
-// How many parts an entry of a kind has.
-pub(crate) fn part_count(kind: usize) -> usize
-    ensures { λ r. ⌜ r ≡ partCount kind ⌝ }
-{
-    let shape = term_shape(kind);
-    match shape {
-        Shape::Node { parts, argument: _ } => parts,
-        Shape::Unknown => 0,
-    }
-}
 
 // The binders around the first part of a node.
 pub(crate) fn binders_inside(kind: usize, binders: usize) -> usize

@@ -40,10 +40,6 @@ cellSize w i = getD w (4 * i + 3) 0 % copyable-mark
 abbrev pub cellCopyable : List ℕ → ℕ → Bool
 cellCopyable w i = leb copyable-mark (getD w (4 * i + 3) 0)
 
--- Has the type of this kind parts? Pair, function, reusable and circuit, whose kinds stand in a row; Bit, Qubit and unit have none.
-abbrev pub hasParts : ℕ → Bool
-hasParts kind = leb pair-type-kind kind && leb kind circuit-kind
-
 -- May the type of this kind, whose parts are the types of cells a and b, be copied and dropped? By its kind (01: "the reusable
 -- kind and Circ"; 02, ticket 5, unit), these being the last kinds; a pair by both halves (02, ticket 2).
 abbrev pub copyableFrom : List ℕ → ℕ → ℕ → ℕ → Bool

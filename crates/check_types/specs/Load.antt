@@ -5,8 +5,8 @@ use mathlib.Core.Bool.{Bool, true, false}
 use mathlib.Core.List.{List}
 use lib.ListN.{length, getD}
 use lib.Dec.{eqb}
-use Rattle.rules.specs.Kinds.{reusable-kind}
-use Rattle.check_types.specs.Cells.{marked, cellSize, hasParts, copyableFrom}
+use Rattle.rules.specs.Parts.{partsOfKind}
+use Rattle.check_types.specs.Cells.{marked, cellSize, copyableFrom}
 use Rattle.check_types.specs.NewCell.{withCell}
 
 abbrev pub pick : Bool → ℕ → ℕ → ℕ
@@ -20,12 +20,13 @@ firstBehind n = n - 1
 abbrev pub secondBehind : List ℕ → ℕ → ℕ
 secondBehind w n = firstBehind n - cellSize w (firstBehind n)
 
+-- The entries of a type with so many parts, whose first and second have so many entries.
+abbrev pub sizeWith : ℕ → ℕ → ℕ → ℕ
+sizeWith parts first second = pick (eqb parts 0) 1 (pick (eqb parts 1) (1 + first) (1 + first + second))
+
 -- The entries of the type of this kind whose parts are the cells behind.
 unfoldable pub entrySize : List ℕ → ℕ → ℕ → ℕ
-entrySize w n kind =
-    pick (hasParts kind)
-    (pick (eqb kind reusable-kind) (1 + cellSize w (firstBehind n)) (1 + cellSize w (firstBehind n) + cellSize w (secondBehind w n)))
-    1
+entrySize w n kind = sizeWith (partsOfKind kind) (cellSize w (firstBehind n)) (cellSize w (secondBehind w n))
 
 -- The fourth word of its cell.
 abbrev pub entryWord : List ℕ → ℕ → ℕ → ℕ

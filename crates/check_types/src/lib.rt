@@ -10,6 +10,7 @@ use rules::kinds::PAIR_TYPE;
 use rules::kinds::QUBIT;
 use rules::kinds::REUSABLE;
 use rules::kinds::UNIT;
+use rules::parts::parts_of_kind;
 use rules::sizes::MOST_ENTRIES;
 use rules::wide;
 use words::quadwords::put_quadword;
@@ -23,7 +24,7 @@ ghost use Rattle.rules.specs.Types.{Ty, copyable};
 ghost use Rattle.rules.specs.Inference.{asPair, asReusable, abstractionType, applicationType, pairType, liftType, boxType};
 ghost use Rattle.rules.specs.Inference.{applyType};
 ghost use Rattle.check_types.specs.Cells.{copyable-mark, marked, cellKind, cellFirst, cellSecond, cellSize, cellCopyable};
-ghost use Rattle.check_types.specs.Cells.{hasParts, copyableFrom, Denotes, MeetsOne, MeetsTwo};
+ghost use Rattle.check_types.specs.Cells.{copyableFrom, Denotes, MeetsOne, MeetsTwo};
 ghost use Rattle.check_types.specs.Cells.{PartsGiven, PartsAre, cellOfTwo, cellOfReusable, afterRule};
 ghost use Rattle.check_types.specs.Compare.{shareOf, SaysSame, SaysWireType};
 ghost use Rattle.check_types.specs.Rules.{SaysSameType, SaysIsWireType, MakesTwo, GivesResult, SaysBox};
@@ -105,16 +106,6 @@ pub fn new_cell(work: &mut [u8], n: usize, kind: usize, first: usize, second: us
     put_quadword(work, n, kind, first, second, word);
 }
 
-// Has the type of this kind parts?
-fn has_parts(kind: usize) -> bool
-    ensures { λ r. ⌜ r ≡ hasParts kind ⌝ }
-{
-    if kind < PAIR_TYPE {
-        return false;
-    }
-    kind <= CIRCUIT
-}
-
 // How many of the entries that are left a cell may have: as many as its quadword says, at most all.
 fn share(work: &[u8], i: usize, left: usize) -> usize
     ensures { λ r. ⌜ r ≡ shareOf (words (now (work .entry))) i left ⌝ }
@@ -138,7 +129,8 @@ fn same_within(work: &[u8], i: usize, j: usize, most: usize) -> bool
     if kind != cell_kind(work, j) {
         return false;
     }
-    if !has_parts(kind) {
+    let parts = parts_of_kind(kind);
+    if parts == 0 {
         return true;
     }
     if most == 0 {
@@ -149,7 +141,7 @@ fn same_within(work: &[u8], i: usize, j: usize, most: usize) -> bool
     if !same_within(work, first, cell_first(work, j), size) {
         return false;
     }
-    if kind == REUSABLE {
+    if parts == 1 {
         return true;
     }
     same_within(
@@ -172,7 +164,7 @@ fn wire_type_within(work: &[u8], i: usize, most: usize) -> bool
     ensures { λ r. ⌜ SaysWireType (words (now (work .entry))) most i r ⌝ }
 {
     let kind = cell_kind(work, i);
-    if !has_parts(kind) {
+    if parts_of_kind(kind) == 0 {
         return true;
     }
     if kind != PAIR_TYPE {
@@ -380,12 +372,13 @@ fn entry_size(work: &[u8], n: usize, kind: usize) -> usize
     ensures { λ r. ⌜ r ≡ entrySize (words (now (work .entry))) n kind ⌝ }
     ensures { λ r. ⌜ r < 65536 ⌝ }
 {
-    if !has_parts(kind) {
+    let parts = parts_of_kind(kind);
+    if parts == 0 {
         return 1;
     }
     let first = saturating_sub(n, 1);
     let size = cell_size(work, first);
-    if kind == REUSABLE {
+    if parts == 1 {
         return 1 + size;
     }
     1 + size + cell_size(work, saturating_sub(first, size))
@@ -492,7 +485,8 @@ fn write_at(work: &[u8], i: usize, out: &mut [u8], at: usize, most: usize) -> us
     }
     let kind = cell_kind(work, i);
     out[at] = (kind % 256) as u8;
-    if !has_parts(kind) {
+    let parts = parts_of_kind(kind);
+    if parts == 0 {
         return at + 1;
     }
     if most == 0 {
@@ -501,7 +495,7 @@ fn write_at(work: &[u8], i: usize, out: &mut [u8], at: usize, most: usize) -> us
     let first = cell_first(work, i);
     let size = share(work, first, most - 1);
     let next = write_at(work, first, out, at + 1, size);
-    if kind == REUSABLE {
+    if parts == 1 {
         return next;
     }
     write_at(work, cell_second(work, i), out, next, most - 1 - size)

@@ -1,14 +1,16 @@
 -- Label tuples as nodes, as the words of a result, and as the tuple of a type's wires.
-use Prim.Native.Nat.{ℕ, zero, suc, _+_, _%_}
+use Prim.Native.Nat.{ℕ, _+_, _%_}
 use mathlib.Core.Bool.{cond}
 use mathlib.Core.List.{List, [], _∷_, _++_}
 use lib.Dec.{eqb}
 use lib.ListN.{take, drop}
 use Rattle.rules.specs.Kinds.{pair-type-kind, label-kind, pair-kind, unit-kind, unit-value-kind}
+use Rattle.rules.specs.Parts.{partsOfKind}
 use Rattle.rules.specs.Circuits.{rename}
 use Rattle.rules.specs.Gates.{gateType}
 use Rattle.rules.specs.GateCodes.{circCodes}
 use Rattle.machine_terms.specs.Trees.{Node, node, kind, argument}
+use Rattle.machine_nodes.specs.Spans.{spanBy}
 use Rattle.rules.specs.Slots.{no-wire}
 use Rattle.machine_circuits.specs.declared.tuples.Source.{Source}
 use Rattle.machine_circuits.specs.declared.tuples.Source.the-variants.{Section, Gate}
@@ -52,8 +54,6 @@ abbrev pub codesOf : List ℕ → Source → List ℕ
 codesOf ws Section = ws
 codesOf ws (Gate n) = circCodes (gateType n)
 
--- How many codes so many wire types take that stand one behind the other; all codes where they run out before.
-unfoldable pub codeSpan : List ℕ → ℕ → ℕ
-codeSpan [] waiting = zero
-codeSpan (c ∷ cs) zero = zero
-codeSpan (c ∷ cs) (suc waiting) = suc (codeSpan cs (cond (eqb c pair-type-kind) (suc (suc waiting)) waiting))
+-- How many codes so many types take that stand one behind the other; all codes where they run out before.
+abbrev pub codeSpan : List ℕ → ℕ → ℕ
+codeSpan cs waiting = spanBy ℕ partsOfKind cs waiting

@@ -8,6 +8,7 @@ use rules::kinds::PAIR;
 use rules::kinds::PAIR_TYPE;
 use rules::kinds::UNIT;
 use rules::kinds::UNIT_VALUE;
+use rules::parts::parts_of_kind;
 use rules::sizes::MOST_TYPES;
 use rules::slots::NO_WIRE;
 use words::runs_past;
@@ -178,7 +179,7 @@ fn code_in(types: &[u8], source: Source, i: usize) -> usize
     }
 }
 
-// Where the wire type at a position ends: behind each pair one more type waits.
+// Where the type at a position ends: behind each entry its parts wait, the first of them at hand.
 fn type_end(types: &[u8], source: Source, position: usize) -> usize
     ensures { λ r. ⌜ r ≡ position + codeSpan (drop position (codesOf (words (now (types .entry))) source)) 1 ⌝ }
 {
@@ -186,8 +187,9 @@ fn type_end(types: &[u8], source: Source, position: usize) -> usize
     let mut waiting: usize = 0;
     let mut i: usize = position;
     while i < end {
-        if code_in(types, source, i) == PAIR_TYPE {
-            waiting += 1;
+        let parts = parts_of_kind(code_in(types, source, i));
+        if 0 < parts {
+            waiting += parts - 1;
             i += 1;
         } else if 0 < waiting {
             waiting -= 1;

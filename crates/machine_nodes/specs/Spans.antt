@@ -3,8 +3,16 @@ use Prim.Native.Nat.{ℕ, zero, suc, _+_}
 use mathlib.Core.List.{List, [], _∷_}
 use Rattle.machine_terms.specs.Trees.{Node, kind, parts}
 
--- The nodes that so many parts take; all nodes where they run out before. Each node adds the parts that its kind asks for.
-unfoldable pub span : List Node → ℕ → ℕ
-span [] waiting = zero
-span (n ∷ ns) zero = zero
-span (n ∷ ns) (suc waiting) = suc (span ns (waiting + parts (kind n)))
+-- The elements of a list that so many parts take, where behind each stand as many parts as it asks for; all elements where they run
+-- out before.
+unfoldable pub spanBy : (X : Type 0) → (X → ℕ) → List X → ℕ → ℕ
+spanBy X asked [] waiting = zero
+spanBy X asked (x ∷ xs) zero = zero
+spanBy X asked (x ∷ xs) (suc waiting) = suc (spanBy X asked xs (waiting + asked x))
+
+-- Each node asks for the parts of its kind.
+abbrev pub asked : Node → ℕ
+asked n = parts (kind n)
+
+abbrev pub span : List Node → ℕ → ℕ
+span ns waiting = spanBy Node asked ns waiting

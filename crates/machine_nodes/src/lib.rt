@@ -2,29 +2,29 @@
 // Nothing to believe. nodesIn (specs/Nodes) is the buffer as a list of nodes.
 // Main laws: node-put (specs/Laws/Nodes), nodes-copied (specs/Laws/Bytes), span-tree (specs/Laws/Spans).
 // Called by the walk, the substitution, the steps, loading and the writer of listings.
-use rules::kinds::ABSTRACTION;
-use rules::kinds::APPLICATION;
-use rules::kinds::APPLY;
-use rules::kinds::BOX;
 use rules::kinds::CONSTANT;
-use rules::kinds::FORCE;
-use rules::kinds::GATE;
-use rules::kinds::LABEL;
-use rules::kinds::LET;
-use rules::kinds::LIFT;
-use rules::kinds::PAIR;
 use rules::kinds::UNIT_VALUE;
 use rules::kinds::VARIABLE;
-use words::word_at;
+use rules::parts::parts_of_kind;
 ghost use Prim.Native.Nat.{_+_, _*_, _/_, _<_, _≤_};
 ghost use mathlib.Core.Path.{_≡_};
 ghost use mathlib.Core.List.{[], _∷_};
 ghost use lib.ListN.{length, drop};
+ghost use Rattle.words.specs.Numbers.{wordAt};
 ghost use Rattle.words.specs.Words.{putWords};
 ghost use Rattle.machine_terms.specs.Trees.{kind, argument, parts};
 ghost use Rattle.machine_nodes.specs.Nodes.{nodesIn, nodeAt};
 ghost use Rattle.machine_nodes.specs.Spans.{span};
 ghost use Rattle.machine_nodes.specs.Copying.{copied, copyNodes};
+
+// The word at a byte of a node: no test of the length is left to the compiled code, which reads a node at each move of the walk.
+fn word_of(nodes: &[u8], at: usize) -> usize
+    requires { ⌜ at + 1 < length (now nodes) ⌝ }
+    ensures { λ r. ⌜ r ≡ wordAt (now (nodes .entry)) at ⌝ }
+    ensures { λ r. ⌜ r < 65536 ⌝ }
+{
+    nodes[at] as usize + 256 * (nodes[at + 1] as usize)
+}
 
 // The kind of node i; 0 past the end.
 pub fn kind_at(nodes: &[u8], i: usize) -> usize
@@ -35,7 +35,7 @@ pub fn kind_at(nodes: &[u8], i: usize) -> usize
     if n <= i {
         return 0;
     }
-    word_at(nodes, 4 * i)
+    word_of(nodes, 4 * i)
 }
 
 // The argument of node i; 0 past the end.
@@ -47,7 +47,7 @@ pub fn argument_at(nodes: &[u8], i: usize) -> usize
     if n <= i {
         return 0;
     }
-    word_at(nodes, 4 * i + 2)
+    word_of(nodes, 4 * i + 2)
 }
 
 // Node i becomes this one; past the end nothing changes. The nodes then: node-put of specs/Laws/Nodes.antt.
@@ -70,22 +70,13 @@ pub fn parts_of(kind: usize) -> usize
     ensures { λ r. ⌜ r ≡ parts kind ⌝ }
     ensures { λ r. ⌜ r ≤ 3 ⌝ }
 {
-    match kind {
-        VARIABLE => 0,
-        LABEL => 0,
-        GATE => 0,
-        UNIT_VALUE => 0,
-        CONSTANT => 0,
-        ABSTRACTION => 1,
-        LIFT => 1,
-        FORCE => 1,
-        BOX => 1,
-        APPLICATION => 2,
-        PAIR => 2,
-        LET => 2,
-        APPLY => 2,
-        _ => 3,
+    if kind < VARIABLE {
+        return 3;
     }
+    if kind <= UNIT_VALUE {
+        return parts_of_kind(kind);
+    }
+    if kind == CONSTANT { 0 } else { 3 }
 }
 
 // Where the tree ends that starts at a node: the place behind its last node.

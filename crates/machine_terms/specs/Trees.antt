@@ -1,13 +1,14 @@
 -- Terms as trees of nodes: the form in which the machine keeps them.
 use Prim.Native.Nat.{ℕ, zero, suc, _<_}
 use mathlib.Core.Path.{_≡_}
-use mathlib.Core.Bool.{Bool, true, false, _&&_, _||_, cond}
+use mathlib.Core.Bool.{Bool, true, false, _&&_, cond}
 use mathlib.Core.List.{List, [], _∷_, _++_}
 use mathlib.Core.Option.{Option, none, some}
-use lib.Dec.{eqb}
+use lib.Dec.{eqb, leb}
 use Rattle.rules.specs.Kinds.{variable-kind, label-kind, abstraction-kind, application-kind, pair-kind, let-kind}
-use Rattle.rules.specs.Kinds.{lift-kind, force-kind, box-kind, apply-kind, gate-kind, constant-kind, unit-value-kind}
+use Rattle.rules.specs.Kinds.{lift-kind, force-kind, gate-kind, constant-kind, unit-value-kind}
 use Rattle.rules.specs.Terms.{Tuple, single, both, empty}
+use Rattle.rules.specs.Parts.{partsOfKind}
 use Rattle.rules.specs.Next.{joined}
 
 -- A node: its kind and its argument (01, "Program file").
@@ -63,12 +64,9 @@ pub data TwoKind : Type 0 where
 unfoldable pub twoKind : ℕ → TwoKind
 twoKind k = cond (eqb k application-kind) an-application (cond (eqb k pair-kind) a-pair (cond (eqb k let-kind) a-let an-apply))
 
--- How many parts follow a kind; 3 for a number that is no kind.
+-- How many parts follow a kind: as the table of parts says, and none behind a circuit constant; 3 for a number that is no kind.
 unfoldable pub parts : ℕ → ℕ
-parts k =
-    cond (eqb k variable-kind || eqb k label-kind || eqb k gate-kind || eqb k unit-value-kind || eqb k constant-kind) 0
-    (cond (eqb k abstraction-kind || eqb k lift-kind || eqb k force-kind || eqb k box-kind) 1
-    (cond (eqb k application-kind || eqb k pair-kind || eqb k let-kind || eqb k apply-kind) 2 3))
+parts k = cond (leb variable-kind k && leb k unit-value-kind) (partsOfKind k) (cond (eqb k constant-kind) 0 3)
 
 -- The argument of a circuit constant is the number of a circuit closed so far.
 abbrev pub ConstantFits : LeafKind → ℕ → ℕ → Type 0

@@ -13,11 +13,10 @@ use crate::stack::stack_node;
 use crate::stack::stack_tag;
 use machine_nodes::copy_nodes;
 use machine_nodes::kind_at;
+use machine_nodes::parts_of;
 use machine_nodes::subtree_end;
 use rules::kinds::ABSTRACTION;
 use rules::kinds::APPLICATION;
-use rules::kinds::APPLY;
-use rules::kinds::BOX;
 use rules::kinds::CONSTANT;
 use rules::kinds::FORCE;
 use rules::kinds::GATE;
@@ -40,7 +39,7 @@ ghost use Rattle.machine_terms.specs.Walks.{stopOne};
 ghost use Rattle.machine_nodes.specs.Nodes.{nodesIn};
 ghost use Rattle.words.specs.Quadwords.{Quadword, quadwordsIn};
 ghost use Rattle.machine_walk.specs.Places.{stopOf, Moves, Walks};
-ghost use Rattle.machine_walk.specs.Heads.{headOf};
+ghost use Rattle.machine_walk.specs.Heads.{headWith, headOf};
 ghost use Rattle.machine_walk.specs.Moving.{Falls, stopTwo};
 ghost use Rattle.machine_walk.specs.Functions.{Evaluates, ReturnsTo, headOfTag, MovesStack};
 ghost use Rattle.machine_walk.specs.declared.Head.the-variants.{Value, OnePart, TwoParts};
@@ -92,23 +91,29 @@ enum Head {
     Neither,
 }
 
+// Of a tree that is no value, by the number of its parts.
+fn head_with(parts: usize) -> Head
+    ensures { λ r. ⌜ r ≡ headWith parts ⌝ }
+{
+    match parts {
+        1 => Head::OnePart,
+        2 => Head::TwoParts,
+        _ => Head::Neither,
+    }
+}
+
+// Of a tree whose first node has this kind.
 fn head_of(kind: usize) -> Head
     ensures { λ r. ⌜ r ≡ headOf kind ⌝ }
 {
     match kind {
         LABEL => Head::Value,
         ABSTRACTION => Head::Value,
-        APPLICATION => Head::TwoParts,
-        PAIR => Head::TwoParts,
-        LET => Head::TwoParts,
         LIFT => Head::Value,
-        FORCE => Head::OnePart,
-        BOX => Head::OnePart,
-        APPLY => Head::TwoParts,
         GATE => Head::Value,
         UNIT_VALUE => Head::Value,
         CONSTANT => Head::Value,
-        _ => Head::Neither,
+        _ => head_with(parts_of(kind)),
     }
 }
 

@@ -7,4 +7,5 @@ pub mod WireTests
 pub mod Sections
 pub mod Bytes
 pub mod Scans
+pub mod ArgumentRules
 pub mod TreeTraversal

@@ -2,10 +2,13 @@ pub mod Reach
 pub mod Trees
 pub mod Format
 pub mod Sized
+pub mod ArgumentRules
+pub mod PartsUnder
 pub mod Traversal
 pub mod Reading
 pub mod Failing
 pub mod Encoding
+pub mod Parts
 pub mod CaseFiles
 pub mod Laws
 pub mod Theorems

@@ -3,3 +3,4 @@ pub mod Accepting
 pub mod Unique
 pub mod Encoding
 pub mod Programs
+pub mod Parts

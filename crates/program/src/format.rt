@@ -4,26 +4,22 @@ use rules::kinds::APPLICATION;
 use rules::kinds::APPLY;
 use rules::kinds::BIT;
 use rules::kinds::BOX;
-use rules::kinds::CIRCUIT;
 use rules::kinds::FORCE;
-use rules::kinds::FUNCTION;
 use rules::kinds::GATE;
 use rules::kinds::LABEL;
-use rules::kinds::LET;
-use rules::kinds::LIFT;
-use rules::kinds::PAIR_TYPE;
 use rules::kinds::QUBIT;
-use rules::kinds::REUSABLE;
 use rules::kinds::UNIT;
 use rules::kinds::UNIT_VALUE;
 use rules::kinds::VARIABLE;
+use rules::parts::parts_of_kind;
 use words::byte_at;
 use words::word_at;
 ghost use mathlib.Core.Path.{_≡_};
-ghost use Prim.Native.Nat.{_<_};
-ghost use Rattle.program.specs.Format.{kindAt, argumentAt, labelShape, typeShape, termShape, shapeAt, shapeAllows};
+ghost use Prim.Native.Nat.{_+_, _^_, _<_};
+ghost use Rattle.rules.specs.Parts.{partsOfKind};
+ghost use Rattle.program.specs.Format.{kindAt, argumentAt, labelShape, typeShape, termShape};
+ghost use Rattle.program.specs.ArgumentRules.{ruleOf, ruleAllows, ruleAt, shapeBy};
 ghost use Rattle.program.specs.Format.{entryCount};
-ghost use Rattle.program.specs.Sized.{Sized};
 
 // What an entry's argument must be.
 pub enum Argument {
@@ -38,6 +34,12 @@ pub enum Argument {
 pub enum Shape {
     Node { parts: usize, argument: Argument },
     Unknown,
+}
+
+// The rule for an entry's argument, where its kind is one of its section.
+pub enum Rule {
+    Follows(Argument),
+    NoKind,
 }
 
 // The sizes at the start of a file.
@@ -89,117 +91,83 @@ pub fn argument_at(file: &[u8], e: usize) -> usize
     word_at(file, SIZES + entry_count(file) + 2 * e)
 }
 
-pub(crate) fn label_shape(kind: usize) -> Shape
-    ensures { λ r. ⌜ r ≡ labelShape kind ⌝ }
+// The rule of a kind in each section.
+pub(crate) fn label_rule(kind: usize) -> Rule
+    ensures { λ r. ⌜ r ≡ ruleOf (labelShape kind) ⌝ }
 {
     match kind {
-        BIT..=QUBIT => Shape::Node {
-            parts: 0,
-            argument: Argument::Zero,
-        },
-        _ => Shape::Unknown,
+        BIT..=QUBIT => Rule::Follows(Argument::Zero),
+        _ => Rule::NoKind,
     }
 }
 
-pub(crate) fn type_shape(kind: usize) -> Shape
-    ensures { λ r. ⌜ r ≡ typeShape kind ⌝ }
+pub(crate) fn type_rule(kind: usize) -> Rule
+    ensures { λ r. ⌜ r ≡ ruleOf (typeShape kind) ⌝ }
 {
     match kind {
-        BIT..=QUBIT => Shape::Node {
-            parts: 0,
-            argument: Argument::Zero,
-        },
-        PAIR_TYPE..=FUNCTION => Shape::Node {
-            parts: 2,
-            argument: Argument::Zero,
-        },
-        REUSABLE => Shape::Node {
-            parts: 1,
-            argument: Argument::Zero,
-        },
-        CIRCUIT => Shape::Node {
-            parts: 2,
-            argument: Argument::Zero,
-        },
-        UNIT => Shape::Node {
-            parts: 0,
-            argument: Argument::Zero,
-        },
-        _ => Shape::Unknown,
+        BIT..=UNIT => Rule::Follows(Argument::Zero),
+        _ => Rule::NoKind,
     }
 }
 
-pub fn term_shape(kind: usize) -> Shape
-    ensures { λ r. ⌜ r ≡ termShape kind ⌝ }
+pub(crate) fn term_rule(kind: usize) -> Rule
+    ensures { λ r. ⌜ r ≡ ruleOf (termShape kind) ⌝ }
 {
     match kind {
-        VARIABLE => Shape::Node {
-            parts: 0,
-            argument: Argument::BinderCount,
-        },
-        LABEL => Shape::Node {
-            parts: 0,
-            argument: Argument::LabelNumber,
-        },
-        ABSTRACTION => Shape::Node {
-            parts: 1,
-            argument: Argument::TypePosition,
-        },
-        APPLICATION..=LET => Shape::Node {
-            parts: 2,
-            argument: Argument::Zero,
-        },
-        LIFT..=FORCE => Shape::Node {
-            parts: 1,
-            argument: Argument::Zero,
-        },
-        BOX => Shape::Node {
-            parts: 1,
-            argument: Argument::TypePosition,
-        },
-        APPLY => Shape::Node {
-            parts: 2,
-            argument: Argument::Zero,
-        },
-        GATE => Shape::Node {
-            parts: 0,
-            argument: Argument::GateNumber,
-        },
-        UNIT_VALUE => Shape::Node {
-            parts: 0,
-            argument: Argument::Zero,
-        },
-        _ => Shape::Unknown,
+        VARIABLE => Rule::Follows(Argument::BinderCount),
+        LABEL => Rule::Follows(Argument::LabelNumber),
+        ABSTRACTION => Rule::Follows(Argument::TypePosition),
+        APPLICATION..=FORCE => Rule::Follows(Argument::Zero),
+        BOX => Rule::Follows(Argument::TypePosition),
+        APPLY => Rule::Follows(Argument::Zero),
+        GATE => Rule::Follows(Argument::GateNumber),
+        UNIT_VALUE => Rule::Follows(Argument::Zero),
+        _ => Rule::NoKind,
     }
 }
 
-// The shape of entry e, by its section.
-pub(crate) fn shape_at(file: &[u8], s: Sizes, e: usize) -> Shape
-    requires { ⌜ Sized (now file) s ⌝ }
-    ensures { λ r. ⌜ r ≡ shapeAt (now (file .entry)) e ⌝ }
+// The rule of an entry of this kind, by its section.
+pub(crate) fn rule_at(s: Sizes, e: usize, kind: usize) -> Rule
+    requires { ⌜ s .labels + s .types < 2 ^ 64 ⌝ }
+    ensures { λ r. ⌜ r ≡ ruleAt (s .labels) (s .labels + s .types) e kind ⌝ }
 {
-    let kind = kind_at(file, e);
     if e < s.labels {
-        return label_shape(kind);
+        return label_rule(kind);
     }
     if e < s.labels + s.types {
-        return type_shape(kind);
+        return type_rule(kind);
     }
-    term_shape(kind)
+    term_rule(kind)
 }
 
-// Whether a shape allows an argument.
-pub(crate) fn shape_allows(s: Sizes, shape: Shape, a: usize) -> bool
-    ensures { λ r. ⌜ r ≡ shapeAllows (s .labels) (s .types) shape a ⌝ }
+// Whether a rule allows an argument.
+pub(crate) fn rule_allows(s: Sizes, rule: Rule, a: usize) -> bool
+    ensures { λ r. ⌜ r ≡ ruleAllows (s .labels) (s .types) rule a ⌝ }
 {
-    match shape {
-        Shape::Node { parts: _, argument } => match argument {
+    match rule {
+        Rule::Follows(argument) => match argument {
             Argument::Zero => a == 0,
             Argument::LabelNumber => a < s.labels,
             Argument::GateNumber => rules::is_gate(a),
             Argument::TypePosition => a < s.types,
             Argument::BinderCount => true,
         },
-        Shape::Unknown => false,
+        Rule::NoKind => false,
+    }
+}
+
+// The shape of entry e, which has this kind: its rule, and the parts of the kind. What needs no parts asks for the rule alone, since
+// each lookup in the table of parts builds it.
+pub(crate) fn shape_at(s: Sizes, e: usize, kind: usize) -> Shape
+    requires { ⌜ s .labels + s .types < 2 ^ 64 ⌝ }
+    ensures { λ r. ⌜ r ≡ shapeBy (ruleAt (s .labels) (s .labels + s .types) e kind) (partsOfKind kind) ⌝ }
+{
+    let rule = rule_at(s, e, kind);
+    match rule {
+        Rule::Follows(argument) => Shape::Node {
+            parts: parts_of_kind(kind),
+            argument,
+        },
+        Rule::NoKind => Shape::Unknown,
     }
 }

@@ -1,5 +1,6 @@
 // The reader of program files (01, "Program file" and "When each operation says no", Read).
-// Believe: specs/Format, Traversal and Reading; specs/Encoding has the file of a program, specs/CaseFiles those of c1 to c12.
+// Believe: specs/Format, Traversal and Reading; specs/Encoding has the file of a program, specs/Parts the kinds of types and terms with
+// the number of their parts, specs/CaseFiles the files of c1 to c12.
 // Main theorems: read-sound and read-complete (specs/Theorems/Accepting), a file is accepted exactly if a program stands in it.
 // Called by the check, by loading (the accessors of src/format.rt) and by cabinet.
 pub mod format;

@@ -1,10 +1,11 @@
 // The scan for the first entry at which a test fails (01, refusals 4 to 7), and the tests on single entries (4 and 5).
 use crate::Found;
-use crate::format::Shape;
+use crate::format::Rule;
 use crate::format::Sizes;
 use crate::format::argument_at;
-use crate::format::shape_allows;
-use crate::format::shape_at;
+use crate::format::kind_at;
+use crate::format::rule_allows;
+use crate::format::rule_at;
 use crate::wires::type_wrong;
 use crate::wires::wires_wrong;
 ghost use mathlib.Core.Path.{_≡_};
@@ -27,13 +28,10 @@ pub(crate) fn kind_wrong(file: &[u8], s: Sizes, e: usize) -> bool
     requires { ⌜ Sized (now file) s ⌝ }
     ensures { λ r. ⌜ r ≡ kindWrong (now (file .entry)) e ⌝ }
 {
-    let shape = shape_at(file, s, e);
-    match shape {
-        Shape::Node {
-            parts: _,
-            argument: _,
-        } => false,
-        Shape::Unknown => true,
+    let rule = rule_at(s, e, kind_at(file, e));
+    match rule {
+        Rule::Follows(_) => false,
+        Rule::NoKind => true,
     }
 }
 
@@ -42,9 +40,9 @@ pub(crate) fn argument_wrong(file: &[u8], s: Sizes, e: usize) -> bool
     requires { ⌜ Sized (now file) s ⌝ }
     ensures { λ r. ⌜ r ≡ argumentWrong (now (file .entry)) e ⌝ }
 {
-    let shape = shape_at(file, s, e);
+    let rule = rule_at(s, e, kind_at(file, e));
     let a = argument_at(file, e);
-    !shape_allows(s, shape, a)
+    !rule_allows(s, rule, a)
 }
 
 // Whether a test fails at entry e.

@@ -6,14 +6,15 @@ use rules::kinds::ABSTRACTION;
 use rules::kinds::BIT;
 use rules::kinds::LET;
 use rules::kinds::PAIR_TYPE;
-use rules::kinds::QUBIT;
 use rules::kinds::UNIT;
 use rules::kinds::VARIABLE;
+use rules::parts::parts_of_kind;
 ghost use mathlib.Core.Path.{_≡_};
-ghost use Prim.Native.Nat.{_*_, _<_, _≤_};
-ghost use Rattle.program.specs.Format.{entryCount};
+ghost use Prim.Native.Nat.{_+_, _*_, _^_, _<_, _≤_};
+ghost use Rattle.program.specs.Format.{entryCount, kindAt, shapeAt};
 ghost use Rattle.program.specs.Sized.{Sized};
 ghost use Rattle.program.specs.Reading.{reaches, runsOut};
+ghost use Rattle.program.specs.PartsUnder.{partsUnder};
 ghost use Rattle.program.specs.Traversal.{partsOf, wireParts, scopeParts, partsAt};
 ghost use Rattle.program.specs.Reach.{InReach, TraversedOf};
 
@@ -40,16 +41,23 @@ pub enum Traversed {
     Out,
 }
 
+// So many parts, the last under its own number of binders.
+fn parts_under(parts: usize, binders: usize, last: usize) -> Parts
+    ensures { λ r. ⌜ r ≡ partsUnder parts binders last ⌝ }
+{
+    match parts {
+        0 => Parts::Leaf,
+        1 => Parts::One(last),
+        _ => Parts::Two(binders, last),
+    }
+}
+
 // The parts that follow an entry of this shape, each under the same number of binders.
 pub(crate) fn parts_of(shape: Shape, binders: usize) -> Parts
     ensures { λ r. ⌜ r ≡ partsOf shape binders ⌝ }
 {
     match shape {
-        Shape::Node { parts, argument: _ } => match parts {
-            0 => Parts::Leaf,
-            1 => Parts::One(binders),
-            _ => Parts::Two(binders, binders),
-        },
+        Shape::Node { parts, argument: _ } => parts_under(parts, binders, binders),
         Shape::Unknown => Parts::Stop,
     }
 }
@@ -59,41 +67,43 @@ pub(crate) fn wire_parts(kind: usize) -> Parts
     ensures { λ r. ⌜ r ≡ wireParts kind ⌝ }
 {
     match kind {
-        BIT..=QUBIT => Parts::Leaf,
-        PAIR_TYPE => Parts::Two(0, 0),
-        UNIT => Parts::Leaf,
+        BIT..=PAIR_TYPE => parts_under(parts_of_kind(kind), 0, 0),
+        UNIT => parts_under(parts_of_kind(kind), 0, 0),
         _ => Parts::Stop,
     }
 }
 
 // The parts of a term's entry, with the binders around each; the traversal stops at a variable with no binder.
-pub(crate) fn scope_parts(file: &[u8], s: Sizes, e: usize, binders: usize) -> Parts
-    requires { ⌜ Sized (now file) s × (e < entryCount (now file)) × (binders ≤ 2 * e) ⌝ }
+pub(crate) fn scope_parts(shape: Shape, kind: usize, file: &[u8], e: usize, binders: usize) -> Parts
+    requires { ⌜ (shape ≡ shapeAt (now file) e) × (kind ≡ kindAt (now file) e) × (binders + 2 < 2 ^ 64) ⌝ }
     ensures { λ r. ⌜ r ≡ scopeParts (now (file .entry)) e binders ⌝ }
 {
-    match format::kind_at(file, e) {
+    match kind {
         VARIABLE => {
             if format::argument_at(file, e) < binders {
-                return Parts::Leaf;
+                return parts_under(parts_of_kind(kind), binders, binders);
             }
             Parts::Stop
         }
-        ABSTRACTION => Parts::One(binders + 1),
-        LET => Parts::Two(binders, binders + 2),
-        _ => parts_of(format::shape_at(file, s, e), binders),
+        ABSTRACTION => parts_under(parts_of_kind(kind), binders, binders + 1),
+        LET => parts_under(parts_of_kind(kind), binders, binders + 2),
+        _ => parts_of(shape, binders),
     }
 }
 
-// The parts that entry e waits for, by what the traversal looks at.
+// The parts that entry e waits for, by what the traversal looks at. Its shape is asked for at one place, so that the compiler puts the
+// code for it there.
 pub(crate) fn parts_at(subject: Subject, file: &[u8], s: Sizes, e: usize, binders: usize) -> Parts
     requires { ⌜ Sized (now file) s × (e < entryCount (now file)) × (binders ≤ 2 * e) ⌝ }
     ensures { λ r. ⌜ r ≡ partsAt subject (now (file .entry)) e binders ⌝ }
 {
+    let kind = format::kind_at(file, e);
+    let shape = format::shape_at(s, e, kind);
     match subject {
-        Subject::TypeEnd => parts_of(format::shape_at(file, s, e), binders),
-        Subject::WireType => wire_parts(format::kind_at(file, e)),
-        Subject::TermEnd => parts_of(format::shape_at(file, s, e), binders),
-        Subject::Scope => scope_parts(file, s, e, binders),
+        Subject::TypeEnd => parts_of(shape, binders),
+        Subject::WireType => wire_parts(kind),
+        Subject::TermEnd => parts_of(shape, binders),
+        Subject::Scope => scope_parts(shape, kind, file, e, binders),
     }
 }
 

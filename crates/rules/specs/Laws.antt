@@ -7,3 +7,5 @@ pub mod Substitution
 pub mod Wires
 pub mod Appending
 pub mod KnownGates
+pub mod Ranges
+pub mod Parts

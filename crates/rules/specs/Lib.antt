@@ -4,6 +4,8 @@ pub mod Counting
 pub mod Types
 pub mod Gates
 pub mod Terms
+pub mod Parts
+pub mod PartsColumn
 pub mod Circuits
 pub mod Typing
 pub mod Contexts

@@ -1,9 +1,11 @@
 // The rules of Proto-Quipper-M on trees (000, sections 2 and 3) with the theorems about them, and in code the gates (01, "Gates")
-// as constant tables of arity and type codes, one place a gate, with the sizes and the kinds of 01 by name.
-// Believe: specs/ in 000's order: Types, Gates, Terms, Circuits, Typing, Contexts, Steps; then Sizes, Demand3, Next, Runs.
+// as constant tables of arity and type codes, one place a gate, with the sizes and the kinds of 01 by name and a table of how many
+// parts a kind has (02, ticket 7).
+// Believe: specs/ in 000's order: Types, Gates, Terms, Parts, Circuits, Typing, Contexts, Steps; then Sizes, Demand3, Next, Runs.
 // Main theorem: demand3-from (specs/Theorems/Safety), demand 3 from every configuration that has a type.
-// Called by the reader, the check and apply of a gate; every contract above speaks of these rules.
+// Called by the reader, the check and the machine; every contract above speaks of these rules.
 pub mod kinds;
+pub mod parts;
 pub mod sizes;
 pub mod slots;
 

@@ -4,22 +4,21 @@ use native.Mathlib.Nat.{add-zero}
 use native.Mathlib.Numerals.{add-one, add-two}
 use native.Mathlib.Omega.{arith}
 use mathlib.Core.Path.{_≡_, refl, sym, _∙_, ap, subst}
-use mathlib.Core.Bool.{Bool, true, false, _&&_, cond}
+use mathlib.Core.Bool.{_&&_}
 use mathlib.Core.List.{List, _∷_}
 use mathlib.Core.Option.{Option, none, some, Option·some-ne-none}
-use lib.Dec.{T as IsTrue, eqb}
+use lib.Dec.{T as IsTrue}
 use lib.ListN.{length}
-use Rattle.rules.specs.Kinds.{variable-kind, label-kind, abstraction-kind, application-kind, let-kind, lift-kind}
-use Rattle.rules.specs.Kinds.{force-kind, box-kind, apply-kind, gate-kind, unit-value-kind}
+use Rattle.rules.specs.Kinds.{variable-kind, label-kind}
+use Rattle.rules.specs.Kinds.{gate-kind, unit-value-kind}
+use Rattle.rules.specs.Parts.{partsOfKind}
 use Rattle.rules.specs.Types.{Wire, Ty}
 use Rattle.rules.specs.Terms.{Term, variable, label, gate, unit-value, abstraction, application, pair, let-in, lift, force}
 use Rattle.rules.specs.Terms.{box, apply}
 use Rattle.rules.specs.Sizes.{nodes}
 use Rattle.rules.specs.Inference.{uses, asPair, applicationType, pairType, applyType}
 use Rattle.rules.specs.Laws.Booleans.{and-left, and-right}
-use Rattle.program.specs.Format.{kindAt, argumentAt, termShape, within}
-use Rattle.program.specs.declared.format.Argument.the-variants.{Zero, LabelNumber, GateNumber, TypePosition, BinderCount}
-use Rattle.program.specs.declared.format.Shape.the-variants.{Node, Unknown}
+use Rattle.program.specs.Format.{kindAt, argumentAt}
 use Rattle.program.specs.Trees.{TypeAtPosition, TermAt, variable-at, label-at, abstraction-at, application-at, pair-at}
 use Rattle.program.specs.Trees.{let-at, lift-at, force-at, box-at, apply-at, gate-at, unit-value-at, closedUnder, labelsBelow, gatesKnown}
 use Rattle.check_program.specs.Checking.{Binder, _under_, Checked, typed, fault, earlier, if-so, usedWrongly, followed}
@@ -27,7 +26,7 @@ use Rattle.check_program.specs.Checking.{ruled, twoRuled, checkTerm}
 use Rattle.check_program.specs.Layout.{counted}
 use Rattle.check_program.specs.Heads.{OnePart, of-abstraction, of-lift, of-force, of-box, oneKind, oneRule}
 use Rattle.check_program.specs.Heads.{misuseAtAbstraction, TwoParts, of-application, of-pair, of-let, of-apply}
-use Rattle.check_program.specs.Heads.{twoKind, twoRule, ownHalves, misuseAtLet, partsOf, partCount}
+use Rattle.check_program.specs.Heads.{twoKind, twoRule, ownHalves, misuseAtLet}
 
 abbrev pub one : OnePart → Term → Term
 one (of-abstraction A) M = abstraction A M
@@ -209,50 +208,23 @@ shaped (apply-at k a d e) = shaped-two of-apply k d e
 shaped (gate-at {x = x} k a) = shaped-leaf (of-gate x) k a
 shaped (unit-value-at k a) = shaped-leaf of-unit k a
 
--- At most two.
-pub partCount-most : (k : ℕ) → partCount k ≤ 2
-unfolding partCount termShape
-partCount-most k =
-    rest (eqb k variable-kind) (eqb k label-kind) (eqb k abstraction-kind) (within application-kind let-kind k) (within lift-kind force-kind k) (eqb k box-kind) (eqb k apply-kind)
-    (eqb k gate-kind) (eqb k unit-value-kind)
-  where
-    rest : (a b c d e f g h i : Bool)
-        → partsOf
-        (cond a (Node 0 BinderCount)
-        (cond b (Node 0 LabelNumber)
-        (cond c (Node 1 TypePosition)
-        (cond d (Node 2 Zero)
-        (cond e (Node 1 Zero)
-        (cond f (Node 1 TypePosition)
-        (cond g (Node 2 Zero) (cond h (Node 0 GateNumber) (cond i (Node 0 Zero) Unknown)))))))))
-        ≤ 2
-    rest true b c d e f g h i = omega arith
-    rest false true c d e f g h i = omega arith
-    rest false false true d e f g h i = omega arith
-    rest false false false true e f g h i = omega arith
-    rest false false false false true f g h i = omega arith
-    rest false false false false false true g h i = omega arith
-    rest false false false false false false true h i = omega arith
-    rest false false false false false false false true i = omega arith
-    rest false false false false false false false false true = omega arith
-    rest false false false false false false false false false = omega arith
-
-pub no-parts : (k : ℕ) (l : Leaf) → k ≡ leafKind l → partCount k ≡ 0
-unfolding partCount termShape
+-- How many parts its kind has.
+pub no-parts : (k : ℕ) (l : Leaf) → k ≡ leafKind l → partsOfKind k ≡ 0
+unfolding partsOfKind
 no-parts k (of-variable x) h = rw h
 no-parts k (of-label ℓ) h = rw h
 no-parts k (of-gate g) h = rw h
 no-parts k of-unit h = rw h
 
-pub one-part : (k : ℕ) (h : OnePart) → k ≡ oneKind h → partCount k ≡ 1
-unfolding partCount termShape
+pub one-part : (k : ℕ) (h : OnePart) → k ≡ oneKind h → partsOfKind k ≡ 1
+unfolding partsOfKind
 one-part k (of-abstraction A) h = rw h
 one-part k of-lift h = rw h
 one-part k of-force h = rw h
 one-part k (of-box T) h = rw h
 
-pub two-parts : (k : ℕ) (h : TwoParts) → k ≡ twoKind h → partCount k ≡ 2
-unfolding partCount termShape
+pub two-parts : (k : ℕ) (h : TwoParts) → k ≡ twoKind h → partsOfKind k ≡ 2
+unfolding partsOfKind
 two-parts k of-application h = rw h
 two-parts k of-pair h = rw h
 two-parts k of-let h = rw h

@@ -10,6 +10,7 @@ use lib.Dec.{T as IsTrue, eqb, ltb→lt}
 use lib.ListN.{length, length-set}
 use lib.Seq.{getD-set-same, getD-set-other}
 use borrow.Author.Tests.{eqb-true, eqb-false}
+use Rattle.rules.specs.Parts.{partsOfKind}
 use Rattle.rules.specs.Kinds.{variable-kind, label-kind, gate-kind, unit-value-kind}
 use Rattle.rules.specs.Types.{Wire, wire}
 use Rattle.rules.specs.Gates.{GateType, _to_, nth, gateType, isGate, isSome}
@@ -29,7 +30,6 @@ use Rattle.check_program.specs.Scope.{Binding, typeOf, liftsOf, Kept}
 use Rattle.check_program.specs.Laws.Scope.{kept-less, kept-refl, held-variable, held-label, held-below}
 use Rattle.check_program.specs.Laws.Heads.{of-variable, of-label, of-gate, of-unit, Shaped, shaped-leaf, shaped-one, shaped-two}
 use Rattle.check_program.specs.Laws.Heads.{shaped, no-parts, one-part, two-parts}
-use Rattle.check_program.specs.Heads.{partCount}
 use Rattle.check_program.specs.Inferring.{Ready, Gets, Answered, Possible, Meets, bindingAt, usedOnce, SaysUsed}
 
 gate-there : (o : Option GateType) → IsTrue (isSome o) → (g : GateType) × (o ≡ some g)
@@ -205,7 +205,7 @@ unit-meets f w e binders lifts cells kind L Γ M n ready = go (shaped (ready .te
     go (shaped-two h k d d′) ready =
         absurd (omega (arith, no-parts (kindAt f e) of-unit kind, two-parts (kindAt f e) h k))
 
-module _ (f w : List ℕ) (e binders lifts cells : ℕ) (parts : partCount (kindAt f e) ≡ 0)
+module _ (f w : List ℕ) (e binders lifts cells : ℕ) (parts : partsOfKind (kindAt f e) ≡ 0)
     (no-gate : kindAt f e ≡ gate-kind → ⊥) (no-unit : kindAt f e ≡ unit-value-kind → ⊥) where
   pub binding-meets : (w′ : List ℕ) (r : Inferred)
       → SaysUsed w w′ (bindingAt f e binders) e lifts cells r

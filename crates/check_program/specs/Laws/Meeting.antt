@@ -7,6 +7,7 @@ use mathlib.Core.Bool.{Bool, true, false}
 use mathlib.Core.List.{List}
 use mathlib.Core.Option.{Option, none, some}
 use lib.ListN.{length}
+use Rattle.rules.specs.Parts.{partsOfKind}
 use Rattle.rules.specs.Types.{Wire, Ty}
 use Rattle.rules.specs.Terms.{Term}
 use Rattle.rules.specs.Sizes.{nodes}
@@ -22,7 +23,7 @@ use Rattle.check_program.specs.Laws.Heads.{bindersIn, two, bindersBehind
 use Rattle.check_program.specs.Laws.Heads.{shaped-two, shaped, no-parts, one-part, two-parts, check-two, checkSecond}
 use Rattle.check_program.specs.Laws.Heads.{behind, behind-binders}
 use Rattle.check_program.specs.Heads.{TwoParts, of-application, of-pair, of-let, of-apply, twoKind, twoRule}
-use Rattle.check_program.specs.Heads.{misuseAtLet, partCount}
+use Rattle.check_program.specs.Heads.{misuseAtLet}
 use Rattle.check_program.specs.Inferring.{Ready, Gets, Answered, Possible, Meets, entered, bindersInside, liftsInside}
 use Rattle.check_program.specs.Inferring.{bindersAfter, EndsOne, EndsTwo, SaysBetween, Passed}
 use Rattle.check_program.specs.Laws.Arms.{inside-binders, inside-lifts, entered-one, entered-two, one-ready}
@@ -67,7 +68,7 @@ answered-moved w₂ cells L Γ M n r {w} {w′} {e} {e′} {l} {l′} p q s answ
 module _ {f w : List ℕ} {e binders lifts cells : ℕ} where
   -- The first part of a node is ready.
   first-ready-at : {L : List Wire} {Γ : List Binder} {M : Term} {n : ℕ}
-      → (partCount (kindAt f e) ≡ 0 → ⊥)
+      → (partsOfKind (kindAt f e) ≡ 0 → ⊥)
       → Shaped f e M n
       → Ready f w e binders lifts cells L Γ M n
       → Possible f (entered f w e binders lifts) (e + 1) (bindersInside (kindAt f e) binders)
@@ -99,7 +100,7 @@ module _ {f w : List ℕ} {e binders lifts cells : ℕ} where
   )
 
   pub first-possible : (w₁ : List ℕ)
-      → (partCount (kindAt f e) ≡ 0 → ⊥)
+      → (partsOfKind (kindAt f e) ≡ 0 → ⊥)
       → w₁ ≡ entered f w e binders lifts
       → Possible f w e binders lifts cells
       → Possible f w₁ (e + 1) (bindersInside (kindAt f e) binders) (liftsInside (kindAt f e) lifts) cells
@@ -111,7 +112,7 @@ module _ {f w : List ℕ} {e binders lifts cells : ℕ} where
 
   -- A node of one part answers what the check finds.
   pub one-meets : (w₁ w₂ w₃ : List ℕ) (first r : Inferred)
-      → partCount (kindAt f e) ≡ 1
+      → partsOfKind (kindAt f e) ≡ 1
       → w₁ ≡ entered f w e binders lifts
       → Meets f w₁ w₂ (e + 1) (bindersInside (kindAt f e) binders) (liftsInside (kindAt f e) lifts) cells first
       → EndsOne f w₂ w₃ e binders first r
@@ -139,7 +140,7 @@ module _ {f w : List ℕ} {e binders lifts cells : ℕ} where
 
 -- A node of two parts is nothing else.
 two-only : {f : List ℕ} {e : ℕ} (X : Term → ℕ → Type 0)
-    → partCount (kindAt f e) ≡ 2
+    → partsOfKind (kindAt f e) ≡ 2
     → ((h : TwoParts) (M N : Term) (m n : ℕ)
     → kindAt f e ≡ twoKind h → TermAt f (suc e) M m → TermAt f m N n
     → X (two h M N) n)
@@ -149,7 +150,7 @@ two-only {f} {e} X parts x (shaped-one h k named d) = absurd (omega (arith, one-
 two-only {f} {e} X parts x (shaped-two {M = M} {N = N} {m = m} {n = n} h k d d′) = x h M N m n k d d′
 
 module _ (f w : List ℕ) (e binders lifts cells : ℕ) (w₁ w₂ : List ℕ) (first : Inferred)
-    (parts : partCount (kindAt f e) ≡ 2)
+    (parts : partsOfKind (kindAt f e) ≡ 2)
     (is : w₁ ≡ entered f w e binders lifts)
     (meets : Meets f w₁ w₂ (e + 1) (bindersInside (kindAt f e) binders) (liftsInside (kindAt f e) lifts) cells first) where
   -- What the first part answered, as the check of that part.

@@ -2,35 +2,22 @@
 use Prim.Native.Nat.{ℕ, zero, suc, _+_, _-_, _≤_, _<_}
 use native.Mathlib.Numerals.{add-one}
 use native.Mathlib.Omega.{arith}
-use mathlib.Core.Path.{_≡_, refl, sym, _∙_, ap}
+use mathlib.Core.Path.{_≡_, refl}
 use mathlib.Core.Bool.{true, false, and-false}
 use mathlib.Core.List.{List}
 use borrow.Author.Tests.{lt-ltb, le-ltb, eq-eqb, ne-eqb}
 use Rattle.rules.specs.Kinds.{label-kind, abstraction-kind, let-kind, lift-kind}
 use Rattle.rules.specs.Types.{Ty, copyable}
-use Rattle.program.specs.Format.{kindAt, argumentAt, termShape}
-use Rattle.program.specs.declared.format.Argument.{Argument}
-use Rattle.program.specs.declared.format.Shape.{Shape}
-use Rattle.program.specs.declared.format.Shape.the-variants.{Node, Unknown}
+use Rattle.program.specs.Format.{kindAt, argumentAt}
 use Rattle.check_types.specs.declared.Ruled.{Ruled}
 use Rattle.check_types.specs.declared.Ruled.the-variants.{Gives, Fails}
 use Rattle.check_program.specs.declared.Inferred.the-variants.{Typed, Fault}
 use Rattle.check_program.specs.Checking.{crosses, usedWrongly, if-so}
 use Rattle.check_program.specs.Layout.{typeCell, coded}
 use Rattle.rules.specs.Sizes.{most-labels}
-use Rattle.check_program.specs.Heads.{partCount, partsOf}
 use Rattle.check_program.specs.Inferring.{bindingAt, entered, sooner, concludes, bindersInside, liftsInside}
 use Rattle.check_program.specs.Inferring.{bindersAfter}
 use Rattle.check_program.specs.Scope.{pushed}
-
--- The parts of a kind.
-pub parts-are : (k p : ℕ) (a : Argument) (s : Shape) → s ≡ termShape k → s ≡ Node p a → p ≡ partCount k
-unfolding partCount
-parts-are k p a s q t = ap partsOf (sym t ∙ q)
-
-pub parts-none : (k : ℕ) (s : Shape) → s ≡ termShape k → s ≡ Unknown → 0 ≡ partCount k
-unfolding partCount
-parts-none k s q t = ap partsOf (sym t ∙ q)
 
 -- The binding of a label, and of a variable.
 module _ (f : List ℕ) (e binders n : ℕ) (is : n ≡ argumentAt f e) where

@@ -6,7 +6,8 @@ use mathlib.Core.Path.{sym, _∙_, ap, subst, subst₂}
 use mathlib.Core.Bool.{false}
 use borrow.Author.Tests.{not-true, not-false}
 use Rattle.words.specs.Words.{words}
-use Rattle.check_types.specs.Cells.{cellFirst, cellSecond, hasParts}
+use Rattle.rules.specs.Parts.{partsOfKind}
+use Rattle.check_types.specs.Cells.{cellFirst, cellSecond}
 use Rattle.check_types.specs.Compare.{shareOf, SaysWireType}
 use Rattle.check_types.specs.Laws.Compare.{is-leaf, no-wire, no-wire-entries, first-no-wire, then-second-wire}
 use borrow.Fn.Kinds.{In}
@@ -17,7 +18,7 @@ use Rattle.check_types.proofs.+wire_type_within.Lts-wire_type_within as
 use Rattle.check_types.proofs.cell_first.Reads as cell-first-reads
 use Rattle.check_types.proofs.cell_kind.Reads as cell-kind-reads
 use Rattle.check_types.proofs.cell_second.Reads as cell-second-reads
-use Rattle.check_types.proofs.has_parts.Reads as has-parts-reads
+use Rattle.rules.proofs.parts.parts_of_kind.Reads as parts-of-kind-reads
 use Rattle.check_types.proofs.share.Reads as share-reads
 use Rattle.check_types.proofs.+wire_type_within.{statement}
 use Rattle.check_types.proofs.+wire_type_within.Tie.{close}
@@ -34,8 +35,8 @@ wire-type-within-below t = and 1 wire-type-within-kinds.ps (falls 1 wire-type-wi
 wire-type-within-cell-kind-requires : (t : ℕ) → wire-type-within-lts.Need-cell-kind-requires (
   cell-kind-reads.Asked,
   cell-kind-reads.Learnt,
-  has-parts-reads.Asked,
-  has-parts-reads.Learnt,
+  parts-of-kind-reads.Asked,
+  parts-of-kind-reads.Learnt,
   cell-first-reads.Asked,
   cell-first-reads.Learnt,
   share-reads.Asked,
@@ -47,11 +48,11 @@ wire-type-within-cell-kind-requires : (t : ℕ) → wire-type-within-lts.Need-ce
 ) (wire-type-within-at t) wire-type-within.Post
 wire-type-within-cell-kind-requires t c κs = tt
 
-wire-type-within-has-parts-requires : (t : ℕ) → wire-type-within-lts.Need-has-parts-requires (
+wire-type-within-parts-of-kind-requires : (t : ℕ) → wire-type-within-lts.Need-parts-of-kind-requires (
   cell-kind-reads.Asked,
   cell-kind-reads.Learnt,
-  has-parts-reads.Asked,
-  has-parts-reads.Learnt,
+  parts-of-kind-reads.Asked,
+  parts-of-kind-reads.Learnt,
   cell-first-reads.Asked,
   cell-first-reads.Learnt,
   share-reads.Asked,
@@ -61,13 +62,13 @@ wire-type-within-has-parts-requires : (t : ℕ) → wire-type-within-lts.Need-ha
   cell-second-reads.Asked,
   cell-second-reads.Learnt,
 ) (wire-type-within-at t) wire-type-within.Post
-wire-type-within-has-parts-requires t c κs = tt
+wire-type-within-parts-of-kind-requires t c κs = tt
 
 wire-type-within-returns : (t : ℕ) → wire-type-within-lts.Need-returns (
   cell-kind-reads.Asked,
   cell-kind-reads.Learnt,
-  has-parts-reads.Asked,
-  has-parts-reads.Learnt,
+  parts-of-kind-reads.Asked,
+  parts-of-kind-reads.Learnt,
   cell-first-reads.Asked,
   cell-first-reads.Learnt,
   share-reads.Asked,
@@ -81,13 +82,13 @@ wire-type-within-returns t c =
     let s = c .before .before .before .before .args in
     let w = words (s .work .now) in
     let k = c .before .before .cell-kind .ensures in
-    is-leaf w (s .most) (s .i) (sym (ap hasParts k) ∙ sym (c .before .has-parts .ensures) ∙ not-true _ (c .if1 .taken))
+    is-leaf w (s .most) (s .i) (sym (ap partsOfKind k) ∙ sym (c .before .parts-of-kind .ensures) ∙ c .if1 .taken)
 
 wire-type-within-returns-2 : (t : ℕ) → wire-type-within-lts.Need-returns-2 (
   cell-kind-reads.Asked,
   cell-kind-reads.Learnt,
-  has-parts-reads.Asked,
-  has-parts-reads.Learnt,
+  parts-of-kind-reads.Asked,
+  parts-of-kind-reads.Learnt,
   cell-first-reads.Asked,
   cell-first-reads.Learnt,
   share-reads.Asked,
@@ -101,13 +102,13 @@ wire-type-within-returns-2 t c =
     let s = c .before .before .before .before .before .args in
     let w = words (s .work .now) in
     let k = c .before .before .before .cell-kind .ensures in
-    no-wire w (s .most) (s .i) (sym (ap hasParts k) ∙ sym (c .before .before .has-parts .ensures) ∙ not-false _ (c .before .if1 .left)) λ e. c .if2 .taken (k ∙ e)
+    no-wire w (s .most) (s .i) (λ e. c .before .if1 .left (c .before .before .parts-of-kind .ensures ∙ ap partsOfKind k ∙ e)) λ e. c .if2 .taken (k ∙ e)
 
 wire-type-within-returns-3 : (t : ℕ) → wire-type-within-lts.Need-returns-3 (
   cell-kind-reads.Asked,
   cell-kind-reads.Learnt,
-  has-parts-reads.Asked,
-  has-parts-reads.Learnt,
+  parts-of-kind-reads.Asked,
+  parts-of-kind-reads.Learnt,
   cell-first-reads.Asked,
   cell-first-reads.Learnt,
   share-reads.Asked,
@@ -125,8 +126,8 @@ wire-type-within-returns-3 t c =
 wire-type-within-cell-first-requires : (t : ℕ) → wire-type-within-lts.Need-cell-first-requires (
   cell-kind-reads.Asked,
   cell-kind-reads.Learnt,
-  has-parts-reads.Asked,
-  has-parts-reads.Learnt,
+  parts-of-kind-reads.Asked,
+  parts-of-kind-reads.Learnt,
   cell-first-reads.Asked,
   cell-first-reads.Learnt,
   share-reads.Asked,
@@ -141,8 +142,8 @@ wire-type-within-cell-first-requires t c κs = tt
 wire-type-within-sub-share : (t : ℕ) → wire-type-within-lts.Need-sub-share (
   cell-kind-reads.Asked,
   cell-kind-reads.Learnt,
-  has-parts-reads.Asked,
-  has-parts-reads.Learnt,
+  parts-of-kind-reads.Asked,
+  parts-of-kind-reads.Learnt,
   cell-first-reads.Asked,
   cell-first-reads.Learnt,
   share-reads.Asked,
@@ -157,8 +158,8 @@ wire-type-within-sub-share t c = omega (arith, c .before .if3 .left)
 wire-type-within-share-requires : (t : ℕ) → wire-type-within-lts.Need-share-requires (
   cell-kind-reads.Asked,
   cell-kind-reads.Learnt,
-  has-parts-reads.Asked,
-  has-parts-reads.Learnt,
+  parts-of-kind-reads.Asked,
+  parts-of-kind-reads.Learnt,
   cell-first-reads.Asked,
   cell-first-reads.Learnt,
   share-reads.Asked,
@@ -173,8 +174,8 @@ wire-type-within-share-requires t c κs = tt
 wire-type-within-wire-type-within-requires : (t : ℕ) → wire-type-within-lts.Need-wire-type-within-requires (
   cell-kind-reads.Asked,
   cell-kind-reads.Learnt,
-  has-parts-reads.Asked,
-  has-parts-reads.Learnt,
+  parts-of-kind-reads.Asked,
+  parts-of-kind-reads.Learnt,
   cell-first-reads.Asked,
   cell-first-reads.Learnt,
   share-reads.Asked,
@@ -189,8 +190,8 @@ wire-type-within-wire-type-within-requires t c κs = (omega (arith, c .before .b
 wire-type-within-returns-4 : (t : ℕ) → wire-type-within-lts.Need-returns-4 (
   cell-kind-reads.Asked,
   cell-kind-reads.Learnt,
-  has-parts-reads.Asked,
-  has-parts-reads.Learnt,
+  parts-of-kind-reads.Asked,
+  parts-of-kind-reads.Learnt,
   cell-first-reads.Asked,
   cell-first-reads.Learnt,
   share-reads.Asked,
@@ -212,8 +213,8 @@ wire-type-within-returns-4 t c =
 wire-type-within-cell-second-requires : (t : ℕ) → wire-type-within-lts.Need-cell-second-requires (
   cell-kind-reads.Asked,
   cell-kind-reads.Learnt,
-  has-parts-reads.Asked,
-  has-parts-reads.Learnt,
+  parts-of-kind-reads.Asked,
+  parts-of-kind-reads.Learnt,
   cell-first-reads.Asked,
   cell-first-reads.Learnt,
   share-reads.Asked,
@@ -228,8 +229,8 @@ wire-type-within-cell-second-requires t c κs = tt
 wire-type-within-sub-wire-type-within : (t : ℕ) → wire-type-within-lts.Need-sub-wire-type-within (
   cell-kind-reads.Asked,
   cell-kind-reads.Learnt,
-  has-parts-reads.Asked,
-  has-parts-reads.Learnt,
+  parts-of-kind-reads.Asked,
+  parts-of-kind-reads.Learnt,
   cell-first-reads.Asked,
   cell-first-reads.Learnt,
   share-reads.Asked,
@@ -244,8 +245,8 @@ wire-type-within-sub-wire-type-within t c = omega (arith, c .before .before .bef
 wire-type-within-sub-wire-type-within-2 : (t : ℕ) → wire-type-within-lts.Need-sub-wire-type-within-2 (
   cell-kind-reads.Asked,
   cell-kind-reads.Learnt,
-  has-parts-reads.Asked,
-  has-parts-reads.Learnt,
+  parts-of-kind-reads.Asked,
+  parts-of-kind-reads.Learnt,
   cell-first-reads.Asked,
   cell-first-reads.Learnt,
   share-reads.Asked,
@@ -260,8 +261,8 @@ wire-type-within-sub-wire-type-within-2 t c = omega (arith, c .before .before .b
 wire-type-within-wire-type-within-requires-2 : (t : ℕ) → wire-type-within-lts.Need-wire-type-within-requires-2 (
   cell-kind-reads.Asked,
   cell-kind-reads.Learnt,
-  has-parts-reads.Asked,
-  has-parts-reads.Learnt,
+  parts-of-kind-reads.Asked,
+  parts-of-kind-reads.Learnt,
   cell-first-reads.Asked,
   cell-first-reads.Learnt,
   share-reads.Asked,
@@ -276,8 +277,8 @@ wire-type-within-wire-type-within-requires-2 t c κs = (omega (arith, c .before 
 wire-type-within-returns-5 : (t : ℕ) → wire-type-within-lts.Need-returns-5 (
   cell-kind-reads.Asked,
   cell-kind-reads.Learnt,
-  has-parts-reads.Asked,
-  has-parts-reads.Learnt,
+  parts-of-kind-reads.Asked,
+  parts-of-kind-reads.Learnt,
   cell-first-reads.Asked,
   cell-first-reads.Learnt,
   share-reads.Asked,
@@ -303,8 +304,8 @@ pub +wire-type-within-spec : {M : Type 1} → statement M
 +wire-type-within-spec = close μ-wire-type-within λ t. wire-type-within-lts.spec (
   cell-kind-reads.Asked,
   cell-kind-reads.Learnt,
-  has-parts-reads.Asked,
-  has-parts-reads.Learnt,
+  parts-of-kind-reads.Asked,
+  parts-of-kind-reads.Learnt,
   cell-first-reads.Asked,
   cell-first-reads.Learnt,
   share-reads.Asked,
@@ -317,7 +318,7 @@ pub +wire-type-within-spec : {M : Type 1} → statement M
     (wire-type-within-at t)
     wire-type-within.Post
     (wire-type-within-cell-kind-requires t)
-    (wire-type-within-has-parts-requires t)
+    (wire-type-within-parts-of-kind-requires t)
     (wire-type-within-returns t)
     (wire-type-within-returns-2 t)
     (wire-type-within-returns-3 t)

@@ -3,11 +3,11 @@
 use Prim.Native.Nat.{_+_, _-_, _%_, ℕ, _<_}
 use native.Mathlib.Omega.{arith}
 use mathlib.Core.Path.{_≡_, refl, sym, _∙_, ap, subst, subst₂}
-use borrow.Author.Tests.{not-true, not-false}
 use lib.ListN.{length, set, length-set}
 use borrow.Author.Needs.{needs}
 use Rattle.words.specs.Words.{words}
-use Rattle.check_types.specs.Cells.{cellKind, cellFirst, cellSecond, hasParts}
+use Rattle.rules.specs.Parts.{partsOfKind}
+use Rattle.check_types.specs.Cells.{cellKind, cellFirst, cellSecond}
 use Rattle.check_types.specs.Compare.{shareOf}
 use Rattle.check_types.specs.Write.{SaysWroteAt}
 use Rattle.check_types.specs.Laws.Write.{no-room, no-entries, wrote-leaf, wrote-one, wrote-two}
@@ -19,7 +19,7 @@ use Rattle.check_types.proofs.+write_at.Lts-write_at as write-at-lts
 use Rattle.check_types.proofs.cell_first.Reads as cell-first-reads
 use Rattle.check_types.proofs.cell_kind.Reads as cell-kind-reads
 use Rattle.check_types.proofs.cell_second.Reads as cell-second-reads
-use Rattle.check_types.proofs.has_parts.Reads as has-parts-reads
+use Rattle.rules.proofs.parts.parts_of_kind.Reads as parts-of-kind-reads
 use Rattle.check_types.proofs.share.Reads as share-reads
 use Rattle.check_types.proofs.+write_at.{statement}
 use Rattle.check_types.proofs.+write_at.Tie.{close}
@@ -36,8 +36,8 @@ write-at-below t = and 2 write-at-kinds.ps (falls 2 write-at-kinds.ps _<_ μ-wri
 write-at-returns : (t : ℕ) → write-at-lts.Need-returns (
   cell-kind-reads.Asked,
   cell-kind-reads.Learnt,
-  has-parts-reads.Asked,
-  has-parts-reads.Learnt,
+  parts-of-kind-reads.Asked,
+  parts-of-kind-reads.Learnt,
   cell-first-reads.Asked,
   cell-first-reads.Learnt,
   share-reads.Asked,
@@ -56,8 +56,8 @@ write-at-returns t c =
 write-at-cell-kind-requires : (t : ℕ) → write-at-lts.Need-cell-kind-requires (
   cell-kind-reads.Asked,
   cell-kind-reads.Learnt,
-  has-parts-reads.Asked,
-  has-parts-reads.Learnt,
+  parts-of-kind-reads.Asked,
+  parts-of-kind-reads.Learnt,
   cell-first-reads.Asked,
   cell-first-reads.Learnt,
   share-reads.Asked,
@@ -72,8 +72,8 @@ write-at-cell-kind-requires t c κs = tt
 write-at-cast-out : (t : ℕ) → write-at-lts.Need-cast-out (
   cell-kind-reads.Asked,
   cell-kind-reads.Learnt,
-  has-parts-reads.Asked,
-  has-parts-reads.Learnt,
+  parts-of-kind-reads.Asked,
+  parts-of-kind-reads.Learnt,
   cell-first-reads.Asked,
   cell-first-reads.Learnt,
   share-reads.Asked,
@@ -88,8 +88,8 @@ write-at-cast-out t c = omega arith
 write-at-slice-write-out : (t : ℕ) → write-at-lts.Need-slice-write-out (
   cell-kind-reads.Asked,
   cell-kind-reads.Learnt,
-  has-parts-reads.Asked,
-  has-parts-reads.Learnt,
+  parts-of-kind-reads.Asked,
+  parts-of-kind-reads.Learnt,
   cell-first-reads.Asked,
   cell-first-reads.Learnt,
   share-reads.Asked,
@@ -101,11 +101,11 @@ write-at-slice-write-out : (t : ℕ) → write-at-lts.Need-slice-write-out (
 ) (write-at-at t) write-at.Post
 write-at-slice-write-out t c = c .before .if1 .left
 
-write-at-has-parts-requires : (t : ℕ) → write-at-lts.Need-has-parts-requires (
+write-at-parts-of-kind-requires : (t : ℕ) → write-at-lts.Need-parts-of-kind-requires (
   cell-kind-reads.Asked,
   cell-kind-reads.Learnt,
-  has-parts-reads.Asked,
-  has-parts-reads.Learnt,
+  parts-of-kind-reads.Asked,
+  parts-of-kind-reads.Learnt,
   cell-first-reads.Asked,
   cell-first-reads.Learnt,
   share-reads.Asked,
@@ -115,13 +115,13 @@ write-at-has-parts-requires : (t : ℕ) → write-at-lts.Need-has-parts-requires
   cell-second-reads.Asked,
   cell-second-reads.Learnt,
 ) (write-at-at t) write-at.Post
-write-at-has-parts-requires t c κs = tt
+write-at-parts-of-kind-requires t c κs = tt
 
 write-at-add-result : (t : ℕ) → write-at-lts.Need-add-result (
   cell-kind-reads.Asked,
   cell-kind-reads.Learnt,
-  has-parts-reads.Asked,
-  has-parts-reads.Learnt,
+  parts-of-kind-reads.Asked,
+  parts-of-kind-reads.Learnt,
   cell-first-reads.Asked,
   cell-first-reads.Learnt,
   share-reads.Asked,
@@ -136,8 +136,8 @@ write-at-add-result t c = omega (arith, c .before .before .before .if1 .left)
 write-at-same-length : (t : ℕ) → write-at-lts.Need-same-length (
   cell-kind-reads.Asked,
   cell-kind-reads.Learnt,
-  has-parts-reads.Asked,
-  has-parts-reads.Learnt,
+  parts-of-kind-reads.Asked,
+  parts-of-kind-reads.Learnt,
   cell-first-reads.Asked,
   cell-first-reads.Learnt,
   share-reads.Asked,
@@ -152,8 +152,8 @@ write-at-same-length t c = search needs
 write-at-returns-2 : (t : ℕ) → write-at-lts.Need-returns-2 (
   cell-kind-reads.Asked,
   cell-kind-reads.Learnt,
-  has-parts-reads.Asked,
-  has-parts-reads.Learnt,
+  parts-of-kind-reads.Asked,
+  parts-of-kind-reads.Learnt,
   cell-first-reads.Asked,
   cell-first-reads.Learnt,
   share-reads.Asked,
@@ -171,15 +171,15 @@ write-at-returns-2 t c =
       subst
           (λ z. SaysWroteAt w (s .most) (s .i) (s .at) out (set out (s .at) (z % 256)) (s .at + 1))
           (sym k)
-          (wrote-leaf w (s .most) (s .i) (s .at) out (sym (ap hasParts k) ∙ sym (c .before .has-parts .ensures) ∙ not-true _ (c .if2 .taken))),
+          (wrote-leaf w (s .most) (s .i) (s .at) out (sym (ap partsOfKind k) ∙ sym (c .before .parts-of-kind .ensures) ∙ c .if2 .taken)),
       length-set out (s .at) (c .before .before .cell-kind .result % 256),
     )
 
 write-at-add-result-2 : (t : ℕ) → write-at-lts.Need-add-result-2 (
   cell-kind-reads.Asked,
   cell-kind-reads.Learnt,
-  has-parts-reads.Asked,
-  has-parts-reads.Learnt,
+  parts-of-kind-reads.Asked,
+  parts-of-kind-reads.Learnt,
   cell-first-reads.Asked,
   cell-first-reads.Learnt,
   share-reads.Asked,
@@ -194,8 +194,8 @@ write-at-add-result-2 t c = omega (arith, c .before .before .before .before .if1
 write-at-same-length-2 : (t : ℕ) → write-at-lts.Need-same-length-2 (
   cell-kind-reads.Asked,
   cell-kind-reads.Learnt,
-  has-parts-reads.Asked,
-  has-parts-reads.Learnt,
+  parts-of-kind-reads.Asked,
+  parts-of-kind-reads.Learnt,
   cell-first-reads.Asked,
   cell-first-reads.Learnt,
   share-reads.Asked,
@@ -210,8 +210,8 @@ write-at-same-length-2 t c = search needs
 write-at-returns-3 : (t : ℕ) → write-at-lts.Need-returns-3 (
   cell-kind-reads.Asked,
   cell-kind-reads.Learnt,
-  has-parts-reads.Asked,
-  has-parts-reads.Learnt,
+  parts-of-kind-reads.Asked,
+  parts-of-kind-reads.Learnt,
   cell-first-reads.Asked,
   cell-first-reads.Learnt,
   share-reads.Asked,
@@ -232,8 +232,8 @@ write-at-returns-3 t c =
 write-at-cell-first-requires : (t : ℕ) → write-at-lts.Need-cell-first-requires (
   cell-kind-reads.Asked,
   cell-kind-reads.Learnt,
-  has-parts-reads.Asked,
-  has-parts-reads.Learnt,
+  parts-of-kind-reads.Asked,
+  parts-of-kind-reads.Learnt,
   cell-first-reads.Asked,
   cell-first-reads.Learnt,
   share-reads.Asked,
@@ -248,8 +248,8 @@ write-at-cell-first-requires t c κs = tt
 write-at-sub-share : (t : ℕ) → write-at-lts.Need-sub-share (
   cell-kind-reads.Asked,
   cell-kind-reads.Learnt,
-  has-parts-reads.Asked,
-  has-parts-reads.Learnt,
+  parts-of-kind-reads.Asked,
+  parts-of-kind-reads.Learnt,
   cell-first-reads.Asked,
   cell-first-reads.Learnt,
   share-reads.Asked,
@@ -264,8 +264,8 @@ write-at-sub-share t c = omega (arith, c .before .if3 .left)
 write-at-share-requires : (t : ℕ) → write-at-lts.Need-share-requires (
   cell-kind-reads.Asked,
   cell-kind-reads.Learnt,
-  has-parts-reads.Asked,
-  has-parts-reads.Learnt,
+  parts-of-kind-reads.Asked,
+  parts-of-kind-reads.Learnt,
   cell-first-reads.Asked,
   cell-first-reads.Learnt,
   share-reads.Asked,
@@ -280,8 +280,8 @@ write-at-share-requires t c κs = tt
 write-at-add-write-at : (t : ℕ) → write-at-lts.Need-add-write-at (
   cell-kind-reads.Asked,
   cell-kind-reads.Learnt,
-  has-parts-reads.Asked,
-  has-parts-reads.Learnt,
+  parts-of-kind-reads.Asked,
+  parts-of-kind-reads.Learnt,
   cell-first-reads.Asked,
   cell-first-reads.Learnt,
   share-reads.Asked,
@@ -296,8 +296,8 @@ write-at-add-write-at t c = omega (arith, c .before .before .before .before .bef
 write-at-write-at-requires : (t : ℕ) → write-at-lts.Need-write-at-requires (
   cell-kind-reads.Asked,
   cell-kind-reads.Learnt,
-  has-parts-reads.Asked,
-  has-parts-reads.Learnt,
+  parts-of-kind-reads.Asked,
+  parts-of-kind-reads.Learnt,
   cell-first-reads.Asked,
   cell-first-reads.Learnt,
   share-reads.Asked,
@@ -312,8 +312,8 @@ write-at-write-at-requires t c κs = (omega (arith, c .before .before .before .i
 write-at-same-length-3 : (t : ℕ) → write-at-lts.Need-same-length-3 (
   cell-kind-reads.Asked,
   cell-kind-reads.Learnt,
-  has-parts-reads.Asked,
-  has-parts-reads.Learnt,
+  parts-of-kind-reads.Asked,
+  parts-of-kind-reads.Learnt,
   cell-first-reads.Asked,
   cell-first-reads.Learnt,
   share-reads.Asked,
@@ -328,8 +328,8 @@ write-at-same-length-3 t c = c .before .before .before .write-at .ensures .1 ∙
 write-at-returns-4 : (t : ℕ) → write-at-lts.Need-returns-4 (
   cell-kind-reads.Asked,
   cell-kind-reads.Learnt,
-  has-parts-reads.Asked,
-  has-parts-reads.Learnt,
+  parts-of-kind-reads.Asked,
+  parts-of-kind-reads.Learnt,
   cell-first-reads.Asked,
   cell-first-reads.Learnt,
   share-reads.Asked,
@@ -355,13 +355,13 @@ write-at-returns-4 t c =
     (λ x. SaysWroteAt w x (cellFirst w (s .i)) (s .at + 1) (set out (s .at) (cellKind w (s .i) % 256)) (one .last .1 .1 .0) (one .result))
     size half in
     let kept : length (one .last .1 .1 .0) ≡ length out = one .ensures .1 ∙ length-set out (s .at) (c .before .before .before .before .before .before .before .before .before .before .cell-kind .result % 256) in
-    (wrote-one w (s .most) (s .i) (s .at) out (one .last .1 .1 .0) (one .result) (sym k ∙ c .if4 .taken) first, kept)
+    (wrote-one w (s .most) (s .i) (s .at) out (one .last .1 .1 .0) (one .result) (sym (ap partsOfKind k) ∙ sym (c .before .before .before .before .before .before .before .before .before .parts-of-kind .ensures) ∙ c .if4 .taken) first, kept)
 
 write-at-cell-second-requires : (t : ℕ) → write-at-lts.Need-cell-second-requires (
   cell-kind-reads.Asked,
   cell-kind-reads.Learnt,
-  has-parts-reads.Asked,
-  has-parts-reads.Learnt,
+  parts-of-kind-reads.Asked,
+  parts-of-kind-reads.Learnt,
   cell-first-reads.Asked,
   cell-first-reads.Learnt,
   share-reads.Asked,
@@ -376,8 +376,8 @@ write-at-cell-second-requires t c κs = tt
 write-at-sub-write-at : (t : ℕ) → write-at-lts.Need-sub-write-at (
   cell-kind-reads.Asked,
   cell-kind-reads.Learnt,
-  has-parts-reads.Asked,
-  has-parts-reads.Learnt,
+  parts-of-kind-reads.Asked,
+  parts-of-kind-reads.Learnt,
   cell-first-reads.Asked,
   cell-first-reads.Learnt,
   share-reads.Asked,
@@ -392,8 +392,8 @@ write-at-sub-write-at t c = omega (arith, c .before .before .before .before .bef
 write-at-sub-write-at-2 : (t : ℕ) → write-at-lts.Need-sub-write-at-2 (
   cell-kind-reads.Asked,
   cell-kind-reads.Learnt,
-  has-parts-reads.Asked,
-  has-parts-reads.Learnt,
+  parts-of-kind-reads.Asked,
+  parts-of-kind-reads.Learnt,
   cell-first-reads.Asked,
   cell-first-reads.Learnt,
   share-reads.Asked,
@@ -408,8 +408,8 @@ write-at-sub-write-at-2 t c = omega (arith, c .before .before .before .before .b
 write-at-write-at-requires-2 : (t : ℕ) → write-at-lts.Need-write-at-requires-2 (
   cell-kind-reads.Asked,
   cell-kind-reads.Learnt,
-  has-parts-reads.Asked,
-  has-parts-reads.Learnt,
+  parts-of-kind-reads.Asked,
+  parts-of-kind-reads.Learnt,
   cell-first-reads.Asked,
   cell-first-reads.Learnt,
   share-reads.Asked,
@@ -424,8 +424,8 @@ write-at-write-at-requires-2 t c κs = (omega (arith, c .before .before .before 
 write-at-same-length-4 : (t : ℕ) → write-at-lts.Need-same-length-4 (
   cell-kind-reads.Asked,
   cell-kind-reads.Learnt,
-  has-parts-reads.Asked,
-  has-parts-reads.Learnt,
+  parts-of-kind-reads.Asked,
+  parts-of-kind-reads.Learnt,
   cell-first-reads.Asked,
   cell-first-reads.Learnt,
   share-reads.Asked,
@@ -443,8 +443,8 @@ write-at-same-length-4 t c =
 write-at-returns-5 : (t : ℕ) → write-at-lts.Need-returns-5 (
   cell-kind-reads.Asked,
   cell-kind-reads.Learnt,
-  has-parts-reads.Asked,
-  has-parts-reads.Learnt,
+  parts-of-kind-reads.Asked,
+  parts-of-kind-reads.Learnt,
   cell-first-reads.Asked,
   cell-first-reads.Learnt,
   share-reads.Asked,
@@ -480,8 +480,8 @@ write-at-returns-5 t c =
     (λ x. SaysWroteAt w (s .most - 1 - x) (cellSecond w (s .i)) (one .result) (one .last .1 .1 .0) (two .last .1 .1 .0) (two .result))
     size other in (
       wrote-two w (s .most) (s .i) (s .at) out (one .last .1 .1 .0) (two .last .1 .1 .0) (one .result) (two .result)
-          (sym (ap hasParts k) ∙ sym (c .before .before .before .before .before .before .before .before .before .before .before .before .before .before .has-parts .ensures) ∙ not-false _ (c .before .before .before .before .before .before .before .before .before .before .before .before .before .if2 .left))
-          (λ e. c .before .before .before .before .before .if4 .left (k ∙ e))
+          (λ e. c .before .before .before .before .before .before .before .before .before .before .before .before .before .if2 .left (c .before .before .before .before .before .before .before .before .before .before .before .before .before .before .parts-of-kind .ensures ∙ ap partsOfKind k ∙ e))
+          (λ e. c .before .before .before .before .before .if4 .left (c .before .before .before .before .before .before .before .before .before .before .before .before .before .before .parts-of-kind .ensures ∙ ap partsOfKind k ∙ e))
           first kept second,
       two .ensures .1 ∙ kept,
     )
@@ -490,8 +490,8 @@ pub +write-at-spec : {M : Type 1} → statement M
 +write-at-spec = close μ-write-at λ t. write-at-lts.spec (
   cell-kind-reads.Asked,
   cell-kind-reads.Learnt,
-  has-parts-reads.Asked,
-  has-parts-reads.Learnt,
+  parts-of-kind-reads.Asked,
+  parts-of-kind-reads.Learnt,
   cell-first-reads.Asked,
   cell-first-reads.Learnt,
   share-reads.Asked,
@@ -507,7 +507,7 @@ pub +write-at-spec : {M : Type 1} → statement M
     (write-at-cell-kind-requires t)
     (write-at-cast-out t)
     (write-at-slice-write-out t)
-    (write-at-has-parts-requires t)
+    (write-at-parts-of-kind-requires t)
     (write-at-add-result t)
     (write-at-same-length t)
     (write-at-returns-2 t)

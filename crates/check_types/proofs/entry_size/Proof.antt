@@ -2,7 +2,6 @@
 use Prim.Native.Nat.{_+_, _-_}
 use native.Mathlib.Omega.{arith}
 use mathlib.Core.Path.{sym, _∙_, ap, ap₂}
-use borrow.Author.Tests.{not-true, not-false}
 use Rattle.words.specs.Words.{words}
 use Rattle.check_types.specs.Cells.{cellSize}
 use Rattle.check_types.specs.Laws.Load.{size-of-leaf, size-of-one, size-of-two}
@@ -10,14 +9,14 @@ use borrow.Author.Needs.{needs}
 use Rattle.check_types.proofs.entry_size.Statement.{statement}
 use Rattle.check_types.proofs.entry_size.Tie as tie
 
-has-parts-requires : tie.Need-has-parts-requires
-has-parts-requires c κs = search needs
+parts-of-kind-requires : tie.Need-parts-of-kind-requires
+parts-of-kind-requires c κs = search needs
 
 returns : tie.Need-returns
 returns c =
     let s = c .before .before .before .args in
     let w = words (s .work .now) in
-    (size-of-leaf w (s .n) (s .kind) (sym (c .before .has-parts .ensures) ∙ not-true _ (c .if1 .taken)), omega arith)
+    (size-of-leaf w (s .n) (s .kind) (sym (c .before .parts-of-kind .ensures) ∙ c .if1 .taken), omega arith)
 
 saturating-sub-requires : tie.Need-saturating-sub-requires
 saturating-sub-requires c κs = search needs
@@ -33,7 +32,7 @@ returns-2 c =
     let s = c .before .before .before .before .before .before .args in
     let w = words (s .work .now) in
     let e = c .before .cell-size .ensures .0 ∙ ap (cellSize w) (c .before .before .saturating-sub .ensures) in
-    (ap (λ x. 1 + x) e ∙ size-of-one w (s .n) (s .kind) (c .if2 .taken), omega (arith, c .before .cell-size .ensures .1))
+    (ap (λ x. 1 + x) e ∙ size-of-one w (s .n) (s .kind) (sym (c .before .before .before .before .parts-of-kind .ensures) ∙ c .if2 .taken), omega (arith, c .before .cell-size .ensures .1))
 
 add-result-2 : tie.Need-add-result-2
 add-result-2 c = search needs
@@ -55,7 +54,7 @@ returns-3 c =
     let behind = c .before .saturating-sub2 .ensures ∙ ap₂ (λ x y. x - y) (c .before .before .before .before .saturating-sub .ensures) e in
     let e2 = c .cell-size2 .ensures .0 ∙ ap (cellSize w) behind in (
       ap₂ (λ x y. 1 + x + y) e e2
-          ∙ size-of-two w (s .n) (s .kind) (sym (c .before .before .before .before .before .before .has-parts .ensures) ∙ not-false _ (c .before .before .before .before .before .if1 .left)) (c .before .before .if2 .left),
+          ∙ size-of-two w (s .n) (s .kind) (λ e. c .before .before .before .before .before .if1 .left (c .before .before .before .before .before .before .parts-of-kind .ensures ∙ e)) (λ e. c .before .before .if2 .left (c .before .before .before .before .before .before .parts-of-kind .ensures ∙ e)),
       omega (arith, c .before .before .before .cell-size .ensures .1, c .cell-size2 .ensures .1),
     )
 
@@ -63,7 +62,7 @@ pub entry-size-spec : {M : Type 1} → statement M
 entry-size-spec =
     tie.close
     (tie.spec
-    has-parts-requires
+    parts-of-kind-requires
     returns
     saturating-sub-requires
     cell-size-requires

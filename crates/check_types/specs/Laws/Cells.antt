@@ -3,15 +3,16 @@ use Prim.Native.Nat.{ℕ, _+_, _*_, _%_, _≤_}
 use native.Mathlib.Omega.{arith}
 use mathlib.Core.Path.{_≡_, refl, sym, _∙_, ap, ap₂, subst}
 use mathlib.Core.Logic.{_≢_}
-use mathlib.Core.Bool.{true, false, _&&_, cond}
+use mathlib.Core.Bool.{_&&_, cond}
 use mathlib.Core.List.{List}
 use lib.Dec.{leb}
 use borrow.Author.Tests.{ne-eqb}
 use Rattle.rules.specs.Kinds.{pair-type-kind, reusable-kind}
 use Rattle.rules.specs.Types.{Wire, Bit, Qubit, Ty, wire, unit, !_, copyable, entries}
+use Rattle.rules.specs.Parts.{partsOfKind}
 use Rattle.rules.specs.Laws.TypeCodes.{wire-kind, same-wire}
 use Rattle.check_types.specs.Cells.{copyable-mark, cellKind, cellFirst, cellSecond, cellCopyable, copyableFrom, Cell}
-use Rattle.check_types.specs.Cells.{hasParts, kindOf, Agree, Denotes, wire-cell, unit-cell, pair-cell}
+use Rattle.check_types.specs.Cells.{kindOf, Agree, Denotes, wire-cell, unit-cell, pair-cell}
 use Rattle.check_types.specs.Cells.{function-cell, reusable-cell, circuit-cell, Made, made-pair, made-function}
 use Rattle.check_types.specs.Cells.{made-circuit}
 
@@ -93,10 +94,25 @@ made-copyable made-pair d e = ap₂ _&&_ (cell-of d .may-be-copied) (cell-of e .
 made-copyable made-function d e = refl
 made-copyable made-circuit d e = refl
 
-pub made-parts : {k : ℕ} {A B C : Ty} → Made k A B C → hasParts k ≡ true
+-- The parts of such a kind, of the reusable kind, and of a pair.
+pub made-parts : {k : ℕ} {A B C : Ty} → Made k A B C → partsOfKind k ≡ 2
+unfolding partsOfKind
 made-parts made-pair = refl
 made-parts made-function = refl
 made-parts made-circuit = refl
+
+pub made-some : {k : ℕ} {A B C : Ty} → Made k A B C → partsOfKind k ≡ 0 → ⊥
+made-some m e = omega (arith, made-parts m)
+
+pub reusable-parts : partsOfKind reusable-kind ≡ 1
+unfolding partsOfKind
+reusable-parts = refl
+
+pub reusable-some : partsOfKind reusable-kind ≡ 0 → ⊥
+reusable-some e = omega (arith, reusable-parts)
+
+pub pair-some : partsOfKind pair-type-kind ≡ 0 → ⊥
+pair-some e = made-some (made-pair {A = unit} {B = unit}) e
 
 pub made-not-reusable : {k : ℕ} {A B C : Ty} → Made k A B C → k ≡ reusable-kind → ⊥
 made-not-reusable made-pair e = omega arith
@@ -108,7 +124,8 @@ pub data Leaf : Ty → Type 0 where
   leaf-wire : (α : Wire) → Leaf (wire α)
   leaf-unit : Leaf unit
 
-pub leaf-parts : {A : Ty} → Leaf A → hasParts (kindOf A) ≡ false
+pub leaf-parts : {A : Ty} → Leaf A → partsOfKind (kindOf A) ≡ 0
+unfolding partsOfKind
 leaf-parts (leaf-wire Bit) = refl
 leaf-parts (leaf-wire Qubit) = refl
 leaf-parts leaf-unit = refl
@@ -119,13 +136,9 @@ same-leaf (leaf-wire α) leaf-unit e = absurd (omega (arith, wire-kind α))
 same-leaf leaf-unit (leaf-wire β) e = absurd (omega (arith, wire-kind β))
 same-leaf leaf-unit leaf-unit e = refl
 
--- A kind has parts or it has none.
-pub parts-clash : (kind : ℕ) → hasParts kind ≡ true → hasParts kind ≡ false → ⊥
-parts-clash kind p q = let z : _≡_ {A = ℕ} 0 1 = cc in omega arith
-
--- So a leaf is of no kind that has parts.
-pub leaf-clash : {A : Ty} {kind : ℕ} → Leaf A → hasParts kind ≡ true → kind ≡ kindOf A → ⊥
-leaf-clash {kind = kind} l p e = parts-clash kind p (ap hasParts e ∙ leaf-parts l)
+-- A leaf is of no kind that has parts.
+pub leaf-clash : {A : Ty} {kind : ℕ} → Leaf A → (partsOfKind kind ≡ 0 → ⊥) → kind ≡ kindOf A → ⊥
+leaf-clash l p e = p (ap partsOfKind e ∙ leaf-parts l)
 
 -- A cell by the number of its parts.
 pub data View (w : List ℕ) (n i : ℕ) : Ty → Type 0 where

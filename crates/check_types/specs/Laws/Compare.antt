@@ -6,14 +6,16 @@ use mathlib.Core.Bool.{Bool, true, false, _&&_}
 use mathlib.Core.List.{List}
 use Rattle.rules.specs.Kinds.{pair-type-kind, reusable-kind}
 use Rattle.rules.specs.Types.{Ty, !_, entries, isWireType, Wire-discrete, Ty-discrete}
+use Rattle.rules.specs.Parts.{partsOfKind}
 use Rattle.rules.specs.Inference.{same, isYes}
 use Rattle.rules.specs.Laws.TypeCodes.{entries-positive}
-use Rattle.check_types.specs.Cells.{cellKind, cellFirst, cellSecond, hasParts, kindOf, Denotes, wire-cell, unit-cell}
+use Rattle.check_types.specs.Cells.{cellKind, cellFirst, cellSecond, kindOf, Denotes, wire-cell, unit-cell}
 use Rattle.check_types.specs.Cells.{pair-cell}
 use Rattle.check_types.specs.Cells.{function-cell, reusable-cell, circuit-cell, Made, made-pair, made-function}
 use Rattle.check_types.specs.Cells.{made-circuit}
-use Rattle.check_types.specs.Laws.Cells.{cell-of, made-entries, made-parts, made-not-reusable, made-whole, made-first}
-use Rattle.check_types.specs.Laws.Cells.{Leaf, leaf-wire, leaf-unit, same-leaf, parts-clash, leaf-clash}
+use Rattle.check_types.specs.Laws.Cells.{cell-of, made-entries, made-parts, made-some, reusable-parts, reusable-some, pair-some}
+use Rattle.check_types.specs.Laws.Cells.{made-not-reusable, made-whole, made-first}
+use Rattle.check_types.specs.Laws.Cells.{Leaf, leaf-wire, leaf-unit, same-leaf, leaf-parts, leaf-clash}
 use Rattle.check_types.specs.Laws.Cells.{made-second, View, no-part, two-parts, one-part, view}
 use Rattle.check_types.specs.Compare.{shareOf, SaysSame, SaysWireType}
 
@@ -63,28 +65,28 @@ alike : {w : List ℕ} {n i j : ℕ} {A B : Ty}
     → Alike w n i j A B
 alike {w} {n} {i} {j} {A} e (no-part l k) (no-part l′ k′) =
     subst (λ B. Alike w n i j A B) (same-leaf l l′ (sym k ∙ e ∙ k′)) (alike-leaves l k)
-alike e (no-part l k) (two-parts m k′ x y) = absurd (leaf-clash l (made-parts m) (sym k′ ∙ sym e ∙ k))
-alike e (no-part l k) (one-part k′ x) = absurd (leaf-clash l refl (sym k′ ∙ sym e ∙ k))
-alike e (two-parts m k x y) (no-part l k′) = absurd (leaf-clash l (made-parts m) (sym k ∙ e ∙ k′))
+alike e (no-part l k) (two-parts m k′ x y) = absurd (leaf-clash l (made-some m) (sym k′ ∙ sym e ∙ k))
+alike e (no-part l k) (one-part k′ x) = absurd (leaf-clash l reusable-some (sym k′ ∙ sym e ∙ k))
+alike e (two-parts m k x y) (no-part l k′) = absurd (leaf-clash l (made-some m) (sym k ∙ e ∙ k′))
 alike e (two-parts {A = A} {B = B} {C = C} m k x y) (two-parts {A = A′} {B = B′} {C = C′} m′ k′ x′ y′) =
     alike-two m (subst (λ q. Made q A′ B′ C′) (sym k′ ∙ sym e ∙ k) m′) k x y x′ y′
 alike e (two-parts m k x y) (one-part k′ x′) = absurd (made-not-reusable m (sym k ∙ e ∙ k′))
-alike e (one-part k x) (no-part l k′) = absurd (leaf-clash l refl (sym k ∙ e ∙ k′))
+alike e (one-part k x) (no-part l k′) = absurd (leaf-clash l reusable-some (sym k ∙ e ∙ k′))
 alike e (one-part k x) (two-parts m k′ x′ y′) = absurd (made-not-reusable m (sym k′ ∙ sym e ∙ k))
 alike e (one-part k x) (one-part k′ x′) = alike-one k x x′
 
 -- A cell denotes one type.
 leaf-one : {w : List ℕ} {n i : ℕ} {A B : Ty} → Leaf A → cellKind w i ≡ kindOf A → View w n i B → A ≡ B
 leaf-one l k (no-part l′ k′) = same-leaf l l′ (sym k ∙ k′)
-leaf-one l k (two-parts m k′ x y) = absurd (leaf-clash l (made-parts m) (sym k′ ∙ k))
-leaf-one l k (one-part k′ x) = absurd (leaf-clash l refl (sym k′ ∙ k))
+leaf-one l k (two-parts m k′ x y) = absurd (leaf-clash l (made-some m) (sym k′ ∙ k))
+leaf-one l k (one-part k′ x) = absurd (leaf-clash l reusable-some (sym k′ ∙ k))
 
 two-one : {w : List ℕ} {n i k : ℕ} {A B C D : Ty}
     → Made k A B C → cellKind w i ≡ k → View w n i D
     → ((A′ : Ty) → Denotes w n (cellFirst w i) A′ → A ≡ A′)
     → ((B′ : Ty) → Denotes w n (cellSecond w i) B′ → B ≡ B′)
     → C ≡ D
-two-one m k (no-part l k′) f g = absurd (leaf-clash l (made-parts m) (sym k ∙ k′))
+two-one m k (no-part l k′) f g = absurd (leaf-clash l (made-some m) (sym k ∙ k′))
 two-one m k (two-parts {A = A′} {B = B′} {C = C′} m′ k′ x y) f g =
     made-whole m (subst (λ q. Made q A′ B′ C′) (sym k′ ∙ k) m′) (f A′ x) (g B′ y)
 two-one m k (one-part k′ x) f g = absurd (made-not-reusable m (sym k ∙ k′))
@@ -93,7 +95,7 @@ one-one : {w : List ℕ} {n i : ℕ} {A D : Ty}
     → cellKind w i ≡ reusable-kind → View w n i D
     → ((A′ : Ty) → Denotes w n (cellFirst w i) A′ → A ≡ A′)
     → ! A ≡ D
-one-one k (no-part l k′) f = absurd (leaf-clash l refl (sym k ∙ k′))
+one-one k (no-part l k′) f = absurd (leaf-clash l reusable-some (sym k ∙ k′))
 one-one k (two-parts m k′ x y) f = absurd (made-not-reusable m (sym k′ ∙ k))
 one-one k (one-part {A = A′} k′ x) f = ap !_ (f A′ x)
 
@@ -124,18 +126,18 @@ module _ (w : List ℕ) (most i j : ℕ) where
   other-kind f n A B d d′ h =
       different-same A B (λ e. f (cell-of d .kind ∙ ap kindOf e ∙ sym (cell-of d′ .kind)))
 
-  pub both-leaves : cellKind w i ≡ cellKind w j → hasParts (cellKind w i) ≡ false → SaysSame w most i j true
+  pub both-leaves : cellKind w i ≡ cellKind w j → partsOfKind (cellKind w i) ≡ 0 → SaysSame w most i j true
   both-leaves e h n A B d d′ b = go (alike e (view d) (view d′))
     where
       go : {A B : Ty} → Alike w n i j A B → true ≡ same A B
       go (alike-leaves {A = A} l k) = equal-same A A refl
-      go (alike-two {k = kind} m m′ k x y x′ y′) = absurd (parts-clash kind (made-parts m) (ap hasParts (sym k) ∙ h))
-      go (alike-one k x x′) = absurd (parts-clash reusable-kind refl (ap hasParts (sym k) ∙ h))
+      go (alike-two m m′ k x y x′ y′) = absurd (made-some m (ap partsOfKind (sym k) ∙ h))
+      go (alike-one k x x′) = absurd (reusable-some (ap partsOfKind (sym k) ∙ h))
 
   pub none-left : (r : Bool) → most ≡ 0 → SaysSame w most i j r
   none-left r e n A B d d′ b = absurd (omega (arith, entries-positive A))
 
-  pub first-differs : cellKind w i ≡ cellKind w j → hasParts (cellKind w i) ≡ true
+  pub first-differs : cellKind w i ≡ cellKind w j → (partsOfKind (cellKind w i) ≡ 0 → ⊥)
       → SaysSame w (shareOf w (cellFirst w i) (most - 1)) (cellFirst w i) (cellFirst w j) false
       → SaysSame w most i j false
   first-differs e h first n A B d d′ b = go (alike e (view d) (view d′)) b
@@ -149,19 +151,19 @@ module _ (w : List ℕ) (most i j : ℕ) where
           let f = first n A A′ x x′ (omega (arith, cell-of x .size)) in
           different-same (! A) (! A′) λ q. same-different A A′ f (cc)
 
-  pub first-alone : cellKind w i ≡ cellKind w j → cellKind w i ≡ reusable-kind
+  pub first-alone : cellKind w i ≡ cellKind w j → partsOfKind (cellKind w i) ≡ 1
       → SaysSame w (shareOf w (cellFirst w i) (most - 1)) (cellFirst w i) (cellFirst w j) true
       → SaysSame w most i j true
   first-alone e h first n A B d d′ b = go (alike e (view d) (view d′)) b
     where
       go : {A B : Ty} → Alike w n i j A B → entries A ≤ most → true ≡ same A B
-      go (alike-leaves l k) b = absurd (leaf-clash l refl (sym h ∙ k))
-      go (alike-two m m′ k x y x′ y′) b = absurd (made-not-reusable m (sym k ∙ h))
+      go (alike-leaves l k) b = absurd (omega (arith, leaf-parts l, ap partsOfKind k))
+      go (alike-two m m′ k x y x′ y′) b = absurd (omega (arith, made-parts m, ap partsOfKind k))
       go (alike-one {A = A} {A′ = A′} k x x′) b =
           let f = first n A A′ x x′ (omega (arith, cell-of x .size)) in
           equal-same (! A) (! A′) (ap !_ (same-equal A A′ f))
 
-  pub then-second : (r : Bool) → cellKind w i ≡ cellKind w j → hasParts (cellKind w i) ≡ true → (cellKind w i ≡ reusable-kind → ⊥)
+  pub then-second : (r : Bool) → cellKind w i ≡ cellKind w j → (partsOfKind (cellKind w i) ≡ 0 → ⊥) → (partsOfKind (cellKind w i) ≡ 1 → ⊥)
       → SaysSame w (shareOf w (cellFirst w i) (most - 1)) (cellFirst w i) (cellFirst w j) true
       → SaysSame w (most - 1 - shareOf w (cellFirst w i) (most - 1)) (cellSecond w i) (cellSecond w j) r
       → SaysSame w most i j r
@@ -173,20 +175,20 @@ module _ (w : List ℕ) (most i j : ℕ) where
           let f = first n A A′ x x′ (omega (arith, made-entries m, cell-of x .size)) in
           let s = second n B B′ y y′ (omega (arith, made-entries m, cell-of x .size)) in
           as-second m m′ r (same-equal A A′ f) s
-      go (alike-one {A = A} {A′ = A′} k x x′) b = absurd (h′ k)
+      go (alike-one {A = A} {A′ = A′} k x x′) b = absurd (h′ (ap partsOfKind k ∙ reusable-parts))
 
 -- The test for a wire type.
 module _ (w : List ℕ) (most i : ℕ) where
-  pub is-leaf : hasParts (cellKind w i) ≡ false → SaysWireType w most i true
+  pub is-leaf : partsOfKind (cellKind w i) ≡ 0 → SaysWireType w most i true
   is-leaf h n A d b = go (view d)
     where
       go : {A : Ty} → View w n i A → true ≡ isWireType A
       go (no-part (leaf-wire α) k) = refl
       go (no-part leaf-unit k) = refl
-      go (two-parts {k = kind} m k x y) = absurd (parts-clash kind (made-parts m) (ap hasParts (sym k) ∙ h))
-      go (one-part k x) = absurd (parts-clash reusable-kind refl (ap hasParts (sym k) ∙ h))
+      go (two-parts m k x y) = absurd (made-some m (ap partsOfKind (sym k) ∙ h))
+      go (one-part k x) = absurd (reusable-some (ap partsOfKind (sym k) ∙ h))
 
-  pub no-wire : hasParts (cellKind w i) ≡ true → (cellKind w i ≡ pair-type-kind → ⊥) → SaysWireType w most i false
+  pub no-wire : (partsOfKind (cellKind w i) ≡ 0 → ⊥) → (cellKind w i ≡ pair-type-kind → ⊥) → SaysWireType w most i false
   no-wire h h′ n A d b = go (view d)
     where
       made : {k : ℕ} {A B C : Ty} → Made k A B C → (k ≡ pair-type-kind → ⊥) → false ≡ isWireType C
@@ -213,7 +215,7 @@ module _ (w : List ℕ) (most i : ℕ) where
       made made-circuit f g = refl
 
       go : {A : Ty} → View w n i A → entries A ≤ most → false ≡ isWireType A
-      go (no-part l k) b = absurd (leaf-clash l refl (sym e ∙ k))
+      go (no-part l k) b = absurd (leaf-clash l pair-some (sym e ∙ k))
       go (two-parts {A = A} m k x y) b = made m (sym k ∙ e) (first n A x (omega (arith, made-entries m, cell-of x .size)))
       go (one-part k x) b = refl
 
@@ -230,7 +232,7 @@ module _ (w : List ℕ) (most i : ℕ) where
       made made-circuit f g s = absurd (omega arith)
 
       go : {A : Ty} → View w n i A → entries A ≤ most → r ≡ isWireType A
-      go (no-part l k) b = absurd (leaf-clash l refl (sym e ∙ k))
+      go (no-part l k) b = absurd (leaf-clash l pair-some (sym e ∙ k))
       go (two-parts {A = A} {B = B} m k x y) b =
           made m (sym k ∙ e)
           (first n A x (omega (arith, made-entries m, cell-of x .size)))

@@ -3,26 +3,25 @@ use Prim.Native.Nat.{ℕ, zero, suc, _+_, _*_, _-_, _≤_, _<_}
 use native.Mathlib.Omega.{arith}
 use native.Mathlib.Decide.{decLe}
 use mathlib.Core.Path.{_≡_, refl, sym, _∙_, ap, ap₂, subst, subst₂}
-use mathlib.Core.Bool.{true, false}
 use mathlib.Core.List.{List, _∷_, _++_}
 use lib.ListN.{length, getD, List·getD-append}
 use lib.Seq.{getD-append-add}
-use lib.Dec.{eqb}
 use borrow.Author.Tests.{ne-eqb}
 use Rattle.rules.specs.Kinds.{reusable-kind, unit-kind}
 use Rattle.rules.specs.Types.{Wire, Bit, Qubit, Ty, wire, _⊗_, _⊸_, !_, Circ, copyable, entries, most-entries, wireCode}
 use Rattle.rules.specs.Types.{typeCodes, unit}
+use Rattle.rules.specs.Parts.{partsOfKind}
 use Rattle.rules.specs.GateCodes.{codeAt}
 use Rattle.rules.specs.Laws.TypeCodes.{typeCodes-entries, entries-positive}
 use Rattle.check_types.specs.Cells.{marked, cellSize, copyableFrom, Denotes, Agree, Room, Made, made-pair, made-function}
-use Rattle.check_types.specs.Cells.{made-circuit, hasParts}
+use Rattle.check_types.specs.Cells.{made-circuit}
 use Rattle.check_types.specs.Laws.Cells.{cell-of, agree-refl, agree-less, agree-trans, denotes-kept, made-entries}
 use Rattle.check_types.specs.Laws.Cells.{made-copyable}
 use Rattle.check_types.specs.NewCell.{withCell}
 use Rattle.check_types.specs.Laws.NewCell.{length-withCell, word-above-cell, agree-withCell, two-parts-written}
 use Rattle.check_types.specs.Laws.NewCell.{one-part-written, wire-written, unit-written}
-use Rattle.check_types.specs.Load.{pick, firstBehind, secondBehind, entrySize, entryWord, loadEntry, loadCodes, codesOf}
-use Rattle.check_types.specs.Load.{TypesLoaded}
+use Rattle.check_types.specs.Load.{pick, firstBehind, secondBehind, sizeWith, entrySize, entryWord, loadEntry, loadCodes}
+use Rattle.check_types.specs.Load.{codesOf, TypesLoaded}
 
 -- The codes f have the type A in preorder at position p.
 pub data CodesAt (f : ℕ → ℕ) : ℕ → Ty → Type 0 where
@@ -34,28 +33,25 @@ pub data CodesAt (f : ℕ → ℕ) : ℕ → Ty → Type 0 where
       → CodesAt f p C
 
 -- The size of an entry, by the number of its parts.
-pub size-of-leaf : (w : List ℕ) (n kind : ℕ) → hasParts kind ≡ false → 1 ≡ entrySize w n kind
+pub size-of-leaf : (w : List ℕ) (n kind : ℕ) → partsOfKind kind ≡ 0 → 1 ≡ entrySize w n kind
 unfolding entrySize
-size-of-leaf w n kind h =
-    let s = cellSize w (firstBehind n) in
-    let t = cellSize w (secondBehind w n) in
-    ap (λ b. pick b (pick (eqb kind reusable-kind) (1 + s) (1 + s + t)) 1) (sym h)
+size-of-leaf w n kind none =
+    ap (λ p. sizeWith p (cellSize w (firstBehind n)) (cellSize w (secondBehind w n))) (sym none)
 
-pub size-of-one : (w : List ℕ) (n kind : ℕ) → kind ≡ reusable-kind → 1 + cellSize w (firstBehind n) ≡ entrySize w n kind
+pub size-of-one : (w : List ℕ) (n kind : ℕ) → partsOfKind kind ≡ 1 → 1 + cellSize w (firstBehind n) ≡ entrySize w n kind
 unfolding entrySize
-size-of-one w n kind e =
-    let s = cellSize w (firstBehind n) in
-    let t = cellSize w (secondBehind w n) in
-    sym (ap (λ k. pick (hasParts k) (pick (eqb k reusable-kind) (1 + s) (1 + s + t)) 1) e)
+size-of-one w n kind one =
+    ap (λ p. sizeWith p (cellSize w (firstBehind n)) (cellSize w (secondBehind w n))) (sym one)
 
-pub size-of-two : (w : List ℕ) (n kind : ℕ) → hasParts kind ≡ true → (kind ≡ reusable-kind → ⊥)
+pub size-of-two : (w : List ℕ) (n kind : ℕ) → (partsOfKind kind ≡ 0 → ⊥) → (partsOfKind kind ≡ 1 → ⊥)
     → 1 + cellSize w (firstBehind n) + cellSize w (secondBehind w n) ≡ entrySize w n kind
 unfolding entrySize
-size-of-two w n kind h f =
+size-of-two w n kind some more =
     let s = cellSize w (firstBehind n) in
     let t = cellSize w (secondBehind w n) in
-    ap (λ b. pick b (1 + s) (1 + s + t)) (sym (ne-eqb kind reusable-kind f))
-    ∙ ap (λ b. pick b (pick (eqb kind reusable-kind) (1 + s) (1 + s + t)) 1) (sym h)
+    ap₂ (λ b c. pick b 1 (pick c (1 + s) (1 + s + t)))
+    (sym (ne-eqb (partsOfKind kind) 0 some))
+    (sym (ne-eqb (partsOfKind kind) 1 more))
 
 -- A cell with these parts and this fourth word, however they were computed, is the entry loaded.
 pub entry-loaded : (w w′ : List ℕ) (n kind first second size word t : ℕ)
@@ -89,17 +85,17 @@ above-loadEntry w n kind k h =
 
 -- The entry that was loaded, by the number of its parts.
 pub entry-wire : (w : List ℕ) (n : ℕ) (α : Wire) → 4 * n + 4 ≤ length w → Denotes (loadEntry w n (wireCode α)) (n + 1) n (wire α)
-unfolding loadEntry entrySize
+unfolding loadEntry entrySize partsOfKind
 entry-wire w n Bit h = wire-written w n (firstBehind n) (secondBehind w n) Bit h
 entry-wire w n Qubit h = wire-written w n (firstBehind n) (secondBehind w n) Qubit h
 
 pub entry-unit : (w : List ℕ) (n : ℕ) → 4 * n + 4 ≤ length w → Denotes (loadEntry w n unit-kind) (n + 1) n unit
-unfolding loadEntry entrySize
+unfolding loadEntry entrySize partsOfKind
 entry-unit w n h = unit-written w n (firstBehind n) (secondBehind w n) h
 
 entry-one : (w : List ℕ) (n : ℕ) {A : Ty} → Room w n → Denotes w n (n - 1) A → entries (! A) ≤ most-entries
     → Denotes (loadEntry w n 4) (n + 1) n (! A)
-unfolding loadEntry entrySize
+unfolding loadEntry entrySize partsOfKind
 entry-one w n room d h =
     let s = cell-of d .size in
     one-part-written w n (firstBehind n) (secondBehind w n) (entryWord w n 4) room d (omega arith) h
@@ -114,7 +110,7 @@ entry-made : (w : List ℕ) (n : ℕ) {k : ℕ} {A B C : Ty}
     → Made k A B C → Room w n → Denotes w n (firstBehind n) A → Denotes w n (secondBehind w n) B
     → entries C ≤ most-entries
     → Denotes (loadEntry w n k) (n + 1) n C
-unfolding loadEntry entrySize
+unfolding loadEntry entrySize partsOfKind
 entry-made w n made-pair room d e h =
     let a = firstBehind n in
     let b = secondBehind w n in

@@ -8,7 +8,8 @@ use mathlib.Core.Option.{Option, none, some}
 use lib.Dec.{leb}
 use borrow.Author.Tests.{le-leb, lt-leb}
 use Rattle.rules.specs.Kinds.{pair-type-kind, function-kind, reusable-kind}
-use Rattle.rules.specs.Types.{Ty, !_, Circ, entries, isWireType, most-entries}
+use Rattle.rules.specs.Types.{Ty, unit, !_, Circ, entries, isWireType, most-entries}
+use Rattle.rules.specs.Parts.{partsOfKind}
 use Rattle.rules.specs.Inference.{same, given, if-true, asPair, asFunction, asReusable, boxType, liftType}
 use Rattle.check_types.specs.declared.Ruled.{Ruled}
 use Rattle.check_types.specs.declared.Ruled.the-variants.{Gives, Fails}
@@ -21,7 +22,7 @@ use Rattle.check_types.specs.Laws.Cells.{cell-of, agree-refl, made-entri
 use Rattle.check_types.specs.Laws.Cells.{made-not-reusable, made-copyable}
 use Rattle.check_types.specs.NewCell.{withCell}
 use Rattle.check_types.specs.Laws.NewCell.{length-withCell, word-above-cell, agree-withCell, two-parts-written}
-use Rattle.check_types.specs.Laws.Cells.{leaf-wire, leaf-unit, leaf-clash}
+use Rattle.check_types.specs.Laws.Cells.{leaf-wire, leaf-unit, leaf-clash, made-some, reusable-some}
 use Rattle.check_types.specs.Laws.NewCell.{one-part-written}
 use Rattle.check_types.specs.Laws.Compare.{same-equal}
 use Rattle.check_types.specs.Rules.{SaysSameType, SaysIsWireType, Reads, reads-pair, reads-function, reads-circuit}
@@ -35,23 +36,28 @@ pub record PartsOf (w : List ℕ) (n i : ℕ) (o : Option (Ty × Ty)) (F : Ty) :
   pub second-denotes : Denotes w n (cellSecond w i) second
   pub size : entries F ≡ 1 + (entries first + entries second)
 
+reads-some : {k : ℕ} {g : Ty → Option (Ty × Ty)} → Reads k g → partsOfKind k ≡ 0 → ⊥
+reads-some reads-pair = made-some (made-pair {A = unit} {B = unit})
+reads-some reads-function = made-some (made-function {A = unit} {B = unit})
+reads-some reads-circuit = made-some (made-circuit {T = unit} {U = unit})
+
 pub of-kind : {w : List ℕ} {n i k : ℕ} {g : Ty → Option (Ty × Ty)} {F : Ty}
     → Reads k g → Denotes w n i F → cellKind w i ≡ k
     → PartsOf w n i (g F) F
 of-kind {w} {n} {i} r d e = go r (view d) e
   where
     go : {k : ℕ} {g : Ty → Option (Ty × Ty)} {F : Ty} → Reads k g → View w n i F → cellKind w i ≡ k → PartsOf w n i (g F) F
-    go reads-pair (no-part l k) e = absurd (leaf-clash l refl (sym e ∙ k))
+    go reads-pair (no-part l k) e = absurd (leaf-clash l (reads-some reads-pair) (sym e ∙ k))
     go reads-pair (one-part k x) e = absurd (omega arith)
     go reads-pair (two-parts made-pair k x y) e = record { first = _; second = _; parts = refl; first-denotes = x; second-denotes = y; size = refl }
     go reads-pair (two-parts made-function k x y) e = absurd (omega arith)
     go reads-pair (two-parts made-circuit k x y) e = absurd (omega arith)
-    go reads-function (no-part l k) e = absurd (leaf-clash l refl (sym e ∙ k))
+    go reads-function (no-part l k) e = absurd (leaf-clash l (reads-some reads-function) (sym e ∙ k))
     go reads-function (one-part k x) e = absurd (omega arith)
     go reads-function (two-parts made-pair k x y) e = absurd (omega arith)
     go reads-function (two-parts made-function k x y) e = record { first = _; second = _; parts = refl; first-denotes = x; second-denotes = y; size = refl }
     go reads-function (two-parts made-circuit k x y) e = absurd (omega arith)
-    go reads-circuit (no-part l k) e = absurd (leaf-clash l refl (sym e ∙ k))
+    go reads-circuit (no-part l k) e = absurd (leaf-clash l (reads-some reads-circuit) (sym e ∙ k))
     go reads-circuit (one-part k x) e = absurd (omega arith)
     go reads-circuit (two-parts made-pair k x y) e = absurd (omega arith)
     go reads-circuit (two-parts made-function k x y) e = absurd (omega arith)
@@ -93,7 +99,7 @@ pub reusable : {w : List ℕ} {n i : ℕ} {F : Ty} → Denotes w n i F → cellK
 reusable {w} {n} {i} d e = go (view d)
   where
     go : {F : Ty} → View w n i F → PartOf w n i F
-    go (no-part l k) = absurd (leaf-clash l refl (sym e ∙ k))
+    go (no-part l k) = absurd (leaf-clash l reusable-some (sym e ∙ k))
     go (one-part k x) = record { first = _; part = refl; denotes = x; size = refl }
     go (two-parts m k x y) = absurd (made-not-reusable m (sym k ∙ e))
 

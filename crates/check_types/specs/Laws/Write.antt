@@ -2,17 +2,18 @@
 use Prim.Native.Nat.{ℕ, suc, _+_, _-_, _%_, _≤_, _<_}
 use native.Mathlib.Omega.{arith}
 use mathlib.Core.Path.{_≡_, refl, sym, _∙_, ap, ap₂}
-use mathlib.Core.Bool.{true, false}
 use mathlib.Core.List.{List, [], _∷_, _++_}
 use lib.ListN.{length, set, drop, length-set}
 use lib.Seq.{sets, sets-eq}
-use Rattle.rules.specs.Kinds.{reusable-kind, unit-kind}
+use Rattle.rules.specs.Kinds.{unit-kind}
 use Rattle.rules.specs.Types.{Ty, entries, wireCode, typeCodes}
+use Rattle.rules.specs.Parts.{partsOfKind}
 use Rattle.rules.specs.Laws.TypeCodes.{typeCodes-entries, entries-positive, wire-kind}
 use Rattle.check_types.specs.Cells.{cellKind, cellFirst, cellSecond, Denotes, Made, made-pair, made-function}
-use Rattle.check_types.specs.Cells.{made-circuit, hasParts}
+use Rattle.check_types.specs.Cells.{made-circuit}
 use Rattle.check_types.specs.Laws.Cells.{View, no-part, one-part, two-parts, view, made-entries, made-parts}
-use Rattle.check_types.specs.Laws.Cells.{cell-of, made-not-reusable, leaf-wire, leaf-unit, parts-clash, leaf-clash}
+use Rattle.check_types.specs.Laws.Cells.{made-some, reusable-parts, reusable-some}
+use Rattle.check_types.specs.Laws.Cells.{cell-of, leaf-wire, leaf-unit, leaf-parts, leaf-clash}
 use Rattle.check_types.specs.Compare.{shareOf}
 use Rattle.check_types.specs.Write.{WroteAt, SaysWrote, SaysWroteAt}
 
@@ -40,7 +41,7 @@ module _ (w : List ℕ) (most i at : ℕ) (out : List ℕ) where
   pub no-entries : (out′ : List ℕ) (r : ℕ) → most ≡ 0 → SaysWroteAt w most i at out out′ r
   no-entries out′ r h n A d f b = absurd (omega (arith, entries-positive A))
 
-  pub wrote-leaf : hasParts (cellKind w i) ≡ false → SaysWroteAt w most i at out (set out at (cellKind w i % 256)) (at + 1)
+  pub wrote-leaf : partsOfKind (cellKind w i) ≡ 0 → SaysWroteAt w most i at out (set out at (cellKind w i % 256)) (at + 1)
   wrote-leaf h n A d f b = go (view d)
     where
       go : {A : Ty} → View w n i A → WroteAt out (set out at (cellKind w i % 256)) at A (at + 1)
@@ -50,21 +51,21 @@ module _ (w : List ℕ) (most i at : ℕ) (out : List ℕ) where
       go (no-part leaf-unit k) =
           let e : cellKind w i % 256 ≡ unit-kind = omega arith in
           record { codes = ap (λ x. set out at x) e; next = refl }
-      go (one-part k x) = absurd (parts-clash reusable-kind refl (ap hasParts (sym k) ∙ h))
-      go (two-parts {k = kind} m k x y) = absurd (parts-clash kind (made-parts m) (ap hasParts (sym k) ∙ h))
+      go (one-part k x) = absurd (reusable-some (ap partsOfKind (sym k) ∙ h))
+      go (two-parts m k x y) = absurd (made-some m (ap partsOfKind (sym k) ∙ h))
 
   -- The entries of the parts, behind the kind's.
   abbrev headed : List ℕ
   headed = set out at (cellKind w i % 256)
 
-  pub wrote-one : (out′ : List ℕ) (r : ℕ) → cellKind w i ≡ reusable-kind
+  pub wrote-one : (out′ : List ℕ) (r : ℕ) → partsOfKind (cellKind w i) ≡ 1
       → SaysWroteAt w (shareOf w (cellFirst w i) (most - 1)) (cellFirst w i) (at + 1) headed out′ r
       → SaysWroteAt w most i at out out′ r
   wrote-one out′ r h first n A d f b = go (view d) f b
     where
       go : {A : Ty} → View w n i A → entries A ≤ most → at + entries A ≤ length out → WroteAt out out′ at A r
-      go (no-part l k) f b = absurd (leaf-clash l refl (sym h ∙ k))
-      go (two-parts m k x y) f b = absurd (made-not-reusable m (sym k ∙ h))
+      go (no-part l k) f b = absurd (omega (arith, leaf-parts l, ap partsOfKind k))
+      go (two-parts m k x y) f b = absurd (omega (arith, made-parts m, ap partsOfKind k))
       go (one-part {A = A} k x) f b =
           let e : cellKind w i % 256 ≡ 4 = omega arith in
           let p : at + 1 ≡ suc at = omega arith in
@@ -74,7 +75,7 @@ module _ (w : List ℕ) (most i at : ℕ) (out : List ℕ) where
             next = z .next ∙ omega arith;
           }
 
-  pub wrote-two : (out₁ out₂ : List ℕ) (next r : ℕ) → hasParts (cellKind w i) ≡ true → (cellKind w i ≡ reusable-kind → ⊥)
+  pub wrote-two : (out₁ out₂ : List ℕ) (next r : ℕ) → (partsOfKind (cellKind w i) ≡ 0 → ⊥) → (partsOfKind (cellKind w i) ≡ 1 → ⊥)
       → SaysWroteAt w (shareOf w (cellFirst w i) (most - 1)) (cellFirst w i) (at + 1) headed out₁ next
       → length out₁ ≡ length out
       → SaysWroteAt w (most - 1 - shareOf w (cellFirst w i) (most - 1)) (cellSecond w i) next out₁ out₂ r
@@ -83,7 +84,7 @@ module _ (w : List ℕ) (most i at : ℕ) (out : List ℕ) where
     where
       go : {A : Ty} → View w n i A → entries A ≤ most → at + entries A ≤ length out → WroteAt out out₂ at A r
       go (no-part l k) f b = absurd (leaf-clash l h k)
-      go (one-part k x) f b = absurd (h′ k)
+      go (one-part k x) f b = absurd (h′ (ap partsOfKind k ∙ reusable-parts))
       go (two-parts {k = kind} {A = A} {B = B} {C = C} m k x y) f b =
           let s = made-entries m in
           let z = first n A x (omega (arith, cell-of x .size)) (omega (arith, length-set out at (cellKind w i % 256))) in

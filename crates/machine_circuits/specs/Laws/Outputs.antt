@@ -15,10 +15,12 @@ use Rattle.rules.specs.GateCodes.{circCodes, typeCode, typeEntries}
 use Rattle.rules.specs.Laws.TypeCodes.{typeCodes-entries}
 use Rattle.rules.specs.Laws.Wires.{every-nth}
 use Rattle.rules.specs.Laws.Booleans.{and-left, and-right}
+use Rattle.rules.specs.Parts.{partsOfKind}
+use Rattle.machine_nodes.specs.Laws.Spans.{none-waiting}
 use Rattle.words.specs.Regions.{Stands}
 use Rattle.words.specs.Laws.Regions.{stands-first}
 use Rattle.machine_circuits.specs.Tuples.{codeSpan}
-use Rattle.machine_circuits.specs.Laws.Tuples.{span-none, span-type}
+use Rattle.machine_circuits.specs.Laws.Tuples.{span-type}
 
 -- The codes of the gate with a number.
 abbrev pub gateCodes : ℕ → List ℕ
@@ -56,7 +58,7 @@ module _ (n : ℕ) (T U : Ty) (e : gateType n ≡ some (T to U)) where
   pub input-span : codeSpan (drop 1 (gateCodes n)) 1 ≡ entries T
   input-span =
       ap (λ l. codeSpan (drop 1 l) 1) codes-are
-      ∙ omega (arith, span-type T (typeCodes U) 0 (input-wires n T U e), span-none (typeCodes U))
+      ∙ omega (arith, span-type T (typeCodes U) 0, none-waiting ℕ partsOfKind (typeCodes U))
 
   codes-length : length (gateCodes n) ≡ 1 + entries T + entries U
   codes-length =

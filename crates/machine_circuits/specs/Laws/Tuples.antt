@@ -1,5 +1,5 @@
 -- Laws of specs/Tuples.antt.
-use Prim.Native.Nat.{ℕ, zero, suc, _+_, _≤_, _<_, _%_}
+use Prim.Native.Nat.{ℕ, suc, _+_, _≤_, _<_, _%_}
 use native.Mathlib.Omega.{arith}
 use mathlib.Core.Path.{_≡_, refl, sym, _∙_, ap, ap₂}
 use mathlib.Core.Bool.{cond}
@@ -7,7 +7,9 @@ use mathlib.Core.List.{List, [], _∷_, _++_, map, append-assoc, append-nil}
 use lib.Dec.{T as IsTrue, eqb}
 use lib.ListN.{length, take, drop, length-append}
 use borrow.Author.Tests.{eq-eqb, ne-eqb}
-use Rattle.rules.specs.Kinds.{pair-type-kind, label-kind, pair-kind, unit-value-kind}
+use Rattle.rules.specs.Kinds.{pair-type-kind, function-kind, reusable-kind, circuit-kind, unit-kind, label-kind, pair-kind}
+use Rattle.rules.specs.Kinds.{unit-value-kind}
+use Rattle.rules.specs.Parts.{partsOfKind}
 use Rattle.rules.specs.Types.{Wire, Bit, Qubit, Ty, wire, _⊗_, _⊸_, !_, Circ, isWireType, wires, entries, wireCode}
 use Rattle.rules.specs.Types.{typeCodes, unit}
 use Rattle.rules.specs.Terms.{Tuple, single, both, labels, tupleFrom, empty}
@@ -18,6 +20,7 @@ use Rattle.rules.specs.Slots.{no-wire}
 use Rattle.rules.specs.Laws.Booleans.{and-left, and-right}
 use Rattle.machine_circuits.specs.Layout.{tupleWords, no-label}
 use Rattle.machine_nodes.specs.Nodes.{nodeAt, no-node}
+use Rattle.machine_nodes.specs.Spans.{spanBy}
 use Rattle.machine_circuits.specs.Laws.Prefixes.{prefix-next}
 use Rattle.machine_circuits.specs.Copies.{AllBelow}
 use Rattle.machine_circuits.specs.Laws.Copies.{renamed-below}
@@ -237,35 +240,46 @@ nodes-type ℓ (A ⊸ B) t room = absurd t
 nodes-type ℓ (! A) t room = absurd t
 nodes-type ℓ (Circ T U) t room = absurd t
 
-pub span-none : (cs : List ℕ) → codeSpan cs 0 ≡ 0
-unfolding codeSpan
-span-none [] = refl
-span-none (c ∷ cs) = refl
+-- The parts that a type's code asks for.
+wire-asks : (α : Wire) → partsOfKind (wireCode α) ≡ 0
+unfolding partsOfKind
+wire-asks Bit = refl
+wire-asks Qubit = refl
 
-pub span-at-most : (cs : List ℕ) (waiting : ℕ) → codeSpan cs waiting ≤ length cs
-unfolding codeSpan
-span-at-most [] waiting = omega arith
-span-at-most (c ∷ cs) zero = omega arith
-span-at-most (c ∷ cs) (suc waiting) = omega (arith, span-at-most cs (cond (eqb c pair-type-kind) (suc (suc waiting)) waiting))
+none-asked : partsOfKind unit-kind ≡ 0
+unfolding partsOfKind
+none-asked = refl
 
-wire-waits : (w : ℕ) (α : Wire) → cond (eqb (wireCode α) 2) (suc (suc w)) w ≡ w
-wire-waits w Bit = refl
-wire-waits w Qubit = refl
+one-asked : partsOfKind reusable-kind ≡ 1
+unfolding partsOfKind
+one-asked = refl
 
-pub span-type : (T : Ty) (cs : List ℕ) (waiting : ℕ)
-    → IsTrue (isWireType T)
-    → codeSpan (typeCodes T ++ cs) (suc waiting) ≡ entries T + codeSpan cs waiting
-unfolding codeSpan
-span-type (wire α) cs waiting t =
-    ap (λ w. suc (codeSpan cs w)) (wire-waits waiting α) ∙ omega arith
-span-type unit cs waiting t = omega arith
-span-type (A ⊗ B) cs waiting t =
-    rw (append-assoc (typeCodes A) (typeCodes B) cs)
-    (omega (
-      arith,
-      span-type A (typeCodes B ++ cs) (suc waiting) (and-left (isWireType A) (isWireType B) t),
-      span-type B cs waiting (and-right (isWireType A) (isWireType B) t),
-    ))
-span-type (A ⊸ B) cs waiting t = absurd t
-span-type (! A) cs waiting t = absurd t
-span-type (Circ T U) cs waiting t = absurd t
+two-asked
+    : (partsOfKind pair-type-kind ≡ 2) × (partsOfKind function-kind ≡ 2) × (partsOfKind circuit-kind ≡ 2)
+unfolding partsOfKind
+two-asked = (refl, refl, refl)
+
+-- A type takes as many codes as it has entries: of two parts, the codes of both.
+of-two : (c : ℕ) (T U : Ty) (cs : List ℕ) (waiting : ℕ)
+    → partsOfKind c ≡ 2
+    → codeSpan (typeCodes T ++ (typeCodes U ++ cs)) (suc (suc waiting)) ≡ entries T + codeSpan (typeCodes U ++ cs) (suc waiting)
+    → codeSpan (typeCodes U ++ cs) (suc waiting) ≡ entries U + codeSpan cs waiting
+    → codeSpan (c ∷ ((typeCodes T ++ typeCodes U) ++ cs)) (suc waiting) ≡ 1 + (entries T + entries U) + codeSpan cs waiting
+unfolding spanBy
+of-two c T U cs waiting two first second =
+    let e : waiting + partsOfKind c ≡ suc (suc waiting) = omega (arith, two) in
+    rw (e, append-assoc (typeCodes T) (typeCodes U) cs) (omega (arith, first, second))
+
+pub span-type : (T : Ty) (cs : List ℕ) (waiting : ℕ) → codeSpan (typeCodes T ++ cs) (suc waiting) ≡ entries T + codeSpan cs waiting
+unfolding spanBy
+span-type (wire α) cs waiting = let e : waiting + partsOfKind (wireCode α) ≡ waiting = omega (arith, wire-asks α) in rw e (omega arith)
+span-type unit cs waiting = let e : waiting + partsOfKind unit-kind ≡ waiting = omega (arith, none-asked) in rw e (omega arith)
+span-type (A ⊗ B) cs waiting =
+    of-two pair-type-kind A B cs waiting (two-asked .0) (span-type A (typeCodes B ++ cs) (suc waiting)) (span-type B cs waiting)
+span-type (A ⊸ B) cs waiting =
+    of-two function-kind A B cs waiting (two-asked .1) (span-type A (typeCodes B ++ cs) (suc waiting)) (span-type B cs waiting)
+span-type (! A) cs waiting =
+    let e : waiting + partsOfKind reusable-kind ≡ suc waiting = omega (arith, one-asked) in
+    rw e (omega (arith, span-type A cs waiting))
+span-type (Circ T U) cs waiting =
+    of-two circuit-kind T U cs waiting (two-asked .2) (span-type T (typeCodes U ++ cs) (suc waiting)) (span-type U cs waiting)

@@ -5,9 +5,8 @@ use mathlib.Core.Path.{_≡_, refl, sym, _∙_, ap, ap₂}
 use mathlib.Core.Bool.{Bool, true, false, cond}
 use mathlib.Core.List.{List, [], _∷_, _++_, map}
 use lib.Dec.{T as IsTrue, eqb}
-use lib.ListN.{length, getD, set, take, drop, length-drop, length-map}
-use lib.Seq.{take-suc-set, drop-cons}
-use borrow.Author.Tests.{eq-eqb, ne-eqb}
+use lib.ListN.{length, getD, set, take, drop, length-map}
+use lib.Seq.{take-suc-set}
 use mathlib.Core.Option.{some}
 use Rattle.rules.specs.Kinds.{pair-type-kind, unit-kind}
 use Rattle.rules.specs.Types.{Ty, isWireType, wires, entries, typeCodes}
@@ -24,7 +23,9 @@ use Rattle.machine_circuits.specs.Copies.{AllBelow}
 use Rattle.machine_circuits.specs.Tuples.{labelsPassed, labelNumbers, nodeOfCode, labelAfter, codeSpan, loadedNode}
 use Rattle.machine_circuits.specs.Tuples.{wordOf}
 use Rattle.machine_circuits.specs.Laws.Tuples.{labels-tree, nodesOfCodes, labelBehind, nodes-append, behind-append}
-use Rattle.machine_circuits.specs.Laws.Tuples.{length-nodesOfCodes, behind-type, nodes-type, span-none, span-at-most}
+use Rattle.rules.specs.Parts.{partsOfKind}
+use Rattle.machine_nodes.specs.Laws.Spans.{none-waiting}
+use Rattle.machine_circuits.specs.Laws.Tuples.{length-nodesOfCodes, behind-type, nodes-type}
 use Rattle.machine_circuits.specs.Laws.Tuples.{span-type, loaded-tuple, words-tree}
 use Rattle.machine_circuits.specs.Results.{LabelsCollected, ResultFits, resultNodes, TupleWritten}
 
@@ -121,43 +122,14 @@ pub ne-zero : (n : ℕ) → (n ≡ 0 → ⊥) → 0 < n
 ne-zero zero h = absurd (h refl)
 ne-zero (suc n) h = omega arith
 
--- Where codes have run out, nothing is left to take.
-pub span-past : (cs : List ℕ) (i waiting : ℕ) → length cs ≤ i → codeSpan (drop i cs) waiting ≡ 0
-span-past cs i waiting h = omega (arith, span-at-most (drop i cs) waiting, length-drop i cs)
-
--- A pair waits for one more type; anything else ends one.
-pub span-pair : (cs : List ℕ) (i waiting : ℕ)
-    → i < length cs
-    → getD cs i 0 ≡ pair-type-kind
-    → i + codeSpan (drop i cs) (waiting + 1) ≡ (i + 1) + codeSpan (drop (i + 1) cs) (waiting + 1 + 1)
-unfolding codeSpan
-span-pair cs i w h e =
-    let next : i + 1 ≡ suc i = omega arith in
-    let more : w + 1 ≡ suc w = omega arith in
-    let most : suc w + 1 ≡ suc (suc w) = omega arith in
-    rw (next, more, most, drop-cons cs i 0 h, eq-eqb (getD cs i 0) 2 e) (omega arith)
-
-pub span-wire : (cs : List ℕ) (i waiting : ℕ)
-    → i < length cs
-    → (getD cs i 0 ≡ pair-type-kind → ⊥)
-    → i + codeSpan (drop i cs) (waiting + 1) ≡ (i + 1) + codeSpan (drop (i + 1) cs) waiting
-unfolding codeSpan
-span-wire cs i w h e =
-    let next : i + 1 ≡ suc i = omega arith in
-    let more : w + 1 ≡ suc w = omega arith in
-    rw (next, more, drop-cons cs i 0 h, ne-eqb (getD cs i 0) 2 e) (omega arith)
-
--- The wire type that stands at a position takes as many codes as it has entries.
-pub span-whole : (T : Ty) (cs : List ℕ) (at : ℕ)
-    → IsTrue (isWireType T)
-    → Stands cs at (typeCodes T)
-    → codeSpan (drop at cs) 1 ≡ entries T
-span-whole T cs at t stands =
+-- The type that stands at a position takes as many codes as it has entries.
+pub span-whole : (T : Ty) (cs : List ℕ) (at : ℕ) → Stands cs at (typeCodes T) → codeSpan (drop at cs) 1 ≡ entries T
+span-whole T cs at stands =
     ap (λ l. codeSpan l 1) (stands-rest cs at (typeCodes T) stands)
     ∙ omega (
       arith,
-      span-type T (drop (at + length (typeCodes T)) cs) 0 t,
-      span-none (drop (at + length (typeCodes T)) cs),
+      span-type T (drop (at + length (typeCodes T)) cs) 0,
+      none-waiting ℕ partsOfKind (drop (at + length (typeCodes T)) cs),
     )
 
 -- The next label, and the nodes with one more.

@@ -5,11 +5,11 @@ use Prim.Native.Nat.{_+_, _*_, _-_, _≤_, _/_}
 use native.Mathlib.Omega.{arith}
 use mathlib.Core.Path.{_≡_, refl, sym, ap, _∙_}
 use lib.ListN.{length, drop}
-use Rattle.machine_terms.specs.Trees.{kind, parts}
-use Rattle.machine_nodes.specs.Nodes.{nodesIn, nodeAt}
+use Rattle.machine_terms.specs.Trees.{Node, kind, parts}
+use Rattle.machine_nodes.specs.Nodes.{nodesIn, nodeAt, no-node}
 use Rattle.machine_nodes.specs.Laws.Nodes.{length-nodesIn}
-use Rattle.machine_nodes.specs.Spans.{span}
-use Rattle.machine_nodes.specs.Laws.Spans.{span-next, span-none, span-past}
+use Rattle.machine_nodes.specs.Spans.{asked, span}
+use Rattle.machine_nodes.specs.Laws.Spans.{one-more, none-waiting, run-out}
 use Rattle.machine_nodes.proofs.subtree_end.Statement.{statement}
 use Rattle.machine_nodes.proofs.subtree_end.Tie as tie
 
@@ -31,7 +31,7 @@ returns c =
     let s = c .before .before .loop in
     let ns = nodesIn (c .before .before .before .before .args .nodes .now) in
     let none : span (drop (s .i) ns) (s .waiting) ≡ 0
-    = ap (span (drop (s .i) ns)) (c .if1 .taken) ∙ span-none (drop (s .i) ns) in
+    = ap (span (drop (s .i) ns)) (c .if1 .taken) ∙ none-waiting Node asked (drop (s .i) ns) in
     omega (arith, s .inv .0)
 
 kind-at-requires : tie.Need-kind-at-requires Inv-loop μ-loop
@@ -58,7 +58,7 @@ loop-again c =
     let ns = nodesIn (c .before .before .before .before .before .before .args .nodes .now) in
     let more : c .parts-of .result ≡ parts (kind (nodeAt ns (s .i)))
     = c .parts-of .ensures .0 ∙ ap parts (c .before .kind-at .ensures .0) in
-    let next = span-next ns (s .i) (s .waiting) (omega (arith, length-nodesIn (c .before .before .before .before .before .before .args .nodes .now))) (omega arith) in (
+    let next = one-more Node asked no-node ns (s .i) (s .waiting) (omega (arith, length-nodesIn (c .before .before .before .before .before .before .args .nodes .now))) (omega arith) in (
       ap (λ p. s .i + 1 + span (drop (s .i + 1) ns) (s .waiting + p - 1)) more ∙ sym next ∙ s .inv .0,
       omega arith,
       omega (arith, c .parts-of .ensures .1),
@@ -69,8 +69,8 @@ returns-2 : tie.Need-returns-2 Inv-loop μ-loop
 returns-2 c =
     let s = c .before .loop in
     let m = c .before .before .before .args .nodes .now in
-    let past = span-past (nodesIn m) (s .i) (s .waiting) (omega (arith, length-nodesIn m)) in
-    sym past ∙ s .inv .0
+    let past = run-out Node asked (nodesIn m) (s .i) (s .waiting) (omega (arith, length-nodesIn m)) in
+    omega (arith, past, s .inv .0)
 
 pub subtree-end-spec : {M : Type 1} → statement M
 subtree-end-spec =

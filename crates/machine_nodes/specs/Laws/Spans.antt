@@ -3,51 +3,53 @@ use Prim.Native.Nat.{ℕ, zero, suc, _+_, _-_, _≤_, _<_}
 use native.Mathlib.Omega.{arith}
 use mathlib.Core.Path.{_≡_, refl}
 use mathlib.Core.List.{List, [], _∷_, _++_, append-assoc}
-use lib.ListN.{length, drop, length-append, length-drop}
+use lib.ListN.{length, getD, drop, length-append, length-drop}
 use lib.Seq.{drop-cons}
 use Rattle.machine_terms.specs.Trees.{Node, kind, Tree, leaf, one, two, preorder, parts, WellKinded}
-use Rattle.machine_nodes.specs.Nodes.{nodeAt, no-node}
-use Rattle.machine_nodes.specs.Spans.{span}
+use Rattle.machine_nodes.specs.Nodes.{no-node}
+use Rattle.machine_nodes.specs.Spans.{spanBy, asked, span}
 
-pub span-at-most : (ns : List Node) (waiting : ℕ) → span ns waiting ≤ length ns
-unfolding span
-span-at-most [] waiting = omega arith
-span-at-most (n ∷ ns) zero = omega arith
-span-at-most (n ∷ ns) (suc waiting) = omega (arith, span-at-most ns (waiting + parts (kind n)))
+module _ (X : Type 0) (asked : X → ℕ) where
+  pub at-most-all : (xs : List X) (waiting : ℕ) → spanBy X asked xs waiting ≤ length xs
+  unfolding spanBy
+  at-most-all [] waiting = omega arith
+  at-most-all (x ∷ xs) zero = omega arith
+  at-most-all (x ∷ xs) (suc waiting) = omega (arith, at-most-all xs (waiting + asked x))
 
-pub span-none : (ns : List Node) → span ns 0 ≡ 0
-unfolding span
-span-none [] = refl
-span-none (n ∷ ns) = refl
+  pub none-waiting : (xs : List X) → spanBy X asked xs 0 ≡ 0
+  unfolding spanBy
+  none-waiting [] = refl
+  none-waiting (x ∷ xs) = refl
+
+  -- The first element counts, and the parts that it asks for are waited for.
+  pub one-more : (default : X) (xs : List X) (i waiting : ℕ)
+      → i < length xs
+      → 0 < waiting
+      → i + spanBy X asked (drop i xs) waiting
+      ≡ (i + 1) + spanBy X asked (drop (i + 1) xs) (waiting + asked (getD xs i default) - 1)
+  unfolding spanBy
+  one-more default xs i zero h h′ = absurd (omega arith)
+  one-more default xs i (suc waiting) h h′ =
+      let p = asked (getD xs i default) in
+      let e : suc waiting + p - 1 ≡ waiting + p = omega arith in
+      let f : i + 1 ≡ suc i = omega arith in
+      rw (e, f, drop-cons xs i default h) (omega arith)
+
+  -- Where elements have run out, nothing is left to take.
+  pub run-out : (xs : List X) (i waiting : ℕ) → length xs ≤ i → spanBy X asked (drop i xs) waiting ≡ 0
+  run-out xs i waiting h = omega (arith, at-most-all (drop i xs) waiting, length-drop i xs)
 
 -- A part takes at least one node, if there is one.
 pub span-positive : (ns : List Node) (at : ℕ) → at < length ns → 0 < span (drop at ns) 1
-unfolding span
+unfolding spanBy
 span-positive ns at h = rw (drop-cons ns at no-node h) (omega arith)
-
--- The first node counts, and the parts that it asks for are waited for.
-pub span-next : (ns : List Node) (i waiting : ℕ)
-    → i < length ns
-    → 0 < waiting
-    → i + span (drop i ns) waiting ≡ (i + 1) + span (drop (i + 1) ns) (waiting + parts (kind (nodeAt ns i)) - 1)
-unfolding span
-span-next ns i zero h h′ = absurd (omega arith)
-span-next ns i (suc waiting) h h′ =
-    let p = parts (kind (nodeAt ns i)) in
-    let e : suc waiting + p - 1 ≡ waiting + p = omega arith in
-    let f : i + 1 ≡ suc i = omega arith in
-    rw (e, f, drop-cons ns i no-node h) (omega arith)
-
--- Where nodes have run out, nothing is left to take.
-pub span-past : (ns : List Node) (i waiting : ℕ) → length ns ≤ i → i + span (drop i ns) waiting ≡ i
-span-past ns i waiting h = omega (arith, span-at-most (drop i ns) waiting, length-drop i ns)
 
 -- One part is one tree.
 module _ (positions closed : ℕ) where
   pub span-tree : (t : Tree) (ns : List Node) (waiting : ℕ)
       → WellKinded positions closed t
       → span (preorder t ++ ns) (suc waiting) ≡ length (preorder t) + span ns waiting
-  unfolding span
+  unfolding spanBy
   span-tree (leaf n) ns waiting h =
       let e : waiting + parts (kind n) ≡ waiting = omega (arith, h .0) in
       rw e (omega arith)
@@ -67,4 +69,4 @@ module _ (positions closed : ℕ) where
   pub span-one-tree : (t : Tree) (ns : List Node)
       → WellKinded positions closed t
       → span (preorder t ++ ns) 1 ≡ length (preorder t)
-  span-one-tree t ns h = omega (arith, span-tree t ns 0 h, span-none ns)
+  span-one-tree t ns h = omega (arith, span-tree t ns 0 h, none-waiting Node asked ns)

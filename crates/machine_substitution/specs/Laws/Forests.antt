@@ -5,9 +5,9 @@ use mathlib.Core.List.{List, [], _∷_, _++_, append-assoc, append-nil}
 use Rattle.rules.specs.Kinds.{variable-kind}
 use Rattle.machine_terms.specs.Trees.{Node, node, kind, Tree, leaf, one, two, preorder, parts, leafKind, oneKind, twoKind}
 use Rattle.machine_terms.specs.Trees.{bindersOne, bindersTwo, treeAt, variableTree, underTree, substituteTree, WellKinded}
-use Rattle.machine_nodes.specs.Laws.Kinds.{KindIs, kind-variable, kind-label, kind-gate, kind-constant, kind-abstraction}
-use Rattle.machine_nodes.specs.Laws.Kinds.{kind-lift, kind-force, kind-box, kind-application, kind-pair, kind-let}
-use Rattle.machine_nodes.specs.Laws.Kinds.{kind-apply, kind-view, kind-unit-value}
+use Rattle.machine_terms.specs.Laws.Kinds.{KindIs, kind-variable, kind-label, kind-gate, kind-constant, kind-abstraction}
+use Rattle.machine_terms.specs.Laws.Kinds.{kind-lift, kind-force, kind-box, kind-application, kind-pair, kind-let}
+use Rattle.machine_terms.specs.Laws.Kinds.{kind-apply, kind-view, kind-unit-value}
 use Rattle.machine_substitution.specs.Substituted.{valueAt, variableNodes, pieceFor, partsWaiting, waitingAfter}
 use Rattle.machine_substitution.specs.Substituted.{substituted}
 

@@ -9,9 +9,9 @@ use lib.ListN.{length, getD, set, length-set}
 use lib.Seq.{getD-set-same, getD-set-other}
 use Rattle.rules.specs.Kinds.{abstraction-kind, let-kind}
 use Rattle.machine_terms.specs.Trees.{parts, oneKind, twoKind, bindersOne, bindersTwo}
-use Rattle.machine_nodes.specs.Laws.Kinds.{KindIs, kind-abstraction, kind-lift, kind-force, kind-box, kind-application}
-use Rattle.machine_nodes.specs.Laws.Kinds.{kind-pair, kind-let, kind-apply, kind-variable, kind-label, kind-gate}
-use Rattle.machine_nodes.specs.Laws.Kinds.{kind-constant, no-kind, kind-view, kind-unit-value}
+use Rattle.machine_terms.specs.Laws.Kinds.{KindIs, kind-abstraction, kind-lift, kind-force, kind-box, kind-application}
+use Rattle.machine_terms.specs.Laws.Kinds.{kind-pair, kind-let, kind-apply, kind-variable, kind-label, kind-gate}
+use Rattle.machine_terms.specs.Laws.Kinds.{kind-constant, no-kind, kind-view, kind-unit-value}
 use Rattle.machine_substitution.specs.Substituted.{partsWaiting, waitingAfter}
 use Rattle.machine_substitution.specs.Waiting.{stackOf, bindersOf}
 

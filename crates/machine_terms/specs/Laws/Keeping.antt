@@ -9,6 +9,7 @@ use lib.ListN.{length}
 use Rattle.rules.specs.Types.{Ty}
 use Rattle.rules.specs.Gates.{GateType, _to_, gateType}
 use Rattle.rules.specs.Terms.{Tuple, tupleFrom, Boxed}
+use Rattle.rules.specs.Parts.{partsOfKind}
 use Rattle.rules.specs.Circuits.{Circuit, circuit, returned, gateBoxed}
 use Rattle.machine_terms.specs.Trees.{Node, kind, argument, Tree, leaf, one, two, LeafKind, a-variable, a-label}
 use Rattle.machine_terms.specs.Trees.{a-gate, a-constant, leafKind, OneKind, an-abstraction, a-lift, a-force, a-box}
@@ -88,7 +89,7 @@ module _ (types : ℕ → Ty) (positions : ℕ) (C : Circuit) (Cs : List Circuit
       → IsTrue (isLift v)
       → WellKinded positions (length closed) t
       → IfFits positions (enter types C Cs closed n v t hs)
-  unfolding parts
+  unfolding parts partsOfKind
   enter-fits n v t a b p l q = (
     ((refl, q, well-kinded-tuple positions (length closed) (tupleFrom 0 (types (argument n)))), ((a, b, p, l), fit)),
     ap suc boxes,

@@ -1,11 +1,14 @@
 -- The kinds as numbers: what a kind number says of a node, and which number a kind of node has.
-use Prim.Native.Nat.{ℕ}
+use Prim.Native.Nat.{ℕ, _≤_, _<_}
 use native.Mathlib.Omega.{arith}
-use mathlib.Core.Path.{_≡_, refl, sym, subst}
-use mathlib.Core.Bool.{Bool, true, false, _||_, cond}
-use lib.Dec.{T as IsTrue, eqb, eqb→eq}
+use mathlib.Core.Path.{_≡_, refl, sym, _∙_, ap, ap₂, subst}
+use mathlib.Core.Bool.{Bool, true, false, _&&_, cond}
+use lib.Dec.{eqb, leb}
+use borrow.Author.Tests.{ne-eqb, le-leb, lt-leb, leb-true, leb-false}
 use Rattle.rules.specs.Kinds.{variable-kind, label-kind, abstraction-kind, application-kind, pair-kind, let-kind}
 use Rattle.rules.specs.Kinds.{lift-kind, force-kind, box-kind, apply-kind, gate-kind, constant-kind, unit-value-kind}
+use Rattle.rules.specs.Parts.{partsOfKind}
+use Rattle.rules.specs.Laws.Ranges.{try, _and_, no-more, in-range}
 use Rattle.machine_terms.specs.Trees.{LeafKind, a-variable, a-label, a-gate, a-constant, leafKind, OneKind}
 use Rattle.machine_terms.specs.Trees.{an-abstraction, a-lift, a-force, a-box, oneKind, TwoKind, an-application, a-pair}
 use Rattle.machine_terms.specs.Trees.{a-let, an-apply, twoKind, parts, a-unit-value}
@@ -34,7 +37,7 @@ twoNumber an-apply = apply-kind
 
 -- The number of a kind without parts is read as that kind.
 pub leaf-number-read : (c : LeafKind) → (leafKind (leafNumber c) ≡ c) × (parts (leafNumber c) ≡ 0)
-unfolding leafKind parts
+unfolding leafKind parts partsOfKind
 leaf-number-read a-variable = (refl, refl)
 leaf-number-read a-label = (refl, refl)
 leaf-number-read a-gate = (refl, refl)
@@ -43,7 +46,7 @@ leaf-number-read a-constant = (refl, refl)
 
 -- The number of a kind with one part is read as that kind.
 pub one-number-read : (c : OneKind) → (oneKind (oneNumber c) ≡ c) × (parts (oneNumber c) ≡ 1)
-unfolding oneKind parts
+unfolding oneKind parts partsOfKind
 one-number-read an-abstraction = (refl, refl)
 one-number-read a-lift = (refl, refl)
 one-number-read a-force = (refl, refl)
@@ -51,51 +54,94 @@ one-number-read a-box = (refl, refl)
 
 -- The number of a kind with two parts is read as that kind.
 pub two-number-read : (c : TwoKind) → (twoKind (twoNumber c) ≡ c) × (parts (twoNumber c) ≡ 2)
-unfolding twoKind parts
+unfolding twoKind parts partsOfKind
 two-number-read an-application = (refl, refl)
 two-number-read a-pair = (refl, refl)
 two-number-read a-let = (refl, refl)
 two-number-read an-apply = (refl, refl)
 
--- The first of three tests that passes.
-abbrev pick : Bool → Bool → Bool → ℕ
-pick a b c = cond a 0 (cond b 1 (cond c 2 3))
+-- The kinds, each with its number of parts.
+pub data KindIs : ℕ → ℕ → Type 0 where
+  kind-variable : KindIs 16 0
+  kind-label : KindIs 17 0
+  kind-gate : KindIs 26 0
+  kind-unit-value : KindIs 27 0
+  kind-constant : KindIs 32 0
+  kind-abstraction : KindIs 18 1
+  kind-lift : KindIs 22 1
+  kind-force : KindIs 23 1
+  kind-box : KindIs 24 1
+  kind-application : KindIs 19 2
+  kind-pair : KindIs 20 2
+  kind-let : KindIs 21 2
+  kind-apply : KindIs 25 2
+  no-kind : {k : ℕ} → KindIs k 3
 
-picks-zero : (a b c : Bool) → pick a b c ≡ 0 → IsTrue a
-picks-zero true b c e = tt
-picks-zero false true c e = absurd (omega arith)
-picks-zero false false true e = absurd (omega arith)
-picks-zero false false false e = absurd (omega arith)
+-- The parts of a number from the first kind of a term to the last, of one below them, and of one above them.
+pub parts-inside : (k : ℕ) → variable-kind ≤ k → k ≤ unit-value-kind → parts k ≡ partsOfKind k
+unfolding parts
+parts-inside k least most =
+    ap₂ (λ b c. cond (b && c) (partsOfKind k) (cond (eqb k constant-kind) 0 3))
+    (le-leb variable-kind k least)
+    (le-leb k unit-value-kind most)
 
--- Five numbers, and a kind for each: the last where the first four tests fail.
-is-number : (k m : ℕ) → eqb k m ≡ true → k ≡ m
-is-number k m e = eqb→eq k m (subst IsTrue (sym e) tt)
+pub parts-below : (k : ℕ) → k < variable-kind → parts k ≡ 3
+unfolding parts
+parts-below k most =
+    ap (λ b. cond (b && leb k unit-value-kind) (partsOfKind k) (cond (eqb k constant-kind) 0 3)) (lt-leb variable-kind k most)
+    ∙ ap (λ b. cond b 0 3) (ne-eqb k constant-kind (λ e. absurd (omega (arith, e))))
 
-module _ {A : Type 0} (number : A → ℕ) (k : ℕ) (a b c d i : A) where
-  five : (p q r s u : Bool)
-      → eqb k (number a) ≡ p
-      → eqb k (number b) ≡ q
-      → eqb k (number c) ≡ r
-      → eqb k (number d) ≡ s
-      → eqb k (number i) ≡ u
-      → IsTrue (p || q || r || s || u)
-      → k ≡ number (cond p a (cond q b (cond r c (cond s d i))))
-  five true q r s u e f g h j t = is-number k (number a) e
-  five false true r s u e f g h j t = is-number k (number b) f
-  five false false true s u e f g h j t = is-number k (number c) g
-  five false false false true u e f g h j t = is-number k (number d) h
-  five false false false false true e f g h j t = is-number k (number i) j
-  five false false false false false e f g h j t = absurd t
+pub parts-above : (k : ℕ) → unit-value-kind < k → (k ≡ constant-kind → ⊥) → parts k ≡ 3
+unfolding parts
+parts-above k least other =
+    ap₂ (λ b c. cond (b && c) (partsOfKind k) (cond (eqb k constant-kind) 0 3))
+    (le-leb variable-kind k (omega arith))
+    (lt-leb k unit-value-kind least)
+    ∙ ap (λ b. cond b 0 3) (ne-eqb k constant-kind other)
+
+term-kinds : (k : ℕ) → variable-kind ≤ k → k ≤ unit-value-kind → KindIs k (partsOfKind k)
+unfolding partsOfKind
+term-kinds k least most =
+    in-range (λ j. KindIs j (partsOfKind j)) variable-kind 12
+    (kind-variable
+    and kind-label
+    and kind-abstraction
+    and kind-application
+    and kind-pair
+    and kind-let
+    and kind-lift
+    and kind-force
+    and kind-box
+    and kind-apply
+    and kind-gate
+    and kind-unit-value
+    and no-more)
+    k
+    least
+    (omega arith)
+
+pub kind-view : (k : ℕ) → KindIs k (parts k)
+unfolding parts
+kind-view k = go (leb variable-kind k) (leb k unit-value-kind) refl refl
+  where
+    go : (b c : Bool) → leb variable-kind k ≡ b → leb k unit-value-kind ≡ c → KindIs k (parts k)
+    go false c least most = subst (KindIs k) (sym (parts-below k (leb-false variable-kind k least))) no-kind
+    go true true least most =
+        let from = leb-true variable-kind k least in
+        let to = leb-true k unit-value-kind most in
+        subst (KindIs k) (sym (parts-inside k from to)) (term-kinds k from to)
+    go true false least most =
+        try (λ j. KindIs j (parts j)) k constant-kind kind-constant λ other.
+        subst (KindIs k) (sym (parts-above k (leb-false k unit-value-kind most) other)) no-kind
 
 -- A number of a kind without parts is that of the kind read.
+leaf-is : {k : ℕ} → KindIs k 0 → k ≡ leafNumber (leafKind k)
+unfolding leafKind
+leaf-is kind-variable = refl
+leaf-is kind-label = refl
+leaf-is kind-gate = refl
+leaf-is kind-unit-value = refl
+leaf-is kind-constant = refl
+
 pub leaf-number : (k : ℕ) → parts k ≡ 0 → k ≡ leafNumber (leafKind k)
-unfolding parts leafKind
-leaf-number k e =
-    five leafNumber k a-variable a-label a-gate a-unit-value a-constant
-    (eqb k variable-kind) (eqb k label-kind) (eqb k gate-kind) (eqb k unit-value-kind) (eqb k constant-kind)
-    refl refl refl refl refl
-    (picks-zero
-    (eqb k variable-kind || eqb k label-kind || eqb k gate-kind || eqb k unit-value-kind || eqb k constant-kind)
-    (eqb k abstraction-kind || eqb k lift-kind || eqb k force-kind || eqb k box-kind)
-    (eqb k application-kind || eqb k pair-kind || eqb k let-kind || eqb k apply-kind)
-    e)
+leaf-number k e = leaf-is (subst (KindIs k) e (kind-view k))

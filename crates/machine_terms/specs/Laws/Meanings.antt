@@ -10,6 +10,7 @@ use lib.ListN.{length, length-append}
 use Rattle.rules.specs.Types.{Ty}
 use Rattle.rules.specs.Terms.{Tuple, single, both, Boxed, Term, value, tuple, termAt, variableAt, under, substitute, pair}
 use Rattle.rules.specs.Terms.{empty}
+use Rattle.rules.specs.Parts.{partsOfKind}
 use Rattle.rules.specs.Next.{joined, tupleOf}
 use Rattle.rules.specs.Sizes.{nodes}
 use Rattle.machine_terms.specs.Trees.{Node, kind, argument, Tree, leaf, one, two, preorder, LeafKind, a-variable}
@@ -120,7 +121,7 @@ meaning-tuple e (both k l) = ap₂ pair (meaning-tuple e k) (meaning-tuple e l)
 
 -- The tree of a label tuple is well-kinded.
 pub well-kinded-tuple : (positions closed : ℕ) (k : Tuple) → WellKinded positions closed (tupleTree k)
-unfolding leafKind parts
+unfolding leafKind parts partsOfKind
 well-kinded-tuple positions closed (single ℓ) = (refl, tt)
 well-kinded-tuple positions closed empty = (refl, tt)
 well-kinded-tuple positions closed (both k l) =

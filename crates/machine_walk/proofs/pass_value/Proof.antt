@@ -3,9 +3,11 @@ use native.Mathlib.Omega.{arith}
 use mathlib.Core.Logic.{inl}
 use lib.ListN.{drop, length-drop}
 use borrow.Author.Needs.{needs}
+use Rattle.machine_terms.specs.Trees.{Node}
 use Rattle.machine_nodes.specs.Nodes.{nodesIn}
 use Rattle.machine_nodes.specs.Laws.Bytes.{nodes-copied}
-use Rattle.machine_nodes.specs.Laws.Spans.{span-at-most}
+use Rattle.machine_nodes.specs.Spans.{asked}
+use Rattle.machine_nodes.specs.Laws.Spans.{at-most-all}
 use Rattle.machine_walk.specs.Laws.Functions.{value-moves, value-falls}
 use Rattle.machine_walk.proofs.pass_value.Statement.{statement}
 use Rattle.machine_walk.proofs.pass_value.Tie as tie
@@ -34,7 +36,7 @@ returns c =
     let ns′ = nodesIn (c .before .before .copy-nodes .last .0) in
     let end = c .before .before .before .before .subtree-end .result in
     let q = c .before .before .before .before .subtree-end .ensures in
-    let most = span-at-most (drop (p .right) ns) 1 in
+    let most = at-most-all Node asked (drop (p .right) ns) 1 in
     let rest = length-drop (p .right) ns in
     let inside = h .inside in
     let moved = nodes-copied _ _ _ _ _ (c .before .before .copy-nodes .ensures) (inl (h .apart)) (omega (arith, q)) (omega (arith, q, h .apart)) in

@@ -3,37 +3,30 @@ use Prim.Native.Nat.{ℕ}
 use mathlib.Core.Path.{_≡_, refl, subst}
 use mathlib.Core.List.{List, _∷_}
 use borrow.Author.Tests.{ne-eqb}
-use Rattle.rules.specs.Kinds.{label-kind, abstraction-kind, application-kind, pair-kind, let-kind, lift-kind}
-use Rattle.rules.specs.Kinds.{force-kind, box-kind, apply-kind, gate-kind, constant-kind, unit-value-kind}
-use Rattle.machine_terms.specs.Trees.{Node, node, kind, Tree, leaf, one, two, leafKind, oneKind, WellKinded}
+use Rattle.rules.specs.Kinds.{label-kind, abstraction-kind, lift-kind, gate-kind, constant-kind, unit-value-kind}
+use Rattle.rules.specs.Parts.{partsOfKind}
+use Rattle.machine_terms.specs.Trees.{Node, node, kind, Tree, leaf, one, two, leafKind, oneKind, parts, WellKinded}
 use Rattle.machine_terms.specs.Holes.{Hole, only}
 use Rattle.machine_terms.specs.Walks.{evaluating, returning, goes-on, stops, at-variable, move}
-use Rattle.machine_nodes.specs.Laws.Kinds.{KindIs, kind-variable, kind-label, kind-gate, kind-constant, kind-abstraction}
-use Rattle.machine_nodes.specs.Laws.Kinds.{kind-lift, kind-force, kind-box, kind-application, kind-pair, kind-let}
-use Rattle.machine_nodes.specs.Laws.Kinds.{kind-apply, kind-view, kind-unit-value}
+use Rattle.machine_terms.specs.Laws.Kinds.{KindIs, kind-variable, kind-label, kind-gate, kind-constant, kind-abstraction}
+use Rattle.machine_terms.specs.Laws.Kinds.{kind-lift, kind-force, kind-box, kind-application, kind-pair, kind-let}
+use Rattle.machine_terms.specs.Laws.Kinds.{kind-apply, kind-view, kind-unit-value}
 use Rattle.machine_walk.specs.declared.Head.{Head}
 use Rattle.machine_walk.specs.declared.Head.the-variants.{Value, OnePart, TwoParts, Neither}
-use Rattle.machine_walk.specs.Heads.{headOf}
+use Rattle.machine_walk.specs.Heads.{headWith, headOf}
 
--- There is nothing to do with a number that is none of these.
-pub head-neither : (k : ℕ)
-    → (k ≡ label-kind → ⊥) → (k ≡ abstraction-kind → ⊥) → (k ≡ application-kind → ⊥) → (k ≡ pair-kind → ⊥) → (k ≡ let-kind → ⊥)
-    → (k ≡ lift-kind → ⊥) → (k ≡ force-kind → ⊥) → (k ≡ box-kind → ⊥) → (k ≡ apply-kind → ⊥) → (k ≡ gate-kind → ⊥)
-    → (k ≡ unit-value-kind → ⊥) → (k ≡ constant-kind → ⊥)
-    → headOf k ≡ Neither
+-- A kind of no value.
+pub head-no-value : (k : ℕ)
+    → (k ≡ label-kind → ⊥) → (k ≡ abstraction-kind → ⊥) → (k ≡ lift-kind → ⊥)
+    → (k ≡ gate-kind → ⊥) → (k ≡ unit-value-kind → ⊥) → (k ≡ constant-kind → ⊥)
+    → headOf k ≡ headWith (parts k)
 unfolding headOf
-head-neither k h17 h18 h19 h20 h21 h22 h23 h24 h25 h26 h27 h32 =
+head-no-value k h17 h18 h22 h26 h27 h32 =
     simp (
       headOf,
       ne-eqb k label-kind h17,
       ne-eqb k abstraction-kind h18,
-      ne-eqb k application-kind h19,
-      ne-eqb k pair-kind h20,
-      ne-eqb k let-kind h21,
       ne-eqb k lift-kind h22,
-      ne-eqb k force-kind h23,
-      ne-eqb k box-kind h24,
-      ne-eqb k apply-kind h25,
       ne-eqb k gate-kind h26,
       ne-eqb k unit-value-kind h27,
       ne-eqb k constant-kind h32,
@@ -58,7 +51,7 @@ rootOf (two n t u) = n
 module _ (positions closed : ℕ) (hs : List Hole) where
   leaf-headed : {k : ℕ} (a : ℕ) → KindIs k 0 → WellKinded positions closed (leaf (node k a))
       → Headed positions closed hs (headOf k) (leaf (node k a))
-  unfolding headOf leafKind
+  unfolding headOf leafKind parts partsOfKind
   leaf-headed a kind-variable h = head-neither-one refl
   leaf-headed a kind-label h = head-value h refl
   leaf-headed a kind-gate h = head-value h refl
@@ -67,14 +60,14 @@ module _ (positions closed : ℕ) (hs : List Hole) where
 
   one-headed : {k : ℕ} (a : ℕ) (t : Tree) → KindIs k 1 → WellKinded positions closed (one (node k a) t)
       → Headed positions closed hs (headOf k) (one (node k a) t)
-  unfolding headOf oneKind
+  unfolding headOf oneKind parts partsOfKind
   one-headed a t kind-abstraction h = head-value h refl
   one-headed a t kind-lift h = head-value h refl
   one-headed a t kind-force h = head-one refl
   one-headed a t kind-box h = head-one refl
 
   two-headed : {k : ℕ} (a : ℕ) (t u : Tree) → KindIs k 2 → Headed positions closed hs (headOf k) (two (node k a) t u)
-  unfolding headOf
+  unfolding headOf parts partsOfKind
   two-headed a t u kind-application = head-two
   two-headed a t u kind-pair = head-two
   two-headed a t u kind-let = head-two

@@ -2,7 +2,7 @@
 use Prim.Native.Nat.{ℕ, zero, _+_, _-_, _≤_, _<_}
 use native.Mathlib.Numerals.{add-one}
 use native.Mathlib.Omega.{arith}
-use mathlib.Core.Path.{_≡_}
+use mathlib.Core.Path.{_≡_, refl}
 use mathlib.Core.Bool.{Bool, true, false}
 use mathlib.Core.List.{List}
 use lib.Dec.{eqb}
@@ -10,14 +10,18 @@ use borrow.Author.Tests.{lt-ltb, le-ltb, le-leb, lt-leb, ne-eqb}
 use Rattle.rules.specs.Kinds.{qubit-kind, pair-type-kind, function-kind, reusable-kind, circuit-kind, unit-kind, variable-kind}
 use Rattle.rules.specs.Kinds.{label-kind, abstraction-kind, application-kind, let-kind, lift-kind, force-kind, box-kind}
 use Rattle.rules.specs.Kinds.{apply-kind, gate-kind, unit-value-kind}
+use Rattle.rules.specs.Parts.{partsOfKind}
+use Rattle.rules.specs.Laws.Ranges.{_and_, no-more, in-range}
 use Rattle.program.specs.Format.{labelCount, firstTerm, kindAt, labelShape, typeShape}
 use Rattle.program.specs.Format.{termShape, shapeAt}
+use Rattle.program.specs.ArgumentRules.{ruleOf}
 use Rattle.words.specs.Laws.Numbers.{one-left}
 use Rattle.program.specs.Sized.{Sized}
 use Rattle.program.specs.Traversal.{firstFrom}
 use Rattle.program.specs.declared.format.Sizes.{Sizes}
 use Rattle.program.specs.declared.format.Argument.the-variants.{Zero}
 use Rattle.program.specs.declared.format.Shape.the-variants.{Node, Unknown}
+use Rattle.program.specs.declared.format.Rule.the-variants.{Follows}
 use Rattle.program.specs.declared.Found.the-variants.{At, Nothing}
 
 -- A scan is a loop that looks for the first entry at which a test fails, from entry e on, up to an end. Its invariant:
@@ -62,13 +66,19 @@ below : (k n : ℕ) → k < n → eqb k n ≡ false
 below k n h = ne-eqb k n (λ e. omega arith)
 
 -- The shapes of the kinds of a range, and of those that are in no range.
-pub wire-kinds : (k : ℕ) → k < pair-type-kind → typeShape k ≡ Node 0 Zero
-unfolding typeShape
-wire-kinds k h = rw (le-leb k qubit-kind (omega arith))
+pub label-shapes : (k : ℕ) → k ≤ qubit-kind → labelShape k ≡ Node (partsOfKind k) Zero
+unfolding labelShape partsOfKind
+label-shapes k most =
+    in-range (λ k. labelShape k ≡ Node (partsOfKind k) Zero) 0 2 (refl and refl and no-more) k (omega arith) (omega arith)
 
-pub two-part-types : (k : ℕ) → pair-type-kind ≤ k → k < reusable-kind → typeShape k ≡ Node 2 Zero
-unfolding typeShape
-two-part-types k least most = rw (lt-leb k qubit-kind (omega arith), le-leb pair-type-kind k least, le-leb k function-kind (omega arith))
+pub type-shapes : (k : ℕ) → k ≤ unit-kind → typeShape k ≡ Node (partsOfKind k) Zero
+unfolding typeShape partsOfKind
+type-shapes k most =
+    in-range (λ k. typeShape k ≡ Node (partsOfKind k) Zero) 0 7
+    (refl and refl and refl and refl and refl and refl and refl and no-more)
+    k
+    (omega arith)
+    (omega arith)
 
 pub no-types : (k : ℕ) → unit-kind < k → typeShape k ≡ Unknown
 unfolding typeShape
@@ -82,29 +92,14 @@ no-types k h =
       above k unit-kind h,
     )
 
-pub two-part-terms : (k : ℕ) → application-kind ≤ k → k < lift-kind → termShape k ≡ Node 2 Zero
+pub zero-terms : (k : ℕ) → application-kind ≤ k → k ≤ force-kind → ruleOf (termShape k) ≡ Follows Zero
 unfolding termShape
-two-part-terms k least most =
-    rw (
-      above k variable-kind (omega arith),
-      above k label-kind (omega arith),
-      above k abstraction-kind (omega arith),
-      le-leb application-kind k least,
-      le-leb k let-kind (omega arith),
-    )
-
-pub one-part-terms : (k : ℕ) → lift-kind ≤ k → k < box-kind → termShape k ≡ Node 1 Zero
-unfolding termShape
-one-part-terms k least most =
-    rw (
-      above k variable-kind (omega arith),
-      above k label-kind (omega arith),
-      above k abstraction-kind (omega arith),
-      le-leb application-kind k (omega arith),
-      lt-leb k let-kind (omega arith),
-      le-leb lift-kind k least,
-      le-leb k force-kind (omega arith),
-    )
+zero-terms k least most =
+    in-range (λ k. ruleOf (termShape k) ≡ Follows Zero) application-kind 5
+    (refl and refl and refl and refl and refl and no-more)
+    k
+    least
+    (omega arith)
 
 pub no-terms-below : (k : ℕ) → k < variable-kind → termShape k ≡ Unknown
 unfolding termShape

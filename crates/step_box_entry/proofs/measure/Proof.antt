@@ -1,5 +1,5 @@
 -- `step_box_entry::measure` meets its contract. Assumes nothing.
-use Prim.Native.Nat.{_+_, _-_, _/_}
+use Prim.Native.Nat.{ℕ, _+_, _-_, _/_}
 use native.Mathlib.Omega.{arith}
 use mathlib.Core.Path.{sym}
 use lib.ListN.{length, drop, length-drop}
@@ -8,7 +8,8 @@ use Rattle.words.specs.Laws.Words.{length-words}
 use Rattle.machine_nodes.specs.Nodes.{nodesIn}
 use Rattle.machine_nodes.specs.Laws.Nodes.{length-nodesIn}
 use Rattle.words.specs.Quadwords.{quadwordsIn}
-use Rattle.machine_circuits.specs.Laws.Tuples.{span-at-most}
+use Rattle.rules.specs.Parts.{partsOfKind}
+use Rattle.machine_nodes.specs.Laws.Spans.{at-most-all}
 use Rattle.step_box_entry.specs.Laws.Entry.{room-there, measured-fits, measured-exceeds}
 use borrow.Author.Needs.{needs}
 use Rattle.step_box_entry.proofs.measure.Statement.{statement}
@@ -54,7 +55,7 @@ add-new-2 c =
     omega (
       arith,
       c .type-size .ensures,
-      span-at-most (drop (c .before .argument-at .result) ws) 1,
+      at-most-all ℕ partsOfKind (drop (c .before .argument-at .result) ws) 1,
       length-drop (c .before .argument-at .result) ws,
       length-words (a .types .now),
       c .before .before .before .before .if2 .left,

@@ -185,7 +185,7 @@ module _ (types : ℕ → Ty) (positions : ℕ) (ns : List Node) (rs : List Quad
   type-stands = held .types-held (argument n) below
 
   type-entries : codeSpan (drop (argument n) ws) 1 ≡ entries (types (argument n))
-  type-entries = span-whole (types (argument n)) ws (argument n) wire-type type-stands
+  type-entries = span-whole (types (argument n)) ws (argument n) type-stands
 
   -- Its lift's body stands behind the nodes of the box and the lift, up to the end of the walked nodes.
   body-stands : (at : ℕ)

@@ -6,8 +6,8 @@ use borrow.Author.Needs.{needs}
 use borrow.Author.Tests.{not-true, not-false}
 use Rattle.words.specs.Words.{words}
 use Rattle.program.specs.Format.{kindAt}
-use Rattle.check_program.specs.Heads.{partCount}
-use Rattle.check_program.specs.Laws.Heads.{partCount-most}
+use Rattle.rules.specs.Parts.{partsOfKind}
+use Rattle.rules.specs.Laws.Parts.{at-most-two}
 use Rattle.check_program.specs.Inferring.{EndsTwo}
 use Rattle.check_program.specs.Laws.Ends.{small, two-left}
 use Rattle.check_program.specs.Laws.Meeting.{first-possible, one-meets, first-at-fault, no-pair, second-later}
@@ -27,7 +27,7 @@ use Rattle.check_program.proofs.node.binders_inside.Reads as binders-in
 use Rattle.check_program.proofs.node.finish_one.Reads as finish-one-reads
 use Rattle.check_program.proofs.node.finish_two.Reads as finish-two-reads
 use Rattle.check_program.proofs.node.lifts_inside.Reads as lifts-inside-reads
-use Rattle.check_program.proofs.node.part_count.Reads as part-count-reads
+use Rattle.rules.proofs.parts.parts_of_kind.Reads as parts-of-kind-reads
 use Rattle.check_program.proofs.bindings.between.Reads as between-reads
 use Rattle.check_program.proofs.bindings.enter.Reads as enter-reads
 use Rattle.check_program.proofs.infer.+infer.{statement}
@@ -47,8 +47,8 @@ abbrev calls : ℕ → infer-lts.Claims
 calls t = (
   kind-at-reads.Asked,
   kind-at-reads.Learnt,
-  part-count-reads.Asked,
-  part-count-reads.Learnt,
+  parts-of-kind-reads.Asked,
+  parts-of-kind-reads.Learnt,
   leaf-reads.Asked,
   leaf-reads.Learnt,
   enter-reads.Asked,
@@ -72,13 +72,13 @@ calls t = (
 infer-kind-at-requires : (t : ℕ) → infer-lts.Need-kind-at-requires (calls t) (infer-at t) infer.Post
 infer-kind-at-requires t c κs = tt
 
-infer-part-count-requires : (t : ℕ) → infer-lts.Need-part-count-requires (calls t) (infer-at t) infer.Post
-infer-part-count-requires t c κs = tt
+infer-parts-of-kind-requires : (t : ℕ) → infer-lts.Need-parts-of-kind-requires (calls t) (infer-at t) infer.Post
+infer-parts-of-kind-requires t c κs = tt
 
 infer-leaf-requires : (t : ℕ) → infer-lts.Need-leaf-requires (calls t) (infer-at t) infer.Post
 infer-leaf-requires t c κs =
     let s = c .before .before .before .before .before .before .args in
-    (c .before .before .before .before .before .before .pre .1, (ap partCount (sym (c .before .before .before .kind-at .ensures .0)) ∙ sym (c .before .before .part-count .ensures) ∙ c .before .if1 .taken))
+    (c .before .before .before .before .before .before .pre .1, (ap partsOfKind (sym (c .before .before .before .kind-at .ensures .0)) ∙ sym (c .before .before .parts-of-kind .ensures) ∙ c .before .if1 .taken))
 
 infer-same-length : (t : ℕ) → infer-lts.Need-same-length (calls t) (infer-at t) infer.Post
 infer-same-length t c = c .before .before .leaf .kept .1 .0
@@ -119,7 +119,7 @@ infer-infer-requires t c κs =
       possible-inside (s .file .now) (words (c .before .before .before .before .before .enter .last .1 .0)) (s .e) (s .binders) (s .lifts) (s .cells) (c .before .before .before .before .before .before .before .before .before .kind-at .result) (c .before .before .binders-inside .result)
           (c .before .lifts-inside .result) (c .before .before .before .before .before .before .before .before .before .kind-at .ensures .0) (c .before .before .binders-inside .ensures) (c .before .lifts-inside .ensures)
           (first-possible (words (c .before .before .before .before .before .enter .last .1 .0))
-          (λ q. c .before .before .before .before .before .before .before .if1 .left (c .before .before .before .before .before .before .before .before .part-count .ensures ∙ ap partCount (c .before .before .before .before .before .before .before .before .before .kind-at .ensures .0) ∙ q))
+          (λ q. c .before .before .before .before .before .before .before .if1 .left (c .before .before .before .before .before .before .before .before .parts-of-kind .ensures ∙ ap partsOfKind (c .before .before .before .before .before .before .before .before .before .kind-at .ensures .0) ∙ q))
           (c .before .before .before .before .before .enter .ensures)
           (c .before .before .before .before .before .before .before .before .before .before .before .before .pre .1)),
     )
@@ -137,7 +137,7 @@ infer-returns-2 : (t : ℕ) → infer-lts.Need-returns-2 (calls t) (infer-at t) 
 infer-returns-2 t c =
     let s = c .before .before .before .before .before .before .before .before .before .before .before .before .before .before .before .before .before .before .before .before .args in
     one-meets (words (c .before .before .before .before .before .before .before .before .before .before .before .before .before .enter .last .1 .0)) (words (c .before .before .before .before .before .before .before .infer .last .1 .0)) (words (c .before .before .finish-one .last .1 .0)) (c .before .before .before .before .before .before .before .infer .result) (c .before .before .finish-one .result)
-    (ap partCount (sym (c .before .before .before .before .before .before .before .before .before .before .before .before .before .before .before .before .before .kind-at .ensures .0)) ∙ sym (c .before .before .before .before .before .before .before .before .before .before .before .before .before .before .before .before .part-count .ensures) ∙ c .before .before .before .before .if2 .taken)
+    (ap partsOfKind (sym (c .before .before .before .before .before .before .before .before .before .before .before .before .before .before .before .before .before .kind-at .ensures .0)) ∙ sym (c .before .before .before .before .before .before .before .before .before .before .before .before .before .before .before .before .parts-of-kind .ensures) ∙ c .before .before .before .before .if2 .taken)
     (c .before .before .before .before .before .before .before .before .before .before .before .before .before .enter .ensures)
     (meets-inside (s .file .now) (words (c .before .before .before .before .before .before .before .before .before .before .before .before .before .enter .last .1 .0)) (s .e) (s .binders) (s .lifts) (s .cells) (c .before .before .before .before .before .before .before .before .before .before .before .before .before .before .before .before .before .kind-at .result) (c .before .before .before .before .before .before .before .before .before .before .binders-inside .result)
     (c .before .before .before .before .before .before .before .before .before .lifts-inside .result) (c .before .before .before .before .before .before .before .before .before .before .before .before .before .before .before .before .before .kind-at .ensures .0) (c .before .before .before .before .before .before .before .before .before .before .binders-inside .ensures) (c .before .before .before .before .before .before .before .before .before .lifts-inside .ensures)
@@ -157,7 +157,7 @@ infer-returns-3 : (t : ℕ) → infer-lts.Need-returns-3 (calls t) (infer-at t) 
 infer-returns-3 t c =
     let s = c .before .before .before .before .before .before .before .before .before .before .before .before .before .before .before .before .before .before .args in
     first-at-fault (s .file .now) (words (s .work .now)) (s .e) (s .binders) (s .lifts) (s .cells) (words (c .before .before .before .before .before .before .before .before .before .before .before .enter .last .1 .0)) (words (c .before .before .before .before .before .infer .last .1 .0)) (c .before .before .before .before .before .infer .result)
-    (two-left (partCount (kindAt (s .file .now) (s .e))) (partCount-most (kindAt (s .file .now) (s .e))) (λ q. c .before .before .before .before .before .before .before .before .before .before .before .before .before .if1 .left (c .before .before .before .before .before .before .before .before .before .before .before .before .before .before .part-count .ensures ∙ ap partCount (c .before .before .before .before .before .before .before .before .before .before .before .before .before .before .before .kind-at .ensures .0) ∙ q)) (λ q. c .before .before .if2 .left (c .before .before .before .before .before .before .before .before .before .before .before .before .before .before .part-count .ensures ∙ ap partCount (c .before .before .before .before .before .before .before .before .before .before .before .before .before .before .before .kind-at .ensures .0) ∙ q)))
+    (two-left (partsOfKind (kindAt (s .file .now) (s .e))) (at-most-two (kindAt (s .file .now) (s .e))) (λ q. c .before .before .before .before .before .before .before .before .before .before .before .before .before .if1 .left (c .before .before .before .before .before .before .before .before .before .before .before .before .before .before .parts-of-kind .ensures ∙ ap partsOfKind (c .before .before .before .before .before .before .before .before .before .before .before .before .before .before .before .kind-at .ensures .0) ∙ q)) (λ q. c .before .before .if2 .left (c .before .before .before .before .before .before .before .before .before .before .before .before .before .before .parts-of-kind .ensures ∙ ap partsOfKind (c .before .before .before .before .before .before .before .before .before .before .before .before .before .before .before .kind-at .ensures .0) ∙ q)))
     (c .before .before .before .before .before .before .before .before .before .before .before .enter .ensures)
     (meets-inside (s .file .now) (words (c .before .before .before .before .before .before .before .before .before .before .before .enter .last .1 .0)) (s .e) (s .binders) (s .lifts) (s .cells) (c .before .before .before .before .before .before .before .before .before .before .before .before .before .before .before .kind-at .result) (c .before .before .before .before .before .before .before .before .binders-inside .result)
     (c .before .before .before .before .before .before .before .lifts-inside .result) (c .before .before .before .before .before .before .before .before .before .before .before .before .before .before .before .kind-at .ensures .0) (c .before .before .before .before .before .before .before .before .binders-inside .ensures) (c .before .before .before .before .before .before .before .lifts-inside .ensures)
@@ -178,7 +178,7 @@ infer-returns-4 t c =
     let s = c .before .before .before .before .before .before .before .before .before .before .before .before .before .before .before .before .before .before .before .before .before .before .before .before .args in
     let p = c .before .before .before .before .before .before .first .given .0 in
     no-pair (s .file .now) (words (s .work .now)) (s .e) (s .binders) (s .lifts) (s .cells) (words (c .before .before .before .before .before .before .before .before .before .before .before .before .before .before .before .before .before .enter .last .1 .0)) (words (c .before .before .before .before .before .before .before .before .before .before .before .infer .last .1 .0)) (c .before .before .before .before .before .before .before .before .before .before .before .infer .result)
-    (two-left (partCount (kindAt (s .file .now) (s .e))) (partCount-most (kindAt (s .file .now) (s .e))) (λ q. c .before .before .before .before .before .before .before .before .before .before .before .before .before .before .before .before .before .before .before .if1 .left (c .before .before .before .before .before .before .before .before .before .before .before .before .before .before .before .before .before .before .before .before .part-count .ensures ∙ ap partCount (c .before .before .before .before .before .before .before .before .before .before .before .before .before .before .before .before .before .before .before .before .before .kind-at .ensures .0) ∙ q)) (λ q. c .before .before .before .before .before .before .before .before .if2 .left (c .before .before .before .before .before .before .before .before .before .before .before .before .before .before .before .before .before .before .before .before .part-count .ensures ∙ ap partCount (c .before .before .before .before .before .before .before .before .before .before .before .before .before .before .before .before .before .before .before .before .before .kind-at .ensures .0) ∙ q)))
+    (two-left (partsOfKind (kindAt (s .file .now) (s .e))) (at-most-two (kindAt (s .file .now) (s .e))) (λ q. c .before .before .before .before .before .before .before .before .before .before .before .before .before .before .before .before .before .before .before .if1 .left (c .before .before .before .before .before .before .before .before .before .before .before .before .before .before .before .before .before .before .before .before .parts-of-kind .ensures ∙ ap partsOfKind (c .before .before .before .before .before .before .before .before .before .before .before .before .before .before .before .before .before .before .before .before .before .kind-at .ensures .0) ∙ q)) (λ q. c .before .before .before .before .before .before .before .before .if2 .left (c .before .before .before .before .before .before .before .before .before .before .before .before .before .before .before .before .before .before .before .before .parts-of-kind .ensures ∙ ap partsOfKind (c .before .before .before .before .before .before .before .before .before .before .before .before .before .before .before .before .before .before .before .before .before .kind-at .ensures .0) ∙ q)))
     (c .before .before .before .before .before .before .before .before .before .before .before .before .before .before .before .before .before .enter .ensures)
     (meets-inside (s .file .now) (words (c .before .before .before .before .before .before .before .before .before .before .before .before .before .before .before .before .before .enter .last .1 .0)) (s .e) (s .binders) (s .lifts) (s .cells) (c .before .before .before .before .before .before .before .before .before .before .before .before .before .before .before .before .before .before .before .before .before .kind-at .result) (c .before .before .before .before .before .before .before .before .before .before .before .before .before .before .binders-inside .result)
     (c .before .before .before .before .before .before .before .before .before .before .before .before .before .lifts-inside .result) (c .before .before .before .before .before .before .before .before .before .before .before .before .before .before .before .before .before .before .before .before .before .kind-at .ensures .0) (c .before .before .before .before .before .before .before .before .before .before .before .before .before .before .binders-inside .ensures) (c .before .before .before .before .before .before .before .before .before .before .before .before .before .lifts-inside .ensures)
@@ -200,7 +200,7 @@ infer-infer-requires-2 t c κs =
     let here = c .before .before .before .before .before .before .before .before .before .before .before .before .before .before .before .before .before .before .before .before .before .before .before .before .before .before .pre .0 in
     let later =
     second-later (s .file .now) (words (s .work .now)) (s .e) (s .binders) (s .lifts) (s .cells) (words (c .before .before .before .before .before .before .before .before .before .before .before .before .before .before .before .before .before .before .before .enter .last .1 .0)) (words (c .before .before .before .before .before .before .before .before .before .before .before .before .before .infer .last .1 .0)) (c .before .before .before .before .before .before .before .before .before .before .before .before .before .infer .result)
-    (two-left (partCount (kindAt (s .file .now) (s .e))) (partCount-most (kindAt (s .file .now) (s .e))) (λ q. c .before .before .before .before .before .before .before .before .before .before .before .before .before .before .before .before .before .before .before .before .before .if1 .left (c .before .before .before .before .before .before .before .before .before .before .before .before .before .before .before .before .before .before .before .before .before .before .part-count .ensures ∙ ap partCount (c .before .before .before .before .before .before .before .before .before .before .before .before .before .before .before .before .before .before .before .before .before .before .before .kind-at .ensures .0) ∙ q)) (λ q. c .before .before .before .before .before .before .before .before .before .before .if2 .left (c .before .before .before .before .before .before .before .before .before .before .before .before .before .before .before .before .before .before .before .before .before .before .part-count .ensures ∙ ap partCount (c .before .before .before .before .before .before .before .before .before .before .before .before .before .before .before .before .before .before .before .before .before .before .before .kind-at .ensures .0) ∙ q)))
+    (two-left (partsOfKind (kindAt (s .file .now) (s .e))) (at-most-two (kindAt (s .file .now) (s .e))) (λ q. c .before .before .before .before .before .before .before .before .before .before .before .before .before .before .before .before .before .before .before .before .before .if1 .left (c .before .before .before .before .before .before .before .before .before .before .before .before .before .before .before .before .before .before .before .before .before .before .parts-of-kind .ensures ∙ ap partsOfKind (c .before .before .before .before .before .before .before .before .before .before .before .before .before .before .before .before .before .before .before .before .before .before .before .kind-at .ensures .0) ∙ q)) (λ q. c .before .before .before .before .before .before .before .before .before .before .if2 .left (c .before .before .before .before .before .before .before .before .before .before .before .before .before .before .before .before .before .before .before .before .before .before .parts-of-kind .ensures ∙ ap partsOfKind (c .before .before .before .before .before .before .before .before .before .before .before .before .before .before .before .before .before .before .before .before .before .before .before .kind-at .ensures .0) ∙ q)))
     (c .before .before .before .before .before .before .before .before .before .before .before .before .before .before .before .before .before .before .before .enter .ensures)
     (meets-inside (s .file .now) (words (c .before .before .before .before .before .before .before .before .before .before .before .before .before .before .before .before .before .before .before .enter .last .1 .0)) (s .e) (s .binders) (s .lifts) (s .cells) (c .before .before .before .before .before .before .before .before .before .before .before .before .before .before .before .before .before .before .before .before .before .before .before .kind-at .result) (c .before .before .before .before .before .before .before .before .before .before .before .before .before .before .before .before .binders-inside .result)
     (c .before .before .before .before .before .before .before .before .before .before .before .before .before .before .before .lifts-inside .result) (c .before .before .before .before .before .before .before .before .before .before .before .before .before .before .before .before .before .before .before .before .before .before .before .kind-at .ensures .0) (c .before .before .before .before .before .before .before .before .before .before .before .before .before .before .before .before .binders-inside .ensures) (c .before .before .before .before .before .before .before .before .before .before .before .before .before .before .before .lifts-inside .ensures)
@@ -212,7 +212,7 @@ infer-infer-requires-2 t c κs =
       possible-after (s .file .now) (words (c .before .before .before .before .before .between .last .1 .0)) (s .e) (p .1 .0) (s .binders) (s .lifts) (p .1 .1 .0) (c .before .before .before .before .before .before .before .before .before .before .before .before .before .before .before .before .before .before .before .before .before .before .before .kind-at .result) (c .binders-after .result)
           (c .before .before .before .before .before .before .before .before .before .before .before .before .before .before .before .before .before .before .before .before .before .before .before .kind-at .ensures .0) (c .binders-after .ensures)
           (second-possible (s .file .now) (words (s .work .now)) (s .e) (s .binders) (s .lifts) (s .cells) (words (c .before .before .before .before .before .before .before .before .before .before .before .before .before .before .before .before .before .before .before .enter .last .1 .0)) (words (c .before .before .before .before .before .before .before .before .before .before .before .before .before .infer .last .1 .0)) (c .before .before .before .before .before .before .before .before .before .before .before .before .before .infer .result)
-          (two-left (partCount (kindAt (s .file .now) (s .e))) (partCount-most (kindAt (s .file .now) (s .e))) (λ q. c .before .before .before .before .before .before .before .before .before .before .before .before .before .before .before .before .before .before .before .before .before .if1 .left (c .before .before .before .before .before .before .before .before .before .before .before .before .before .before .before .before .before .before .before .before .before .before .part-count .ensures ∙ ap partCount (c .before .before .before .before .before .before .before .before .before .before .before .before .before .before .before .before .before .before .before .before .before .before .before .kind-at .ensures .0) ∙ q)) (λ q. c .before .before .before .before .before .before .before .before .before .before .if2 .left (c .before .before .before .before .before .before .before .before .before .before .before .before .before .before .before .before .before .before .before .before .before .before .part-count .ensures ∙ ap partCount (c .before .before .before .before .before .before .before .before .before .before .before .before .before .before .before .before .before .before .before .before .before .before .before .kind-at .ensures .0) ∙ q)))
+          (two-left (partsOfKind (kindAt (s .file .now) (s .e))) (at-most-two (kindAt (s .file .now) (s .e))) (λ q. c .before .before .before .before .before .before .before .before .before .before .before .before .before .before .before .before .before .before .before .before .before .if1 .left (c .before .before .before .before .before .before .before .before .before .before .before .before .before .before .before .before .before .before .before .before .before .before .parts-of-kind .ensures ∙ ap partsOfKind (c .before .before .before .before .before .before .before .before .before .before .before .before .before .before .before .before .before .before .before .before .before .before .before .kind-at .ensures .0) ∙ q)) (λ q. c .before .before .before .before .before .before .before .before .before .before .if2 .left (c .before .before .before .before .before .before .before .before .before .before .before .before .before .before .before .before .before .before .before .before .before .before .parts-of-kind .ensures ∙ ap partsOfKind (c .before .before .before .before .before .before .before .before .before .before .before .before .before .before .before .before .before .before .before .before .before .before .before .kind-at .ensures .0) ∙ q)))
           (c .before .before .before .before .before .before .before .before .before .before .before .before .before .before .before .before .before .before .before .enter .ensures)
           (meets-inside (s .file .now) (words (c .before .before .before .before .before .before .before .before .before .before .before .before .before .before .before .before .before .before .before .enter .last .1 .0)) (s .e) (s .binders) (s .lifts) (s .cells) (c .before .before .before .before .before .before .before .before .before .before .before .before .before .before .before .before .before .before .before .before .before .before .before .kind-at .result) (c .before .before .before .before .before .before .before .before .before .before .before .before .before .before .before .before .binders-inside .result)
           (c .before .before .before .before .before .before .before .before .before .before .before .before .before .before .before .lifts-inside .result) (c .before .before .before .before .before .before .before .before .before .before .before .before .before .before .before .before .before .before .before .before .before .before .before .kind-at .ensures .0) (c .before .before .before .before .before .before .before .before .before .before .before .before .before .before .before .before .binders-inside .ensures) (c .before .before .before .before .before .before .before .before .before .before .before .before .before .before .before .lifts-inside .ensures)
@@ -236,7 +236,7 @@ infer-returns-5 t c =
     let s = c .before .before .before .before .before .before .before .before .before .before .before .before .before .before .before .before .before .before .before .before .before .before .before .before .before .before .before .before .before .before .before .before .before .args in
     let p = c .before .before .before .before .before .before .before .before .before .before .before .before .before .before .before .first .given .0 in
     two-meets (s .file .now) (words (s .work .now)) (s .e) (s .binders) (s .lifts) (s .cells) (words (c .before .before .before .before .before .before .before .before .before .before .before .before .before .before .before .before .before .before .before .before .before .before .before .before .before .before .enter .last .1 .0)) (words (c .before .before .before .before .before .before .before .before .before .before .before .before .before .before .before .before .before .before .before .before .infer .last .1 .0)) (c .before .before .before .before .before .before .before .before .before .before .before .before .before .before .before .before .before .before .before .before .infer .result)
-    (two-left (partCount (kindAt (s .file .now) (s .e))) (partCount-most (kindAt (s .file .now) (s .e))) (λ q. c .before .before .before .before .before .before .before .before .before .before .before .before .before .before .before .before .before .before .before .before .before .before .before .before .before .before .before .before .if1 .left (c .before .before .before .before .before .before .before .before .before .before .before .before .before .before .before .before .before .before .before .before .before .before .before .before .before .before .before .before .before .part-count .ensures ∙ ap partCount (c .before .before .before .before .before .before .before .before .before .before .before .before .before .before .before .before .before .before .before .before .before .before .before .before .before .before .before .before .before .before .kind-at .ensures .0) ∙ q)) (λ q. c .before .before .before .before .before .before .before .before .before .before .before .before .before .before .before .before .before .if2 .left (c .before .before .before .before .before .before .before .before .before .before .before .before .before .before .before .before .before .before .before .before .before .before .before .before .before .before .before .before .before .part-count .ensures ∙ ap partCount (c .before .before .before .before .before .before .before .before .before .before .before .before .before .before .before .before .before .before .before .before .before .before .before .before .before .before .before .before .before .before .kind-at .ensures .0) ∙ q)))
+    (two-left (partsOfKind (kindAt (s .file .now) (s .e))) (at-most-two (kindAt (s .file .now) (s .e))) (λ q. c .before .before .before .before .before .before .before .before .before .before .before .before .before .before .before .before .before .before .before .before .before .before .before .before .before .before .before .before .if1 .left (c .before .before .before .before .before .before .before .before .before .before .before .before .before .before .before .before .before .before .before .before .before .before .before .before .before .before .before .before .before .parts-of-kind .ensures ∙ ap partsOfKind (c .before .before .before .before .before .before .before .before .before .before .before .before .before .before .before .before .before .before .before .before .before .before .before .before .before .before .before .before .before .before .kind-at .ensures .0) ∙ q)) (λ q. c .before .before .before .before .before .before .before .before .before .before .before .before .before .before .before .before .before .if2 .left (c .before .before .before .before .before .before .before .before .before .before .before .before .before .before .before .before .before .before .before .before .before .before .before .before .before .before .before .before .before .parts-of-kind .ensures ∙ ap partsOfKind (c .before .before .before .before .before .before .before .before .before .before .before .before .before .before .before .before .before .before .before .before .before .before .before .before .before .before .before .before .before .before .kind-at .ensures .0) ∙ q)))
     (c .before .before .before .before .before .before .before .before .before .before .before .before .before .before .before .before .before .before .before .before .before .before .before .before .before .before .enter .ensures)
     (meets-inside (s .file .now) (words (c .before .before .before .before .before .before .before .before .before .before .before .before .before .before .before .before .before .before .before .before .before .before .before .before .before .before .enter .last .1 .0)) (s .e) (s .binders) (s .lifts) (s .cells) (c .before .before .before .before .before .before .before .before .before .before .before .before .before .before .before .before .before .before .before .before .before .before .before .before .before .before .before .before .before .before .kind-at .result) (c .before .before .before .before .before .before .before .before .before .before .before .before .before .before .before .before .before .before .before .before .before .before .before .binders-inside .result)
     (c .before .before .before .before .before .before .before .before .before .before .before .before .before .before .before .before .before .before .before .before .before .before .lifts-inside .result) (c .before .before .before .before .before .before .before .before .before .before .before .before .before .before .before .before .before .before .before .before .before .before .before .before .before .before .before .before .before .before .kind-at .ensures .0) (c .before .before .before .before .before .before .before .before .before .before .before .before .before .before .before .before .before .before .before .before .before .before .before .binders-inside .ensures) (c .before .before .before .before .before .before .before .before .before .before .before .before .before .before .before .before .before .before .before .before .before .before .lifts-inside .ensures)
@@ -256,7 +256,7 @@ pub +infer-spec : {M : Type 1} → statement M
     (infer-at t)
     infer.Post
     (infer-kind-at-requires t)
-    (infer-part-count-requires t)
+    (infer-parts-of-kind-requires t)
     (infer-leaf-requires t)
     (infer-same-length t)
     (infer-returns t)

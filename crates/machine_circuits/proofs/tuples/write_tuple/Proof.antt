@@ -1,10 +1,12 @@
 -- `machine_circuits::tuples::write_tuple` meets its contract. Assumes nothing.
+use Prim.Native.Nat.{ℕ}
 use native.Mathlib.Omega.{arith}
 use lib.ListN.{drop, length-drop}
 use borrow.Author.Needs.{needs}
 use Rattle.words.specs.Words.{words}
 use Rattle.words.specs.Laws.Words.{length-words}
-use Rattle.machine_circuits.specs.Laws.Tuples.{span-at-most}
+use Rattle.rules.specs.Parts.{partsOfKind}
+use Rattle.machine_nodes.specs.Laws.Spans.{at-most-all}
 use Rattle.machine_circuits.specs.Laws.Writing.{span-whole}
 use Rattle.machine_circuits.proofs.tuples.write_tuple.Statement.{statement}
 use Rattle.machine_circuits.proofs.tuples.write_tuple.Tie as tie
@@ -21,8 +23,8 @@ returns c = λ T wire-type stands whole room few.
       c .if1 .taken,
       c .before .saturating-sub .ensures,
       whole,
-      span-whole T ws (a .position) wire-type stands,
-      span-at-most (drop (a .position) ws) 1,
+      span-whole T ws (a .position) stands,
+      at-most-all ℕ partsOfKind (drop (a .position) ws) 1,
       length-drop (a .position) ws,
       length-words (a .types .now),
     ))

@@ -3,11 +3,13 @@ use borrow.Author.Needs.{needs}
 use borrow.Author.Tests.{lt-ltb, le-ltb, ne-eqb}
 use denote.Ref.{now}
 use Prim.Native.Nat.{ℕ, _+_}
-use mathlib.Core.Path.{_≡_, sym, ap, _∙_}
+use mathlib.Core.Path.{_≡_, refl, sym, ap, _∙_}
 use mathlib.Core.Bool.{Bool, true, false, cond}
 use mathlib.Core.List.{List}
 use lib.Dec.{eqb, ltb}
 use Rattle.rules.specs.Kinds.{variable-kind, abstraction-kind, let-kind}
+use Rattle.rules.specs.Parts.{partsOfKind}
+use Rattle.program.specs.PartsUnder.{partsUnder}
 use Rattle.program.specs.Format.{kindAt, argumentAt, shapeAt}
 use Rattle.program.specs.Traversal.{partsOf, scopeParts}
 use Rattle.program.specs.declared.format.Shape.{Shape}
@@ -28,11 +30,19 @@ module _ (f : List ℕ) (e b : ℕ) where
       → scopeOf known (argumentAt f e) (shapeAt f e) b ≡ scopeParts f e b
   of-kind known is one = ap (λ k. scopeOf k (argumentAt f e) (shapeAt f e) b) (sym one ∙ is)
 
-  bound
-      : (t : Bool) {kind argument : ℕ} → kind ≡ kindAt f e → kind ≡ variable-kind → argument ≡ argumentAt f e
-      → ltb argument b ≡ t → cond t Leaf Stop ≡ scopeParts f e b
-  bound t is one told test =
-      ap (λ u. cond u Leaf Stop) (sym test ∙ ap (λ a. ltb a b) told) ∙ of-kind variable-kind is one
+  -- The parts that were looked up for a kind.
+  looked-up
+      : (known last : ℕ) {kind parts : ℕ} {r : Parts} → r ≡ partsUnder parts b last → parts ≡ partsOfKind kind
+      → kind ≡ kindAt f e → kind ≡ known
+      → partsUnder (partsOfKind known) b last ≡ scopeOf known (argumentAt f e) (shapeAt f e) b → r ≡ scopeParts f e b
+  looked-up known last given told is one parts =
+      given ∙ ap (λ p. partsUnder p b last) (told ∙ ap partsOfKind one) ∙ parts ∙ of-kind known is one
+
+  -- A variable: whether it has a binder.
+  of-variable
+      : (t : Bool) {argument : ℕ} → argument ≡ argumentAt f e → ltb argument b ≡ t
+      → cond t Leaf Stop ≡ scopeOf variable-kind (argumentAt f e) (shapeAt f e) b
+  of-variable t told test = ap (λ u. cond u Leaf Stop) (sym test ∙ ap (λ a. ltb a b) told)
 
   other
       : {kind : ℕ} {shape : Shape} {r : Parts} → kind ≡ kindAt f e
@@ -50,84 +60,100 @@ module _ (f : List ℕ) (e b : ℕ) where
       (sym (ne-eqb kind variable-kind not16))
       ∙ ap (λ k. scopeOf k (argumentAt f e) (shapeAt f e) b) is
 
-kind-at-requires : tie.Need-kind-at-requires
-kind-at-requires c κs = search needs
-
 argument-at-requires : tie.Need-argument-at-requires
 argument-at-requires c κs = search needs
 
+parts-of-kind-requires : tie.Need-parts-of-kind-requires
+parts-of-kind-requires c κs = search needs
+
+parts-under-requires : tie.Need-parts-under-requires
+parts-under-requires c κs = search needs
+
 returns : tie.Need-returns
+unfolding partsOfKind
 returns c =
-    let at-match = c .before .before in
-    let at-kind-at = at-match .before in
-    let start = at-kind-at .before .before in
+    let start = c .before .before .before .before .before .before in
     let f = now (start .args .file) in
-    let e = start .args .e in
     let b = start .args .binders in
-    bound f e b true (at-kind-at .kind-at .ensures .0) (at-match .match .keys1)
-    (c .before .argument-at .ensures .0) (lt-ltb _ _ (c .if1 .taken))
+    looked-up f (start .args .e) b variable-kind b
+    (c .parts-under .ensures)
+    (c .before .parts-of-kind .ensures)
+    (start .pre .1)
+    (c .before .before .before .before .match .keys1)
+    (of-variable f (start .args .e) b true (c .before .before .before .argument-at .ensures .0) (lt-ltb _ _ (c .before .before .if1 .taken)))
 
-add-t9 : tie.Need-add-t9
-add-t9 c = search needs
+parts-of-kind-requires-2 : tie.Need-parts-of-kind-requires-2
+parts-of-kind-requires-2 c κs = search needs
 
-add-t10 : tie.Need-add-t10
-add-t10 c = search needs
+add-parts-under : tie.Need-add-parts-under
+add-parts-under c = search needs
 
-shape-at-requires : tie.Need-shape-at-requires
-shape-at-requires c κs = search needs
+parts-under-requires-2 : tie.Need-parts-under-requires-2
+parts-under-requires-2 c κs = search needs
+
+parts-of-kind-requires-3 : tie.Need-parts-of-kind-requires-3
+parts-of-kind-requires-3 c κs = search needs
+
+add-parts-under-2 : tie.Need-add-parts-under-2
+add-parts-under-2 c = search needs
+
+parts-under-requires-3 : tie.Need-parts-under-requires-3
+parts-under-requires-3 c κs = search needs
 
 parts-of-requires : tie.Need-parts-of-requires
 parts-of-requires c κs = search needs
 
 returns-2 : tie.Need-returns-2
 returns-2 c =
-    let at-match = c .before .before in
-    let at-kind-at = at-match .before in
-    let start = at-kind-at .before .before in
+    let start = c .before .before .before .before in
     let f = now (start .args .file) in
-    let e = start .args .e in
     let b = start .args .binders in
-    bound f e b false (at-kind-at .kind-at .ensures .0) (at-match .match .keys1)
-    (c .before .argument-at .ensures .0) (le-ltb _ _ (c .if1 .left))
+    of-variable f (start .args .e) b false (c .before .argument-at .ensures .0) (le-ltb _ _ (c .if1 .left))
+    ∙ of-kind f (start .args .e) b variable-kind (start .pre .1) (c .before .before .match .keys1)
 
 returns-3 : tie.Need-returns-3
+unfolding partsOfKind
 returns-3 c =
-    let start = c .before .before .before in
-    let f = now (start .args .file) in
-    let e = start .args .e in
-    let b = start .args .binders in
-    of-kind f e b 18 (c .before .kind-at .ensures .0) (c .match .keys2)
+    let start = c .before .before .before .before in
+    looked-up (now (start .args .file)) (start .args .e) (start .args .binders) abstraction-kind (start .args .binders + 1)
+    (c .parts-under2 .ensures)
+    (c .before .parts-of-kind2 .ensures)
+    (start .pre .1)
+    (c .before .before .match .keys2)
+    refl
 
 returns-4 : tie.Need-returns-4
+unfolding partsOfKind
 returns-4 c =
-    let start = c .before .before .before in
-    let f = now (start .args .file) in
-    let e = start .args .e in
-    let b = start .args .binders in
-    of-kind f e b 21 (c .before .kind-at .ensures .0) (c .match .keys3)
+    let start = c .before .before .before .before in
+    looked-up (now (start .args .file)) (start .args .e) (start .args .binders) let-kind (start .args .binders + 2)
+    (c .parts-under3 .ensures)
+    (c .before .parts-of-kind3 .ensures)
+    (start .pre .1)
+    (c .before .before .match .keys3)
+    refl
 
 returns-5 : tie.Need-returns-5
 returns-5 c =
-    let at-match = c .before .before in
-    let at-kind-at = at-match .before in
-    let start = at-kind-at .before .before in
-    let f = now (start .args .file) in
-    let e = start .args .e in
-    let b = start .args .binders in
-    let others = at-match .match .rest in
-    other f e b (at-kind-at .kind-at .ensures .0) (others .0 .0 .1) (others .0 .1) (others .1)
-    (c .before .shape-at .ensures) (c .parts-of .ensures)
+    let start = c .before .before .before in
+    let others = c .before .match .rest in
+    other (now (start .args .file)) (start .args .e) (start .args .binders) (start .pre .1)
+    (others .0 .0 .1) (others .0 .1) (others .1) (start .pre .0) (c .parts-of .ensures)
 
 pub scope-parts-spec : {M : Type 1} → statement M
 scope-parts-spec =
     tie.close
     (tie.spec
-    kind-at-requires
     argument-at-requires
+    parts-of-kind-requires
+    parts-under-requires
     returns
-    add-t9
-    add-t10
-    shape-at-requires
+    parts-of-kind-requires-2
+    add-parts-under
+    parts-under-requires-2
+    parts-of-kind-requires-3
+    add-parts-under-2
+    parts-under-requires-3
     parts-of-requires
     returns-2
     returns-3

@@ -1,12 +1,13 @@
--- `program::format::term_shape` meets its contract: first the arms of one kind, then those of a range, then every other kind.
+-- `program::format::term_rule` meets its contract: first the arms of one kind, then that of a range, then every other kind.
 use native.Mathlib.Omega.{arith}
 use Prim.Native.Nat.{ℕ, _≤_, _<_}
-use mathlib.Core.Path.{_≡_, sym}
+use mathlib.Core.Path.{_≡_, sym, ap}
 use Rattle.rules.specs.Kinds.{variable-kind, label-kind, abstraction-kind, box-kind, apply-kind, gate-kind, unit-value-kind}
-use Rattle.program.specs.Laws.Scans.{two-part-terms, one-part-terms, no-terms-below, no-terms-above}
+use Rattle.program.specs.Laws.Scans.{zero-terms, no-terms-below, no-terms-above}
+use Rattle.program.specs.ArgumentRules.{ruleOf}
 use Rattle.program.specs.Format.{termShape}
-use Rattle.program.proofs.format.term_shape.Statement.{statement}
-use Rattle.program.proofs.format.term_shape.Tie as tie
+use Rattle.program.proofs.format.term_rule.Statement.{statement}
+use Rattle.program.proofs.format.term_rule.Tie as tie
 
 -- A kind from n on that is not n is above n: one kind at a time, since `omega` takes few facts of this form at once.
 above : (n : ℕ) {k : ℕ} → n ≤ k → (k ≡ n → ⊥) → n < k
@@ -46,24 +47,21 @@ returns-8 c =
     let from17 = above variable-kind (c .before .if1 .left) (others .0 .0 .0 .0 .0 .0 .1) in
     let from18 = above label-kind from17 (others .0 .0 .0 .0 .0 .1) in
     let from19 = above abstraction-kind from18 (others .0 .0 .0 .0 .1) in
-    sym (two-part-terms (c .before .before .before .args .kind) from19 (c .if2 .taken))
+    sym (zero-terms (c .before .before .before .args .kind) from19 (omega arith))
 
 returns-9 : tie.Need-returns-9
-returns-9 c = sym (one-part-terms (c .before .before .before .before .args .kind) (omega arith) (omega arith))
+returns-9 c = sym (ap ruleOf (no-terms-below (c .before .before .args .kind) (omega arith)))
 
 returns-10 : tie.Need-returns-10
-returns-10 c = sym (no-terms-below (c .before .before .args .kind) (omega arith))
-
-returns-11 : tie.Need-returns-11
-returns-11 c =
-    let others = c .before .before .before .match .rest in
-    let from25 = above box-kind (c .if3 .left) (others .0 .0 .0 .1) in
+returns-10 c =
+    let others = c .before .before .match .rest in
+    let from25 = above box-kind (c .if2 .left) (others .0 .0 .0 .1) in
     let from26 = above apply-kind from25 (others .0 .0 .1) in
     let from27 = above gate-kind from26 (others .0 .1) in
-    sym (no-terms-above (c .before .before .before .before .args .kind) (above unit-value-kind from27 (others .1)))
+    sym (ap ruleOf (no-terms-above (c .before .before .before .args .kind) (above unit-value-kind from27 (others .1))))
 
-pub term-shape-spec : {M : Type 1} → statement M
-term-shape-spec =
+pub term-rule-spec : {M : Type 1} → statement M
+term-rule-spec =
     tie.close
     (tie.spec
     returns
@@ -75,5 +73,4 @@ term-shape-spec =
     returns-7
     returns-8
     returns-9
-    returns-10
-    returns-11)
+    returns-10)

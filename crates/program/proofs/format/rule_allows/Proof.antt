@@ -1,10 +1,10 @@
--- `program::format::shape_allows` meets its contract, one arm for each rule of an argument.
+-- `program::format::rule_allows` meets its contract, one arm for each rule of an argument.
 use borrow.Author.Needs.{needs}
-use Rattle.program.proofs.format.shape_allows.Statement.{statement}
-use Rattle.program.proofs.format.shape_allows.Tie as tie
+use Rattle.program.proofs.format.rule_allows.Statement.{statement}
+use Rattle.program.proofs.format.rule_allows.Tie as tie
 
-enum-known-shape : tie.Need-enum-known-shape
-enum-known-shape c = search needs
+enum-known-rule : tie.Need-enum-known-rule
+enum-known-rule c = search needs
 
 enum-told : tie.Need-enum-told
 enum-told c = search needs
@@ -28,16 +28,16 @@ enum-told-6 : tie.Need-enum-told-6
 enum-told-6 c = search needs
 
 returns : tie.Need-returns
-returns c = rw (c .before .before .before .shape .given .1, c .enum-told .given .1)
+returns c = rw (c .before .before .before .rule .given .1, c .enum-told .given .1)
 
 returns-2 : tie.Need-returns-2
-returns-2 c = rw (c .before .before .before .before .shape .given .1, c .before .enum-told2 .given .1)
+returns-2 c = rw (c .before .before .before .before .rule .given .1, c .before .enum-told2 .given .1)
 
 returns-3 : tie.Need-returns-3
-returns-3 c = rw (c .before .before .before .before .shape .given .1, c .before .enum-told3 .given .1) (c .is-gate .ensures)
+returns-3 c = rw (c .before .before .before .before .rule .given .1, c .before .enum-told3 .given .1) (c .is-gate .ensures)
 
 returns-4 : tie.Need-returns-4
-returns-4 c = rw (c .before .before .before .before .shape .given .1, c .before .enum-told4 .given .1)
+returns-4 c = rw (c .before .before .before .before .rule .given .1, c .before .enum-told4 .given .1)
 
 returns-5 : tie.Need-returns-5
 returns-5 c = search needs
@@ -45,11 +45,11 @@ returns-5 c = search needs
 returns-6 : tie.Need-returns-6
 returns-6 c = search needs
 
-pub shape-allows-spec : {M : Type 1} → statement M
-shape-allows-spec =
+pub rule-allows-spec : {M : Type 1} → statement M
+rule-allows-spec =
     tie.close
     (tie.spec
-    enum-known-shape
+    enum-known-rule
     enum-told
     enum-told-2
     enum-told-3
