@@ -36,56 +36,56 @@ allows-by-rule labels types a (Node parts argument) = refl
 allows-by-rule labels types a Unknown = refl
 
 -- The shape of a kind has the parts that the table has for it.
-data Tabled (k : ℕ) : Shape → Type 0 where
-  as-tabled : (a : Argument) → Tabled k (Node (partsOfKind k) a)
-  not-tabled : Tabled k Unknown
+data HasTableParts (k : ℕ) : Shape → Type 0 where
+  table-parts : (a : Argument) → HasTableParts k (Node (partsOfKind k) a)
+  no-parts : HasTableParts k Unknown
 
-label-tabled : (k : ℕ) → Tabled k (labelShape k)
+label-parts : (k : ℕ) → HasTableParts k (labelShape k)
 unfolding labelShape
-label-tabled k = go (leb k qubit-kind) refl
+label-parts k = go (leb k qubit-kind) refl
   where
-    go : (b : Bool) → leb k qubit-kind ≡ b → Tabled k (labelShape k)
-    go true e = subst (Tabled k) (sym (label-shapes k (leb-true k qubit-kind e))) (as-tabled _)
-    go false e = subst (λ b. Tabled k (cond b (Node 0 Zero) Unknown)) (sym e) not-tabled
+    go : (b : Bool) → leb k qubit-kind ≡ b → HasTableParts k (labelShape k)
+    go true e = subst (HasTableParts k) (sym (label-shapes k (leb-true k qubit-kind e))) (table-parts _)
+    go false e = subst (λ b. HasTableParts k (cond b (Node 0 Zero) Unknown)) (sym e) no-parts
 
-type-tabled : (k : ℕ) → Tabled k (typeShape k)
-type-tabled k = go (leb k unit-kind) refl
+type-parts : (k : ℕ) → HasTableParts k (typeShape k)
+type-parts k = go (leb k unit-kind) refl
   where
-    go : (b : Bool) → leb k unit-kind ≡ b → Tabled k (typeShape k)
-    go true e = subst (Tabled k) (sym (type-shapes k (leb-true k unit-kind e))) (as-tabled _)
-    go false e = subst (Tabled k) (sym (no-types k (leb-false k unit-kind e))) not-tabled
+    go : (b : Bool) → leb k unit-kind ≡ b → HasTableParts k (typeShape k)
+    go true e = subst (HasTableParts k) (sym (type-shapes k (leb-true k unit-kind e))) (table-parts _)
+    go false e = subst (HasTableParts k) (sym (no-types k (leb-false k unit-kind e))) no-parts
 
-term-tabled : (k : ℕ) → Tabled k (termShape k)
+term-parts : (k : ℕ) → HasTableParts k (termShape k)
 unfolding termShape partsOfKind
-term-tabled k = go (leb variable-kind k) (leb k unit-value-kind) refl refl
+term-parts k = go (leb variable-kind k) (leb k unit-value-kind) refl refl
   where
-    go : (b c : Bool) → leb variable-kind k ≡ b → leb k unit-value-kind ≡ c → Tabled k (termShape k)
-    go false c least most = subst (Tabled k) (sym (no-terms-below k (leb-false variable-kind k least))) not-tabled
-    go true false least most = subst (Tabled k) (sym (no-terms-above k (leb-false k unit-value-kind most))) not-tabled
+    go : (b c : Bool) → leb variable-kind k ≡ b → leb k unit-value-kind ≡ c → HasTableParts k (termShape k)
+    go false c least most = subst (HasTableParts k) (sym (no-terms-below k (leb-false variable-kind k least))) no-parts
+    go true false least most = subst (HasTableParts k) (sym (no-terms-above k (leb-false k unit-value-kind most))) no-parts
     go true true least most =
         let from = leb-true variable-kind k least in
         let to = leb-true k unit-value-kind most in
-        in-range (λ k. Tabled k (termShape k)) variable-kind 12
-        (as-tabled _
-        and as-tabled _
-        and as-tabled _
-        and as-tabled _
-        and as-tabled _
-        and as-tabled _
-        and as-tabled _
-        and as-tabled _
-        and as-tabled _
-        and as-tabled _
-        and as-tabled _
-        and as-tabled _
+        in-range (λ k. HasTableParts k (termShape k)) variable-kind 12
+        (table-parts _
+        and table-parts _
+        and table-parts _
+        and table-parts _
+        and table-parts _
+        and table-parts _
+        and table-parts _
+        and table-parts _
+        and table-parts _
+        and table-parts _
+        and table-parts _
+        and table-parts _
         and no-more)
         k
         from
         (omega arith)
 
-tabled-shape : (k : ℕ) (s : Shape) → Tabled k s → shapeBy (ruleOf s) (partsOfKind k) ≡ s
-tabled-shape k s (as-tabled a) = refl
-tabled-shape k s not-tabled = refl
+parts-shape : (k : ℕ) (s : Shape) → HasTableParts k s → shapeBy (ruleOf s) (partsOfKind k) ≡ s
+parts-shape k s (table-parts a) = refl
+parts-shape k s no-parts = refl
 
 -- The rule and the shape of an entry, from the sizes that were read.
 module _ {f : List ℕ} {s : Sizes} (sized : Sized f s) (e : ℕ) {k : ℕ} (is : k ≡ kindAt f e) where
@@ -96,25 +96,27 @@ module _ {f : List ℕ} {s : Sizes} (sized : Sized f s) (e : ℕ) {k : ℕ} (is 
 
   pub rule-is : ruleAt (s .labels) (s .labels + s .types) e k ≡ ruleOf (shapeAt f e)
   unfolding shapeAt
-  rule-is = sections ∙ go (ltb e (labelCount f)) (ltb e (firstTerm f)) (labelShape (kindAt f e)) (typeShape (kindAt f e)) (termShape (kindAt f e))
+  rule-is =
+      sections
+      ∙ go (ltb e (labelCount f)) (ltb e (firstTerm f)) (labelShape (kindAt f e)) (typeShape (kindAt f e)) (termShape (kindAt f e))
     where
       go : (b c : Bool) (x y z : Shape) → cond b (ruleOf x) (cond c (ruleOf y) (ruleOf z)) ≡ ruleOf (cond b x (cond c y z))
       go true c x y z = refl
       go false true x y z = refl
       go false false x y z = refl
 
-  tabled-here : Tabled (kindAt f e) (shapeAt f e)
+  parts-here : HasTableParts (kindAt f e) (shapeAt f e)
   unfolding shapeAt
-  tabled-here = go (ltb e (labelCount f)) (ltb e (firstTerm f))
+  parts-here = go (ltb e (labelCount f)) (ltb e (firstTerm f))
     where
       go : (b c : Bool)
-          → Tabled (kindAt f e) (cond b (labelShape (kindAt f e)) (cond c (typeShape (kindAt f e)) (termShape (kindAt f e))))
-      go true c = label-tabled (kindAt f e)
-      go false true = type-tabled (kindAt f e)
-      go false false = term-tabled (kindAt f e)
+          → HasTableParts (kindAt f e) (cond b (labelShape (kindAt f e)) (cond c (typeShape (kindAt f e)) (termShape (kindAt f e))))
+      go true c = label-parts (kindAt f e)
+      go false true = type-parts (kindAt f e)
+      go false false = term-parts (kindAt f e)
 
   pub shape-is : shapeBy (ruleAt (s .labels) (s .labels + s .types) e k) (partsOfKind k) ≡ shapeAt f e
-  shape-is = ap₂ shapeBy rule-is (ap partsOfKind is) ∙ tabled-shape (kindAt f e) (shapeAt f e) tabled-here
+  shape-is = ap₂ shapeBy rule-is (ap partsOfKind is) ∙ parts-shape (kindAt f e) (shapeAt f e) parts-here
 
 -- The sections end before 2 ^ 64.
 pub sections-fit : {f : List ℕ} {s : Sizes} → Sized f s → s .labels + s .types < 2 ^ 64

@@ -28,7 +28,8 @@ type-row (A ⊸ B) = refl
 type-row (! A) = refl
 type-row (Circ T U) = refl
 
-term-row : (M : Term) {k : ℕ} {ks : List ℕ} → termKinds M ≡ k ∷ ks → partsIn partsTable (getD (termKinds M) 0 0) ≡ some (length (termParts M))
+term-row : (M : Term) {k : ℕ} {ks : List ℕ} → termKinds M ≡ k ∷ ks
+    → partsIn partsTable (getD (termKinds M) 0 0) ≡ some (length (termParts M))
 term-row (variable x) e = refl
 term-row (label ℓ) e = refl
 term-row (gate x) e = refl
@@ -58,7 +59,9 @@ found : (P : ℕ → ℕ → Type 0) (rows : List (ℕ × ℕ)) → Rows P rows 
 found P [] no-row k p e = absurd (Option·none-ne-some p e)
 found P (row ∷ rows) (first then rest) k p e = go (eqb k (row .0)) refl e (found P rows rest k p)
   where
-    go : (b : Bool) → eqb k (row .0) ≡ b → cond b (some (row .1)) (partsIn rows k) ≡ some p → (partsIn rows k ≡ some p → P k p) → P k p
+    go : (b : Bool)
+        → eqb k (row .0) ≡ b → cond b (some (row .1)) (partsIn rows k) ≡ some p → (partsIn rows k ≡ some p → P k p)
+        → P k p
     go true here e later = subst₂ P (sym (eqb-true k (row .0) here)) (Option·some-injective (row .1) p e) first
     go false here e later = later e
 

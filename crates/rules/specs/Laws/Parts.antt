@@ -17,7 +17,11 @@ use Rattle.rules.specs.Laws.Ranges.{_and_, no-more, in-range}
 pub type-place : (k : ℕ) → k ≤ unit-kind → partsIn partsTable k ≡ some (partsAt k)
 unfolding partsAt
 type-place k most =
-    in-range (λ k. partsIn partsTable k ≡ some (partsAt k)) 0 7 (refl and refl and refl and refl and refl and refl and refl and no-more) k (omega arith) (omega arith)
+    in-range (λ k. partsIn partsTable k ≡ some (partsAt k)) 0 7
+    (refl and refl and refl and refl and refl and refl and refl and no-more)
+    k
+    (omega arith)
+    (omega arith)
 
 pub term-place : (k : ℕ) → variable-kind ≤ k → k ≤ unit-value-kind → partsIn partsTable k ≡ some (partsAt (k - 9))
 unfolding partsAt
@@ -32,7 +36,11 @@ term-place k least most =
 pub no-kind-between : (k : ℕ) → unit-kind < k → k < variable-kind → partsOfKind k ≡ 0
 unfolding partsOfKind
 no-kind-between k least most =
-    in-range (λ k. partsOfKind k ≡ 0) 7 9 (refl and refl and refl and refl and refl and refl and refl and refl and refl and no-more) k least (omega arith)
+    in-range (λ k. partsOfKind k ≡ 0) 7 9
+    (refl and refl and refl and refl and refl and refl and refl and refl and refl and no-more)
+    k
+    least
+    (omega arith)
 
 abbrev allBelow : ℕ → List (ℕ × ℕ) → Bool
 allBelow m [] = true
