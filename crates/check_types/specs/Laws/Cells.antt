@@ -8,8 +8,9 @@ use mathlib.Core.List.{List}
 use lib.Dec.{leb}
 use borrow.Author.Tests.{ne-eqb}
 use Rattle.rules.specs.Kinds.{pair-type-kind, reusable-kind}
-use Rattle.rules.specs.Types.{Wire, Bit, Qubit, Ty, wire, unit, !_, copyable, entries}
+use Rattle.rules.specs.Types.{Wire, Ty, wire, unit, _⊗_, _⊸_, !_, Circ, copyable, entries}
 use Rattle.rules.specs.Parts.{partsOfKind}
+use Rattle.rules.specs.Laws.Parts.{parts-of-type}
 use Rattle.rules.specs.Laws.TypeCodes.{wire-kind, same-wire}
 use Rattle.check_types.specs.Cells.{copyable-mark, cellKind, cellFirst, cellSecond, cellCopyable, copyableFrom, Cell}
 use Rattle.check_types.specs.Cells.{kindOf, Agree, Denotes, wire-cell, unit-cell, pair-cell}
@@ -96,17 +97,15 @@ made-copyable made-circuit d e = refl
 
 -- The parts of such a kind, of the reusable kind, and of a pair.
 pub made-parts : {k : ℕ} {A B C : Ty} → Made k A B C → partsOfKind k ≡ 2
-unfolding partsOfKind
-made-parts made-pair = refl
-made-parts made-function = refl
-made-parts made-circuit = refl
+made-parts (made-pair {A = A} {B = B}) = parts-of-type (A ⊗ B)
+made-parts (made-function {A = A} {B = B}) = parts-of-type (A ⊸ B)
+made-parts (made-circuit {T = T} {U = U}) = parts-of-type (Circ T U)
 
 pub made-some : {k : ℕ} {A B C : Ty} → Made k A B C → partsOfKind k ≡ 0 → ⊥
 made-some m e = omega (arith, made-parts m)
 
 pub reusable-parts : partsOfKind reusable-kind ≡ 1
-unfolding partsOfKind
-reusable-parts = refl
+reusable-parts = parts-of-type (! unit)
 
 pub reusable-some : partsOfKind reusable-kind ≡ 0 → ⊥
 reusable-some e = omega (arith, reusable-parts)
@@ -125,10 +124,8 @@ pub data Leaf : Ty → Type 0 where
   leaf-unit : Leaf unit
 
 pub leaf-parts : {A : Ty} → Leaf A → partsOfKind (kindOf A) ≡ 0
-unfolding partsOfKind
-leaf-parts (leaf-wire Bit) = refl
-leaf-parts (leaf-wire Qubit) = refl
-leaf-parts leaf-unit = refl
+leaf-parts (leaf-wire α) = parts-of-type (wire α)
+leaf-parts leaf-unit = parts-of-type unit
 
 pub same-leaf : {A B : Ty} → Leaf A → Leaf B → kindOf A ≡ kindOf B → A ≡ B
 same-leaf (leaf-wire α) (leaf-wire β) e = ap wire (same-wire α β e)

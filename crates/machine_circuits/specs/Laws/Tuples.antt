@@ -10,6 +10,7 @@ use borrow.Author.Tests.{eq-eqb, ne-eqb}
 use Rattle.rules.specs.Kinds.{pair-type-kind, function-kind, reusable-kind, circuit-kind, unit-kind, label-kind, pair-kind}
 use Rattle.rules.specs.Kinds.{unit-value-kind}
 use Rattle.rules.specs.Parts.{partsOfKind}
+use Rattle.rules.specs.Laws.Parts.{parts-of-type}
 use Rattle.rules.specs.Types.{Wire, Bit, Qubit, Ty, wire, _⊗_, _⊸_, !_, Circ, isWireType, wires, entries, wireCode}
 use Rattle.rules.specs.Types.{typeCodes, unit}
 use Rattle.rules.specs.Terms.{Tuple, single, both, labels, tupleFrom, empty}
@@ -240,25 +241,6 @@ nodes-type ℓ (A ⊸ B) t room = absurd t
 nodes-type ℓ (! A) t room = absurd t
 nodes-type ℓ (Circ T U) t room = absurd t
 
--- The parts that a type's code asks for.
-wire-asks : (α : Wire) → partsOfKind (wireCode α) ≡ 0
-unfolding partsOfKind
-wire-asks Bit = refl
-wire-asks Qubit = refl
-
-none-asked : partsOfKind unit-kind ≡ 0
-unfolding partsOfKind
-none-asked = refl
-
-one-asked : partsOfKind reusable-kind ≡ 1
-unfolding partsOfKind
-one-asked = refl
-
-two-asked
-    : (partsOfKind pair-type-kind ≡ 2) × (partsOfKind function-kind ≡ 2) × (partsOfKind circuit-kind ≡ 2)
-unfolding partsOfKind
-two-asked = (refl, refl, refl)
-
 -- A type takes as many codes as it has entries: of two parts, the codes of both.
 of-two : (c : ℕ) (T U : Ty) (cs : List ℕ) (waiting : ℕ)
     → partsOfKind c ≡ 2
@@ -272,14 +254,21 @@ of-two c T U cs waiting two first second =
 
 pub span-type : (T : Ty) (cs : List ℕ) (waiting : ℕ) → codeSpan (typeCodes T ++ cs) (suc waiting) ≡ entries T + codeSpan cs waiting
 unfolding spanBy
-span-type (wire α) cs waiting = let e : waiting + partsOfKind (wireCode α) ≡ waiting = omega (arith, wire-asks α) in rw e (omega arith)
-span-type unit cs waiting = let e : waiting + partsOfKind unit-kind ≡ waiting = omega (arith, none-asked) in rw e (omega arith)
+span-type (wire α) cs waiting =
+    let none : partsOfKind (wireCode α) ≡ 0 = parts-of-type (wire α) in
+    let e : waiting + partsOfKind (wireCode α) ≡ waiting = omega (arith, none) in
+    rw e (omega arith)
+span-type unit cs waiting =
+    let none : partsOfKind unit-kind ≡ 0 = parts-of-type unit in
+    let e : waiting + partsOfKind unit-kind ≡ waiting = omega (arith, none) in
+    rw e (omega arith)
 span-type (A ⊗ B) cs waiting =
-    of-two pair-type-kind A B cs waiting (two-asked .0) (span-type A (typeCodes B ++ cs) (suc waiting)) (span-type B cs waiting)
+    of-two pair-type-kind A B cs waiting (parts-of-type (A ⊗ B)) (span-type A (typeCodes B ++ cs) (suc waiting)) (span-type B cs waiting)
 span-type (A ⊸ B) cs waiting =
-    of-two function-kind A B cs waiting (two-asked .1) (span-type A (typeCodes B ++ cs) (suc waiting)) (span-type B cs waiting)
+    of-two function-kind A B cs waiting (parts-of-type (A ⊸ B)) (span-type A (typeCodes B ++ cs) (suc waiting)) (span-type B cs waiting)
 span-type (! A) cs waiting =
-    let e : waiting + partsOfKind reusable-kind ≡ suc waiting = omega (arith, one-asked) in
+    let one : partsOfKind reusable-kind ≡ 1 = parts-of-type (! A) in
+    let e : waiting + partsOfKind reusable-kind ≡ suc waiting = omega (arith, one) in
     rw e (omega (arith, span-type A cs waiting))
 span-type (Circ T U) cs waiting =
-    of-two circuit-kind T U cs waiting (two-asked .2) (span-type T (typeCodes U ++ cs) (suc waiting)) (span-type U cs waiting)
+    of-two circuit-kind T U cs waiting (parts-of-type (Circ T U)) (span-type T (typeCodes U ++ cs) (suc waiting)) (span-type U cs waiting)

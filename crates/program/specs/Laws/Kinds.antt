@@ -1,5 +1,5 @@
 -- What the kind of an entry says: which numbers are kinds of a section, and the shape that they give an entry.
-use Prim.Native.Nat.{ℕ, zero, suc, _+_, _-_, _≤_, _<_}
+use Prim.Native.Nat.{ℕ, _-_, _≤_, _<_}
 use mathlib.Core.Path.{_≡_, refl, sym, ap, subst}
 use mathlib.Core.Bool.{Bool, true, false, cond, not}
 use mathlib.Core.List.{List}
@@ -10,6 +10,7 @@ use borrow.Author.Tests.{lt-ltb, le-ltb, le-leb, leb-true}
 use Rattle.rules.specs.Kinds.{pair-type-kind, function-kind, reusable-kind, circuit-kind, unit-kind, variable-kind, label-kind}
 use Rattle.rules.specs.Kinds.{abstraction-kind, application-kind, pair-kind, let-kind, lift-kind, force-kind, box-kind}
 use Rattle.rules.specs.Kinds.{apply-kind, gate-kind, unit-value-kind}
+use Rattle.rules.specs.Laws.Ranges.{_and_, no-more, in-range}
 use Rattle.program.specs.Format.{labelCount, typeCount, firstTerm, kindAt, labelShape, typeShape, termShape, shapeAt}
 use Rattle.program.specs.Format.{isKnown, shapeAllows, argumentAt}
 use Rattle.program.specs.Reading.{kindWrong, argumentWrong}
@@ -47,32 +48,6 @@ pub data TermKind (k : ℕ) : Type 0 where
   is-gate : k ≡ gate-kind → TermKind k
   is-unit-value : k ≡ unit-value-kind → TermKind k
 
-type-kind-at : (k : ℕ) → k ≤ unit-kind → TypeKind k
-type-kind-at zero h = is-bit refl
-type-kind-at (suc zero) h = is-qubit refl
-type-kind-at (suc (suc zero)) h = is-tensor refl
-type-kind-at (suc (suc (suc zero))) h = is-function refl
-type-kind-at (suc (suc (suc (suc zero)))) h = is-reusable refl
-type-kind-at (suc (suc (suc (suc (suc zero))))) h = is-circ refl
-type-kind-at (suc (suc (suc (suc (suc (suc zero)))))) h = is-unit refl
-type-kind-at (suc (suc (suc (suc (suc (suc (suc k))))))) h = let z : ⊥ = omega arith in absurd z
-
-term-kind-at : (k j : ℕ) → k ≡ variable-kind + j → j ≤ 11 → TermKind k
-term-kind-at k zero q h = is-variable q
-term-kind-at k (suc zero) q h = is-label q
-term-kind-at k (suc (suc zero)) q h = is-abstraction q
-term-kind-at k (suc (suc (suc zero))) q h = is-application q
-term-kind-at k (suc (suc (suc (suc zero)))) q h = is-pair q
-term-kind-at k (suc (suc (suc (suc (suc zero))))) q h = is-let q
-term-kind-at k (suc (suc (suc (suc (suc (suc zero)))))) q h = is-lift q
-term-kind-at k (suc (suc (suc (suc (suc (suc (suc zero))))))) q h = is-force q
-term-kind-at k (suc (suc (suc (suc (suc (suc (suc (suc zero)))))))) q h = is-box q
-term-kind-at k (suc (suc (suc (suc (suc (suc (suc (suc (suc zero))))))))) q h = is-apply q
-term-kind-at k (suc (suc (suc (suc (suc (suc (suc (suc (suc (suc zero)))))))))) q h = is-gate q
-term-kind-at k (suc (suc (suc (suc (suc (suc (suc (suc (suc (suc (suc zero))))))))))) q h = is-unit-value q
-term-kind-at k (suc (suc (suc (suc (suc (suc (suc (suc (suc (suc (suc (suc j)))))))))))) q h =
-    let z : ⊥ = omega arith in absurd z
-
 -- An unknown shape is not known.
 unknown-not : (s : Shape) → IsTrue (isKnown s) → s ≡ Unknown → ⊥
 unknown-not s h q = subst (λ t. IsTrue (isKnown t)) q h
@@ -86,7 +61,19 @@ type-range k h = go (decLe k unit-kind)
 
 -- An entry of the type section with a known shape has one of the seven kinds.
 pub type-kind : (k : ℕ) → IsTrue (isKnown (typeShape k)) → TypeKind k
-type-kind k h = type-kind-at k (type-range k h)
+type-kind k h =
+    in-range TypeKind 0 7
+    (is-bit refl
+    and is-qubit refl
+    and is-tensor refl
+    and is-function refl
+    and is-reusable refl
+    and is-circ refl
+    and is-unit refl
+    and no-more)
+    k
+    (omega arith)
+    (omega (arith, type-range k h))
 
 term-range : (k : ℕ) → IsTrue (isKnown (termShape k)) → (variable-kind ≤ k) × (k ≤ unit-value-kind)
 term-range k h = (go (decLe variable-kind k), go′ (decLe k unit-value-kind))
@@ -101,7 +88,25 @@ term-range k h = (go (decLe variable-kind k), go′ (decLe k unit-value-kind))
 
 -- An entry of the term section with a known shape has one of the twelve kinds.
 pub term-kind : (k : ℕ) → IsTrue (isKnown (termShape k)) → TermKind k
-term-kind k h = let r = term-range k h in term-kind-at k (k - variable-kind) (omega (arith, r)) (omega (arith, r))
+term-kind k h =
+    let r = term-range k h in
+    in-range TermKind variable-kind 12
+    (is-variable refl
+    and is-label refl
+    and is-abstraction refl
+    and is-application refl
+    and is-pair refl
+    and is-let refl
+    and is-lift refl
+    and is-force refl
+    and is-box refl
+    and is-apply refl
+    and is-gate refl
+    and is-unit-value refl
+    and no-more)
+    k
+    (r .0)
+    (omega (arith, r .1))
 
 -- An entry of the label section with a known shape is Bit or Qubit.
 pub label-range : (k : ℕ) → IsTrue (isKnown (labelShape k)) → k ≤ 1

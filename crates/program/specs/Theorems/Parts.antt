@@ -8,25 +8,17 @@ use mathlib.Core.Option.{some, Option·some-injective, Option·none-ne-some}
 use lib.Dec.{eqb}
 use lib.ListN.{length, getD}
 use borrow.Author.Tests.{eqb-true}
-use Rattle.rules.specs.Types.{Bit, Qubit, Ty, wire, unit, _⊗_, _⊸_, !_, Circ, typeCodes}
+use Rattle.rules.specs.Types.{Bit, Qubit, wire, unit, _⊗_, _⊸_, !_, Circ}
 use Rattle.rules.specs.Terms.{Term, variable, label, gate, unit-value, constant, abstraction, application, pair, let-in}
 use Rattle.rules.specs.Terms.{lift, force, box, apply}
-use Rattle.rules.specs.Parts.{typeParts, termParts, partsTable, partsIn}
+use Rattle.rules.specs.Parts.{termParts, partsTable, partsIn}
+use Rattle.rules.specs.Laws.Parts.{type-row}
 use Rattle.program.specs.Encoding.{termKinds}
 use Rattle.program.specs.Parts.{KindWith, of-type, of-term}
 
 -- The first of a list that is not empty.
 first-is : {k : ℕ} {ks l : List ℕ} → l ≡ k ∷ ks → k ≡ getD l 0 0
 first-is e = sym (ap (λ l. getD l 0 0) e)
-
-type-row : (A : Ty) → partsIn partsTable (getD (typeCodes A) 0 0) ≡ some (length (typeParts A))
-type-row (wire Bit) = refl
-type-row (wire Qubit) = refl
-type-row unit = refl
-type-row (A ⊗ B) = refl
-type-row (A ⊸ B) = refl
-type-row (! A) = refl
-type-row (Circ T U) = refl
 
 term-row : (M : Term) {k : ℕ} {ks : List ℕ} → termKinds M ≡ k ∷ ks
     → partsIn partsTable (getD (termKinds M) 0 0) ≡ some (length (termParts M))

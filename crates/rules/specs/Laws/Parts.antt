@@ -6,9 +6,11 @@ use mathlib.Core.Bool.{Bool, true, false, _&&_, cond}
 use mathlib.Core.List.{List, [], _∷_}
 use mathlib.Core.Option.{none, some}
 use lib.Dec.{T as IsTrue, eqb, leb, ltb, leb→le}
+use lib.ListN.{length, getD}
 use borrow.Author.Tests.{ne-eqb}
 use Rattle.rules.specs.Kinds.{unit-kind, variable-kind, unit-value-kind}
-use Rattle.rules.specs.Parts.{partsTable, partsIn, orZero, partsOfKind}
+use Rattle.rules.specs.Types.{Bit, Qubit, Ty, wire, unit, _⊗_, _⊸_, !_, Circ, typeCodes}
+use Rattle.rules.specs.Parts.{typeParts, partsTable, partsIn, orZero, partsOfKind}
 use Rattle.rules.specs.PartsColumn.{partsAt}
 use Rattle.rules.specs.Laws.Booleans.{and-left, and-right}
 use Rattle.rules.specs.Laws.Ranges.{_and_, no-more, in-range}
@@ -73,3 +75,17 @@ two-in (row ∷ rows) t k = go (eqb k (row .0)) (two-in rows (and-right (leb (ro
 pub at-most-two : (k : ℕ) → partsOfKind k ≤ 2
 unfolding partsOfKind
 at-most-two k = two-in partsTable tt k
+
+-- The row of a type's kind, which is the first of its codes, and what the lookup gives for it.
+pub type-row : (A : Ty) → partsIn partsTable (getD (typeCodes A) 0 0) ≡ some (length (typeParts A))
+type-row (wire Bit) = refl
+type-row (wire Qubit) = refl
+type-row unit = refl
+type-row (A ⊗ B) = refl
+type-row (A ⊸ B) = refl
+type-row (! A) = refl
+type-row (Circ T U) = refl
+
+pub parts-of-type : (A : Ty) → partsOfKind (getD (typeCodes A) 0 0) ≡ length (typeParts A)
+unfolding partsOfKind
+parts-of-type A = ap orZero (type-row A)
