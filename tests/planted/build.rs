@@ -1,9 +1,11 @@
 //! Writes one module for each fault: a copy of the source with the fault's
 //! edits, each of which must have exactly one place.
 
+mod boxing_faults;
 mod faults;
 mod qasm_faults;
 
+use boxing_faults::BOXING;
 use faults::{Edit, FAULTS};
 use qasm_faults::{PARSERS, PRINTERS};
 use std::env;
@@ -25,23 +27,30 @@ struct Copied {
     faults: &'static [(&'static str, &'static [Edit])],
 }
 
-const COPIED: [Copied; 3] = [
-    // What the evaluator's copies answer is the evaluator's own type.
+/// The files of the evaluator. What its copies answer is the evaluator's own type.
+const EVALUATOR: Copied = Copied {
+    table: "PLANTED",
+    of: "Run",
+    function: "run::run",
+    source: "../evaluator/src",
+    files: &[
+        "circuits",
+        "configurations",
+        "contexts",
+        "listing",
+        "run",
+        "terms",
+    ],
+    uses: "use evaluator::answer;",
+    faults: FAULTS,
+};
+
+const COPIED: [Copied; 4] = [
+    EVALUATOR,
     Copied {
-        table: "PLANTED",
-        of: "Run",
-        function: "run::run",
-        source: "../evaluator/src",
-        files: &[
-            "circuits",
-            "configurations",
-            "contexts",
-            "listing",
-            "run",
-            "terms",
-        ],
-        uses: "use evaluator::answer;",
-        faults: FAULTS,
+        table: "BOXING",
+        faults: BOXING,
+        ..EVALUATOR
     },
     Copied {
         table: "PRINTERS",
@@ -65,6 +74,7 @@ const COPIED: [Copied; 3] = [
 
 fn main() {
     println!("cargo:rerun-if-changed=build.rs");
+    println!("cargo:rerun-if-changed=boxing_faults.rs");
     println!("cargo:rerun-if-changed=faults.rs");
     println!("cargo:rerun-if-changed=qasm_faults.rs");
     let variable = |name: &str| PathBuf::from(env::var_os(name).expect(name));

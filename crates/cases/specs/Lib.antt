@@ -4,6 +4,7 @@ pub mod FirstFaults
 pub mod CopiedPairs
 pub mod UnitCases
 pub mod ThreeWires
+pub mod Boxes
 pub mod Table
 pub mod Listings
 pub mod Answers

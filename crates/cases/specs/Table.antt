@@ -6,6 +6,7 @@ use Rattle.cases.specs.FirstFaults.{first-fault-cases}
 use Rattle.cases.specs.CopiedPairs.{pair-cases}
 use Rattle.cases.specs.UnitCases.{unit-cases}
 use Rattle.cases.specs.ThreeWires.{three-wire-cases}
+use Rattle.cases.specs.Boxes.{box-cases}
 
 abbrev pub table : List Case
-table = base-cases ++ (first-fault-cases ++ (pair-cases ++ (unit-cases ++ three-wire-cases)))
+table = base-cases ++ (first-fault-cases ++ (pair-cases ++ (unit-cases ++ (three-wire-cases ++ box-cases))))

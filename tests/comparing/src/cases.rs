@@ -7,6 +7,7 @@ use crate::first_faults::{self, Faulty};
 use crate::helpers;
 use crate::known::Known;
 use crate::three_wires;
+use crate::without_box;
 use crate::written::{entries, type_of, Written, ABS, APP, FUN, VAR};
 use program_files::kinds::*;
 use program_files::{encode, Entries, Positions, Program, Refusal, Sizes, Term, Wire};
@@ -51,7 +52,9 @@ pub struct Listing {
 
 /// The limits with which each case is run: those around the steps of each, and
 /// that of `wirelist`.
-pub const LIMITS: [u32; 16] = [0, 1, 2, 3, 4, 5, 6, 7, 8, 9, 10, 11, 12, 13, 14, 1_000_000];
+pub const LIMITS: [u32; 20] = [
+    0, 1, 2, 3, 4, 5, 6, 7, 8, 9, 10, 11, 12, 13, 14, 24, 25, 30, 31, 1_000_000,
+];
 
 /// The table.
 pub fn all() -> Vec<Case> {
@@ -85,6 +88,7 @@ pub fn all() -> Vec<Case> {
     ));
     all.extend(three_wires::accepted().into_iter().map(finishing));
     all.extend(three_wires::refused().into_iter().map(faulty));
+    all.extend(without_box::accepted().into_iter().map(finishing));
     all
 }
 

@@ -17,9 +17,11 @@ pub mod packed;
 pub mod pairs;
 pub mod planted;
 pub mod process;
+pub mod quiet;
 pub mod stack;
 pub mod tally;
 pub mod three_wires;
+pub mod without_box;
 pub mod written;
 
 pub use counts::Counts;

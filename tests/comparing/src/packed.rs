@@ -32,6 +32,14 @@ pub fn number(answer: u64) -> u8 {
     bits(answer, 0, 6) as u8
 }
 
+/// The refusal of an answer that is one.
+pub fn refusal(answer: u64) -> Refusal {
+    Refusal {
+        number: number(answer),
+        place: bits(answer, 6, 16) as usize,
+    }
+}
+
 /// The answer in words, of which those of an answer without refusal are given.
 pub fn in_words(answer: u64, accepted: impl FnOnce() -> String) -> String {
     let words = match number(answer) {

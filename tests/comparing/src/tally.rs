@@ -24,7 +24,7 @@ impl<What: Seen> Tally<What> {
         *self.0.entry(what).or_default() += 1;
     }
 
-    fn of(&self, what: What) -> usize {
+    pub fn of(&self, what: What) -> usize {
         self.0.get(&what).copied().unwrap_or(0)
     }
 

@@ -61,10 +61,14 @@ pub fn apply(circuit: Named, argument: Named) -> Named {
     Named::Apply(Box::new(circuit), Box::new(argument))
 }
 
+/// A function itself on its argument.
+pub fn call(function: Named, argument: Named) -> Named {
+    Named::Call(Box::new(function), Box::new(argument))
+}
+
 /// The value of a term under a name in what follows.
 pub fn bind(name: &'static str, of: Rc<Type>, value: Named, rest: Named) -> Named {
-    let function = Named::Function(name, of, Box::new(rest));
-    Named::Call(Box::new(function), Box::new(value))
+    call(Named::Function(name, of, Box::new(rest)), value)
 }
 
 /// The halves of a pair under two names in what follows.
@@ -72,25 +76,35 @@ pub fn halves(names: [&'static str; 2], value: Named, rest: Named) -> Named {
     Named::Let(names, Box::new(value), Box::new(rest))
 }
 
-/// The circuit of a function from one wire.
-pub fn boxed_one(wire: &'static str, body: Named) -> Named {
-    let function = Named::Function(wire, qubit(), Box::new(body));
-    Named::Box(qubit(), Box::new(Named::Lift(Box::new(function))))
+/// The circuit of a function from wires of this type.
+pub fn boxed(at: Rc<Type>, function: Named) -> Named {
+    Named::Box(at, Box::new(Named::Lift(Box::new(function))))
 }
 
-/// The circuit of a function from two wires.
-pub fn boxed_two(wires: [&'static str; 2], body: Named) -> Named {
+/// The circuit of a function from one wire.
+pub fn boxed_one(wire: &'static str, body: Named) -> Named {
+    boxed(qubit(), Named::Function(wire, qubit(), Box::new(body)))
+}
+
+/// A function from two wires.
+pub fn from_two(wires: [&'static str; 2], body: Named) -> Named {
     let body = halves(wires, name("wires"), body);
-    let function = Named::Function("wires", qubits(2), Box::new(body));
-    Named::Box(qubits(2), Box::new(Named::Lift(Box::new(function))))
+    Named::Function("wires", qubits(2), Box::new(body))
+}
+
+/// The circuit of such a function.
+pub fn boxed_two(wires: [&'static str; 2], body: Named) -> Named {
+    boxed(qubits(2), from_two(wires, body))
 }
 
 /// The circuit of a function from a wire and two more.
 pub fn boxed_three([first, second, third]: [&'static str; 3], body: Named) -> Named {
     let body = halves([second, third], name("others"), body);
     let body = halves([first, "others"], name("wires"), body);
-    let function = Named::Function("wires", qubits(3), Box::new(body));
-    Named::Box(qubits(3), Box::new(Named::Lift(Box::new(function))))
+    boxed(
+        qubits(3),
+        Named::Function("wires", qubits(3), Box::new(body)),
+    )
 }
 
 /// A circuit from a type to itself under a name in what follows.

@@ -1,8 +1,9 @@
 //! The example programs as files, each with the lines that `wirelist` prints and,
 //! if it has one, with its text in OpenQASM, from which its listing comes back. The
 //! files in the folder `examples` of the current folder are compared with them; with
-//! the word `write` they are written. Some are simulated: the repetition code puts a
-//! flip right, and the adder adds, with CCX and with a box of other gates in its place.
+//! the word `write` they are written. The Bell pair has one listing with its box and
+//! without it. Some are simulated: the repetition code puts a flip right, and the adder
+//! adds, with CCX and with a box of other gates in its place.
 
 use example_programs::{adder_without_ccx, examples, is_added, is_corrected};
 use std::env;
@@ -51,6 +52,12 @@ fn main() {
             println!("the text of {} gives another listing", example.name);
             differences += 1;
         }
+    }
+    let of_name = |name| examples().into_iter().find(|example| example.name == name);
+    let [boxed, unboxed] = ["bell", "unboxed"].map(|name| of_name(name).expect("an example"));
+    if boxed.listing != unboxed.listing || boxed.lines == unboxed.lines {
+        println!("the Bell pair without its box has another listing, or as many steps");
+        differences += 1;
     }
     if !is_added(&adder_without_ccx().listing) {
         println!("the adder without CCX does not add");

@@ -2,15 +2,16 @@
 
 use crate::builder::Action::{Come, Go, Measure, On, OnThree, OnTwo};
 use crate::builder::{
-    apply, bind, boxed_one, boxed_three, boxed_two, define, halves, input, name, pair, qubit,
-    qubits, then, two_circuits, Named, BX, BZ, CCX, CNOT, H, S, T, X, Z,
+    apply, bind, boxed, boxed_one, boxed_three, boxed_two, call, define, from_two, halves, input,
+    name, pair, qubit, qubits, then, two_circuits, Named, BX, BZ, CCX, CNOT, H, S, T, X, Z,
 };
 
 /// The name of each file, the number of Qubits that are its inputs, and the
 /// term.
 pub fn all() -> Vec<(&'static str, usize, Named)> {
     vec![
-        ("bell", 2, bell()),
+        ("bell", 2, bell(apply(entangle(), two_inputs()))),
+        ("unboxed", 2, bell(call(entangling(), two_inputs()))),
         ("teleportation", 3, teleportation()),
         ("grover", 2, grover()),
         ("adder", 4, adder(CCX)),
@@ -20,15 +21,23 @@ pub fn all() -> Vec<(&'static str, usize, Named)> {
 }
 
 /// Entangles two Qubits.
-fn entangle() -> Named {
+fn entangling() -> Named {
     let actions = vec![On(H, "a"), OnTwo(CNOT, ["a", "b"])];
-    boxed_two(["a", "b"], then(actions, pair(name("a"), name("b"))))
+    from_two(["a", "b"], then(actions, pair(name("a"), name("b"))))
+}
+
+/// The circuit of that function.
+fn entangle() -> Named {
+    boxed(qubits(2), entangling())
+}
+
+fn two_inputs() -> Named {
+    pair(input(0), input(1))
 }
 
 /// A Bell pair of two Qubits; the first is measured, and its bit corrects the
 /// second.
-fn bell() -> Named {
-    let entangled = apply(entangle(), pair(input(0), input(1)));
+fn bell(entangled: Named) -> Named {
     let actions = vec![Measure("a"), OnTwo(BX, ["a", "b"])];
     let result = pair(name("a"), name("b"));
     halves(["a", "b"], entangled, then(actions, result))

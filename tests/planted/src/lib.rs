@@ -12,7 +12,7 @@ pub type Run = fn(&[u8], u32) -> Answer;
 pub type Print = fn(&Listing) -> Vec<u8>;
 pub type Parse = fn(&[u8]) -> Option<Listing>;
 
-pub use copies::{PARSERS, PLANTED, PRINTERS};
+pub use copies::{BOXING, PARSERS, PLANTED, PRINTERS};
 
 /// Written when the crate is built.
 #[allow(dead_code, unused, clippy::all)]

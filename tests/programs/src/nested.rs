@@ -74,6 +74,19 @@ impl Tree {
         }
     }
 
+    /// A tree of so many leaves, at least one.
+    pub fn of_leaves(random: &mut Random, leaves: usize) -> Tree {
+        match leaves {
+            1 => Tree::Leaf,
+            _ => {
+                let first = random.between(1, leaves - 1);
+                let second = Tree::of_leaves(random, leaves - first);
+                let first = Tree::of_leaves(random, first);
+                Tree::Pair(Box::new(first), Box::new(second))
+            }
+        }
+    }
+
     /// The ways to the leaves, left to right.
     pub fn leaves(&self) -> Vec<Way> {
         let Tree::Pair(first, second) = self else {
@@ -111,4 +124,29 @@ pub fn taken_out(argument: usize, way: &[Side], done: impl Fn(usize) -> Rc<Term>
     taken_apart.fold(inside, |inside, &argument| {
         let_in(variable(argument), inside)
     })
+}
+
+/// The term in which lets take variable 0, pairs as the tree has them, apart.
+/// What is done with the leaves gets their variables' arguments, left to right,
+/// and stands under two more binders for each pair.
+pub fn taken_apart(tree: &Tree, done: impl FnOnce(&[usize]) -> Rc<Term>) -> Rc<Term> {
+    // What is still to be taken apart, and the leaves, by the binders outside.
+    let mut left = vec![(0, tree)];
+    let mut leaves = Vec::new();
+    let mut pairs = Vec::new();
+    let mut binders = 1;
+    while let Some((number, tree)) = left.pop() {
+        match tree {
+            Tree::Leaf => leaves.push(number),
+            Tree::Pair(first, second) => {
+                pairs.push(variable(binders - 1 - number));
+                left.push((binders + 1, second));
+                left.push((binders, first));
+                binders += 2;
+            }
+        }
+    }
+    let arguments: Vec<usize> = leaves.iter().map(|leaf| binders - 1 - leaf).collect();
+    let taken_apart = pairs.into_iter().rev();
+    taken_apart.fold(done(&arguments), |inside, pair| let_in(pair, inside))
 }

@@ -209,6 +209,24 @@ pub fn typed(random: &mut Random, plan: &Plan) -> Option<Typed> {
         of: wire.as_type(),
     });
     let sequent = Sequent::new(labels.collect(), &goal, plan.helpers);
+    let (term, listed) = term_for(random, plan, &sequent)?;
+    Some(Typed {
+        program: Program {
+            labels: plan.labels.clone(),
+            listed,
+            term,
+        },
+        of: goal,
+    })
+}
+
+/// A term for the sequent, of the plan's numbers and rules, and the types that it
+/// lists; none if that asks for too much.
+pub fn term_for(
+    random: &mut Random,
+    plan: &Plan,
+    sequent: &Sequent,
+) -> Option<(Rc<Term>, Vec<Rc<Type>>)> {
     let mut generator = Generator {
         random,
         plan,
@@ -216,18 +234,11 @@ pub fn typed(random: &mut Random, plan: &Plan) -> Option<Typed> {
         listed: Vec::new(),
         room: plan.types,
     };
-    if !generator.know_goal(&goal) || !fits(&sequent, generator.random) {
+    if !generator.know_goal(&sequent.goal) || !fits(sequent, generator.random) {
         return None;
     }
-    let term = generator.term(&sequent, plan.terms);
-    Some(Typed {
-        program: Program {
-            labels: plan.labels.clone(),
-            listed: generator.listed,
-            term,
-        },
-        of: goal,
-    })
+    let term = generator.term(sequent, plan.terms);
+    Some((term, generator.listed))
 }
 
 fn goal_of(random: &mut Random, plan: &Plan) -> Rc<Type> {

@@ -6,6 +6,7 @@ use crate::memory::{self, Fault};
 use crate::seen::{add, Run, Seen};
 use crate::sound;
 use comparing::files::ComparePrograms;
+use comparing::quiet::quietly;
 use comparing::{Counts, Expected, Known, Planted};
 use evaluator::text::text;
 use evaluator::{prepare, Answer, Prepared};
@@ -13,8 +14,6 @@ use planted::PLANTED;
 use program_files::Random;
 use run_compare::interface::{self, is_short, pack, Lengths, Lent, LEAST, SHORT};
 use run_compare::under_test;
-use std::cell::Cell;
-use std::panic::{self, AssertUnwindSafe};
 
 /// The least number of distinct programs, and of programs for each answer.
 const LEAST_DISTINCT: usize = 100_000;
@@ -296,27 +295,4 @@ fn call(
         cleared: !short,
     };
     lent.call(run, file, lengths, &expected)
-}
-
-thread_local! {
-    /// Whether a panic of this thread prints nothing.
-    static QUIET: Cell<bool> = const { Cell::new(false) };
-}
-
-/// Panics of what is run quietly print nothing.
-pub fn set_panic_hook() {
-    let hook = panic::take_hook();
-    panic::set_hook(Box::new(move |panic| {
-        if !QUIET.get() {
-            hook(panic);
-        }
-    }));
-}
-
-/// What is run may panic: then there is no result.
-fn quietly<T>(run: impl FnOnce() -> T) -> Option<T> {
-    QUIET.set(true);
-    let result = panic::catch_unwind(AssertUnwindSafe(run)).ok();
-    QUIET.set(false);
-    result
 }

@@ -78,6 +78,19 @@ pub fn pack_finished(steps: u32, gates: usize, length: usize) -> u64 {
     put(gates as u64, 6, 12) + put(length as u64, 18, 14) + put(u64::from(steps), 32, 32)
 }
 
+/// The answer that was packed, with the listing that stands at the start of the
+/// output buffer.
+pub fn unpack(answer: u64, out: &[u8]) -> Answer {
+    match number(answer) {
+        0 => Answer::Finished {
+            steps: bits(answer, 32, 32) as u32,
+            gates: bits(answer, 6, 12) as usize,
+            listing: out[..bits(answer, 18, 14) as usize].to_vec(),
+        },
+        _ => Answer::Refused(packed::refusal(answer)),
+    }
+}
+
 /// The answer in words.
 pub fn in_words(answer: u64) -> String {
     packed::in_words(answer, || {

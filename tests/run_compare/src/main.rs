@@ -16,7 +16,7 @@ mod three;
 mod three_wires;
 
 use compare::Comparison;
-use comparing::process;
+use comparing::{process, quiet};
 use run_compare::under_test::NAME;
 
 fn main() {
@@ -26,7 +26,7 @@ fn main() {
 /// Two threads compare; the first one looks for the planted faults.
 fn compare_all() {
     println!("run under test: {NAME}");
-    compare::set_panic_hook();
+    quiet::set_panic_hook();
     let second = process::thread(|| {
         let mut comparison = Comparison::new();
         pairs::compare(&mut comparison);

@@ -15,6 +15,8 @@ use Rattle.check_program.specs.Answers.{outTo as judgedOut}
 use Rattle.check_program.specs.Lengths.{check-lengths}
 use Rattle.check_program.specs.Laws.Opened.{opened as check-opened}
 use Rattle.listing.specs.Listing.{listingBytes}
+use Rattle.boxing.specs.Spots.{whole, in-abstraction, in-application-right, in-lift}
+use Rattle.run_boxing.specs.Files.{OneBoxLessFile}
 use Rattle.run_answers.specs.declared.RunAnswer.the-variants.{Refused as RunRefused}
 use Rattle.run_answers.specs.Lengths.{run-lengths}
 use Rattle.run_answers.specs.Answers.{Ran, runOf, answerTo, outTo, runAnswer, runBytes}
@@ -24,6 +26,8 @@ use Rattle.cases.specs.FirstFaults.{in-parts, behind-later-numbers, nest
 use Rattle.cases.specs.CopiedPairs.{copied-pairs, linear-pairs, pair-cases}
 use Rattle.cases.specs.UnitCases.{finished-units, refused-units, unit-cases}
 use Rattle.cases.specs.ThreeWires.{finished-threes, refused-threes, three-wire-cases}
+use Rattle.cases.specs.Boxes.{two-qubits, helped-body, helped, twice-on-labels, crossed-first, with-box-case, without-box-case}
+use Rattle.cases.specs.Boxes.{box-cases}
 use Rattle.cases.specs.Laws.Tables.{both-hold}
 use Rattle.cases.specs.Table.{table}
 use Rattle.cases.specs.Answers.{checkAnswerTo, checkOutTo, RunsAnswer, Answers, AllAnswer}
@@ -34,7 +38,7 @@ unfolding check-opened listingBytes flatMap runOf encode programKinds programArg
 opened f n = runOf f n
 
 -- Every case of the table holds: those of 01; those of ticket 1, whose nodes have faults in their parts, behind one of a later
--- number, and inside each other; those of ticket 2, with pairs that may be copied and pairs that may not; those of tickets 5 and 6.
+-- number, and inside each other; those of ticket 2, with pairs that may be copied and pairs that may not; those of tickets 5, 6 and 10.
 pub base-hold : AllHold base-cases
 unfolding opened
 base-hold = refl
@@ -75,8 +79,15 @@ pub refused-threes-hold : AllHold refused-threes
 unfolding opened
 refused-threes-hold = refl
 
+pub boxes-hold : AllHold box-cases
+unfolding opened
+boxes-hold = refl
+
+abbrev from-units : List Case
+from-units = unit-cases ++ (three-wire-cases ++ box-cases)
+
 abbrev from-pairs : List Case
-from-pairs = pair-cases ++ (unit-cases ++ three-wire-cases)
+from-pairs = pair-cases ++ from-units
 
 pub all-hold : AllHold table
 all-hold =
@@ -84,11 +95,29 @@ all-hold =
     (both-hold computed first-fault-cases from-pairs
     (both-hold computed in-parts (behind-later-numbers ++ nested) in-parts-hold
     (both-hold computed behind-later-numbers nested behind-later-hold nested-hold))
-    (both-hold computed pair-cases (unit-cases ++ three-wire-cases)
+    (both-hold computed pair-cases from-units
     (both-hold computed copied-pairs linear-pairs copied-pairs-hold linear-pairs-hold)
-    (both-hold computed unit-cases three-wire-cases
+    (both-hold computed unit-cases (three-wire-cases ++ box-cases)
     (both-hold computed finished-units refused-units finished-units-hold refused-units-hold)
-    (both-hold computed finished-threes refused-threes finished-threes-hold refused-threes-hold))))
+    (both-hold computed three-wire-cases box-cases
+    (both-hold computed finished-threes refused-threes finished-threes-hold refused-threes-hold) boxes-hold))))
+
+-- The files of ticket 10's two cases differ in one box: under a lift, in the function that is forced twice.
+pub one-box-less-file : OneBoxLessFile (with-box-case .file) (without-box-case .file)
+unfolding opened
+one-box-less-file =
+    record {
+      same-labels = refl;
+      one-less = record {
+        spot = in-application-right twice-on-labels (in-lift (in-abstraction two-qubits whole));
+        T = two-qubits;
+        F = helped;
+        N = crossed-first;
+        is-abstraction = (two-qubits, helped-body, refl);
+        with-box-is = refl;
+        without-box-is = refl;
+      };
+    }
 
 -- The answer to a judgement, by what the table has of it.
 same-answer : (j : Judged) → judgedAnswer j ≡ checkAnswerTo (checkedAs j)

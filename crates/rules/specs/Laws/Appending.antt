@@ -264,7 +264,7 @@ append-outputs ℓs b ((n on ws) ∷ gs) hs =
     ap (λ l. l ++ gateOutputs n) (append-outputs ℓs b gs hs)
     ∙ append-assoc (outputs hs) (outputs gs) (gateOutputs n)
 
-append-types : (ℓs : List ℕ) (b : ℕ) (I : List Wire) (gs hs : List Gate)
+pub append-types : (ℓs : List ℕ) (b : ℕ) (I : List Wire) (gs hs : List Gate)
     → I ++ outputs (map (renameGate ℓs b) gs ++ hs) ≡ I ++ outputs hs ++ outputs gs
 append-types ℓs b I gs hs =
     ap (λ l. I ++ l) (append-outputs ℓs b gs hs) ∙ sym (append-assoc I (outputs hs) (outputs gs))

@@ -283,11 +283,11 @@ boxing {T = T} {M = M} (by-box {U = U} t u (by-lift b p n d)) =
       body-has = e;
     }
 
-top-has : {A : Ty} {F : Frame} {X : List Frame} → FramesHave A F X → (B : Ty) × FrameHas F B
+pub top-has : {A : Ty} {F : Frame} {X : List Frame} → FramesHave A F X → (B : Ty) × FrameHas F B
 top-has (outermost {F = F} h) = (_, h)
 top-has (opened E T U M h b here rest) = (U, h)
 
-frame-boxing : {C : Circuit} (E : EvaluationContext) (T : Ty) (M : Term) {A : Ty}
+pub frame-boxing : {C : Circuit} (E : EvaluationContext) (T : Ty) (M : Term) {A : Ty}
     → FrameHas (frame C (plug E (box T (lift M)))) A
     → (Q : LabelContext) × (B : Ty) × Boxing Q T M B
 frame-boxing E T M (frame-has s d) = let p = plug-has E d in (p .Q₁, p .B, boxing (p .has))

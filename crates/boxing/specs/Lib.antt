@@ -1,0 +1,3 @@
+pub mod Spots
+pub mod Laws
+pub mod Theorems
