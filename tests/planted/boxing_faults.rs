@@ -3,6 +3,25 @@
 
 use crate::faults::Edit;
 
+/// The circuit of a box is changed where it is applied: `constant` is a copy of it.
+macro_rules! of_a_box {
+    ($change:literal) => {
+        &[(
+            "configurations",
+            "Form::Constant(constant) => constant.clone(),",
+            concat!(
+                "Form::Constant(constant) => {
+                let mut constant = (**constant).clone();
+                ",
+                $change,
+                "
+                Rc::new(constant)
+            }"
+            ),
+        )]
+    };
+}
+
 pub const BOXING: &[(&str, &[Edit])] = &[
     (
         "a circuit's gates listed before those of its argument",
@@ -57,102 +76,54 @@ pub const BOXING: &[(&str, &[Edit])] = &[
     ),
     (
         "the inputs of a box's circuit matched right to left",
-        &[(
-            "configurations",
-            "Form::Constant(constant) => constant.clone(),",
-            "Form::Constant(constant) => {
-                let mut constant = (**constant).clone();
-                constant.inputs.reverse();
-                Rc::new(constant)
-            }",
-        )],
+        of_a_box!("constant.inputs.reverse();"),
     ),
     (
         "the inputs of a box's circuit matched in the order of their wires",
-        &[(
-            "configurations",
-            "Form::Constant(constant) => constant.clone(),",
-            "Form::Constant(constant) => {
-                let mut constant = (**constant).clone();
-                let labels = argument.labels();
-                let before = |label: &usize| labels.iter().filter(|&other| other < label).count();
-                let inputs = labels.iter().map(|label| constant.inputs[before(label)]);
-                constant.inputs = inputs.collect();
-                Rc::new(constant)
-            }",
-        )],
+        of_a_box!(
+            "let labels = argument.labels();
+            let before = |label: &usize| labels.iter().filter(|&other| other < label).count();
+            let inputs = labels.iter().map(|label| constant.inputs[before(label)]);
+            constant.inputs = inputs.collect();"
+        ),
     ),
     (
         "the result of a box's circuit in the order of its wires",
-        &[(
-            "configurations",
-            "Form::Constant(constant) => constant.clone(),",
-            "Form::Constant(constant) => {
-                let mut constant = (**constant).clone();
-                let labels = constant.result.labels();
-                let mut sorted = labels.clone();
-                sorted.sort_unstable();
-                constant.result = constant.result.relabelled(&|wire| {
-                    let at = labels.iter().position(|&label| label == wire);
-                    at.map_or(wire, |at| sorted[at])
-                });
-                Rc::new(constant)
-            }",
-        )],
+        of_a_box!(
+            "let labels = constant.result.labels();
+            let mut sorted = labels.clone();
+            sorted.sort_unstable();
+            constant.result = constant.result.relabelled(&|wire| {
+                let at = labels.iter().position(|&label| label == wire);
+                at.map_or(wire, |at| sorted[at])
+            });"
+        ),
     ),
     (
         "Init first in a box's circuit",
-        &[(
-            "configurations",
-            "Form::Constant(constant) => constant.clone(),",
-            "Form::Constant(constant) => {
-                let mut constant = (**constant).clone();
-                constant.gates.sort_by_key(|placed| placed.gate != 9);
-                Rc::new(constant)
-            }",
-        )],
+        of_a_box!("constant.gates.sort_by_key(|placed| placed.gate != 9);"),
     ),
     (
         "Discard lost in a box's circuit",
-        &[(
-            "configurations",
-            "Form::Constant(constant) => constant.clone(),",
-            "Form::Constant(constant) => {
-                let mut constant = (**constant).clone();
-                constant.gates.retain(|placed| placed.gate != 10);
-                Rc::new(constant)
-            }",
-        )],
+        of_a_box!("constant.gates.retain(|placed| placed.gate != 10);"),
     ),
     (
         "the wires of a gate numbered right to left in a box's circuit",
-        &[(
-            "configurations",
-            "Form::Constant(constant) => constant.clone(),",
-            "Form::Constant(constant) => {
-                let mut constant = (**constant).clone();
-                for placed in &mut constant.gates {
-                    placed.makes.reverse();
-                }
-                Rc::new(constant)
-            }",
-        )],
+        of_a_box!(
+            "for placed in &mut constant.gates {
+                placed.makes.reverse();
+            }"
+        ),
     ),
     (
         "the last two wires of CCX exchanged in a box's circuit",
-        &[(
-            "configurations",
-            "Form::Constant(constant) => constant.clone(),",
-            "Form::Constant(constant) => {
-                let mut constant = (**constant).clone();
-                for placed in &mut constant.gates {
-                    if placed.gate == 11 {
-                        placed.takes.swap(1, 2);
-                    }
+        of_a_box!(
+            "for placed in &mut constant.gates {
+                if placed.gate == 11 {
+                    placed.takes.swap(1, 2);
                 }
-                Rc::new(constant)
-            }",
-        )],
+            }"
+        ),
     ),
     (
         "a box gives the circuit of an earlier one of its type and size",

@@ -14,10 +14,10 @@ use programs::types::{self, circuit, qubit, unit};
 use std::rc::Rc;
 
 const H: usize = 0;
-const CNOT: usize = 5;
-const MEAS: usize = 6;
-const INIT: usize = 9;
-const DISCARD: usize = 10;
+pub(crate) const CNOT: usize = 5;
+pub(crate) const MEAS: usize = 6;
+pub(crate) const INIT: usize = 9;
+pub(crate) const DISCARD: usize = 10;
 
 const NOTHING: Listing = Listing {
     gates: 0,

@@ -16,7 +16,7 @@ use programs::types::{self, circuit, function, qubits, unit};
 use std::rc::Rc;
 
 const H: usize = 0;
-const CCX: usize = 11;
+pub(crate) const CCX: usize = 11;
 
 /// The type of three Qubits as CCX takes them, in preorder.
 const THREE: &[u8] = &[PAIR_TYPE, QUBIT, PAIR_TYPE, QUBIT, QUBIT];

@@ -2,7 +2,8 @@
 //! box, and the same without it.
 
 use crate::cases::{Finishing, Listing};
-use crate::helpers::bound;
+use crate::helpers::{bound, CNOT, DISCARD, INIT, MEAS};
+use crate::three_wires::CCX;
 use program_files::kinds::{PAIR_TYPE, QUBIT};
 use program_files::Term;
 use program_files::Wire::Qubit;
@@ -12,12 +13,6 @@ use programs::terms::{
 };
 use programs::types::{self, qubits, unit};
 use std::rc::Rc;
-
-const CNOT: usize = 5;
-const MEAS: usize = 6;
-const INIT: usize = 9;
-const DISCARD: usize = 10;
-const CCX: usize = 11;
 
 /// CNOT, and CCX with a helper that comes and goes, twice.
 const HELPED: Listing = Listing {
