@@ -1,3 +1,4 @@
+pub mod Places
 pub mod Types
 pub mod Boxing
 pub mod Examples
