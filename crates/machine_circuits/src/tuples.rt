@@ -39,7 +39,7 @@ pub struct TupleSize {
 
 // Where the codes of a type come from: the type section, in the buffer of the types, or the type of the gate with a number,
 // for which an empty buffer is lent.
-#[derive(Drop)]
+#[derive(Clone, Copy)]
 enum Source {
     Section,
     Gate(usize),

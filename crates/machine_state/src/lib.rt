@@ -6,7 +6,7 @@
 use machine_walk::Place;
 
 // How much there is of what a configuration counts.
-#[derive(Drop)]
+#[derive(Clone, Copy)]
 pub struct Counts {
     // Frames, the outermost one and one for each open box.
     pub frames: usize,
@@ -19,7 +19,7 @@ pub struct Counts {
 }
 
 // The numbers of a state: with them the buffers hold it.
-#[derive(Drop)]
+#[derive(Clone, Copy)]
 pub struct StateNumbers {
     // Where the walk stands.
     pub place: Place,

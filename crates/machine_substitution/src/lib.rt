@@ -15,7 +15,7 @@ ghost use Rattle.machine_substitution.specs.Reducts.{Ready, NextPiece, Wrote};
 use rules::kinds::{ABSTRACTION, LET, VARIABLE};
 
 // Some nodes of the buffer: from a place on, so many.
-#[derive(Drop)]
+#[derive(Clone, Copy)]
 pub struct Region {
     // The place of its first node.
     pub start: usize,
@@ -24,7 +24,7 @@ pub struct Region {
 }
 
 // Where the values stand that take the place of the outermost variables.
-#[derive(Drop)]
+#[derive(Clone, Copy)]
 pub struct Values {
     // The value of variable 0.
     pub first: Region,

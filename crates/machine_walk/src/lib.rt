@@ -26,7 +26,7 @@ use rules::kinds::{
 use words::quadwords::put_quadword;
 
 // Where the walk stands.
-#[derive(Drop)]
+#[derive(Clone, Copy)]
 pub struct Place {
     // The nodes before this place are walked.
     pub left: usize,
@@ -39,7 +39,7 @@ pub struct Place {
 }
 
 // Where the walk stops: at a redex, at the end of an open box or of the outermost frame, or at a free variable.
-#[derive(Drop)]
+#[derive(Clone, Copy)]
 pub enum Stop {
     AtApplication,
     AtLet,

@@ -37,7 +37,7 @@ pub enum Rule {
 }
 
 // The sizes at the start of a file.
-#[derive(Drop)]
+#[derive(Clone, Copy)]
 pub struct Sizes {
     // L, the labels.
     pub labels: usize,

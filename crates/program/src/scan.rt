@@ -10,7 +10,7 @@ use crate::format::{Rule, Sizes, argument_at, kind_at, rule_allows, rule_at};
 use crate::wires::{type_wrong, wires_wrong};
 
 // What a scan tests of an entry: its kind (4), its argument (5), that its type does not run out (6), its wire types (7).
-#[derive(Drop)]
+#[derive(Clone, Copy)]
 pub enum Test {
     Kinds,
     Arguments,

@@ -13,7 +13,7 @@ use rules::kinds::{ABSTRACTION, BIT, LET, PAIR_TYPE, UNIT, VARIABLE};
 use rules::parts::parts_of_kind;
 
 // What a traversal looks at: where a type ends, whether it is a wire type, where a term ends, whether its variables are bound.
-#[derive(Drop)]
+#[derive(Clone, Copy)]
 pub enum Subject {
     TypeEnd,
     WireType,

@@ -6,7 +6,7 @@ ghost use Rattle.std.specs.Prelude.{◌≡◌};
 ghost use Rattle.refusals.specs.Refusals.{refusal_number, refusal_place};
 
 // A refusal belongs to one of three families; its number and place are those of 01.
-#[derive(Drop)]
+#[derive(Clone, Copy)]
 pub enum Refusal {
     Form { number: usize, place: usize },
     Typing { number: usize, place: usize },

@@ -32,7 +32,7 @@ use rules::slots::NO_WIRE;
 use words::quadwords::{put_quadword, word_in};
 
 // What is read before anything is written.
-#[derive(Drop)]
+#[derive(Clone, Copy)]
 struct Redex {
     // The place of the apply, and where its argument starts.
     at: usize,

@@ -22,7 +22,7 @@ use rules::kinds::APPLICATION;
 use rules::sizes::MOST_NODES;
 
 // What box entry writes, and of which box.
-#[derive(Drop)]
+#[derive(Clone, Copy)]
 struct Entry {
     // The place of the box's node.
     at: usize,

@@ -29,7 +29,7 @@ use words::quadwords::{put_quadword, word_in};
 use words::saturating_sub;
 
 // The box that is left: its node, the result, and the gates of the innermost frame.
-#[derive(Drop)]
+#[derive(Clone, Copy)]
 struct Exit {
     // The place of the box's node.
     at: usize,
