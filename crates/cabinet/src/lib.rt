@@ -3,6 +3,8 @@
 // Believe: the six contracts, which speak in the definitions of the operations and of cabinet_answers.
 // No theorem beyond them.
 // Called by C hosts (include/gawipsol.h) and by the comparisons in tests/.
+#![tactic(auto)]
+
 ghost use Rattle.std.specs.Prelude.{◌≡◌, [], ◌∷◌};
 ghost use Rattle.lent.specs.Lent.{first_bytes, last_bytes};
 ghost use Rattle.program.specs.Reading.{read_of};
@@ -32,9 +34,9 @@ pub extern "C" fn gawipsol_read(file: &[u8]) -> u64
 // The check for callers outside, with its answer in one number.
 #[unsafe(no_mangle)]
 pub extern "C" fn gawipsol_check(file: &[u8], out: &mut [u8], work: &mut [u8]) -> u64
-    ensures fact_1 { let lent = out ∷ work ∷ [] in
+    ensures answer { let lent = out ∷ work ∷ [] in
         result ≡ packed_check (check_answer file.now (first_bytes lent)) }
-    ensures fact_2 { let lent = out ∷ work ∷ [] in
+    ensures bytes { let lent = out ∷ work ∷ [] in
         last_bytes lent ≡ check_bytes file.now (first_bytes lent) }
 {
     pack_check(check(file, out, work))
@@ -57,9 +59,9 @@ pub extern "C" fn gawipsol_run(
     results2: &mut [u8],
     results3: &mut [u8],
 ) -> u64
-    ensures fact_1 { let lent = out ∷ nodes ∷ stack ∷ types ∷ frames ∷ gates ∷ circuits ∷ results0 ∷ results1 ∷ results2 ∷ results3 ∷ [] in
+    ensures answer { let lent = out ∷ nodes ∷ stack ∷ types ∷ frames ∷ gates ∷ circuits ∷ results0 ∷ results1 ∷ results2 ∷ results3 ∷ [] in
         result ≡ packed_run (run_answer file.now limit (first_bytes lent)) }
-    ensures fact_2 { let lent = out ∷ nodes ∷ stack ∷ types ∷ frames ∷ gates ∷ circuits ∷ results0 ∷ results1 ∷ results2 ∷ results3 ∷ [] in
+    ensures bytes { let lent = out ∷ nodes ∷ stack ∷ types ∷ frames ∷ gates ∷ circuits ∷ results0 ∷ results1 ∷ results2 ∷ results3 ∷ [] in
         last_bytes lent ≡ run_bytes file.now limit (first_bytes lent) }
 {
     pack_run(run(
@@ -71,9 +73,9 @@ pub extern "C" fn gawipsol_run(
 // The check of a listing for callers outside, with its answer in one number.
 #[unsafe(no_mangle)]
 pub extern "C" fn gawipsol_check_listing(listing: &[u8], work: &mut [u8]) -> u64
-    ensures fact_1 { let lent = work ∷ [] in
+    ensures answer { let lent = work ∷ [] in
         result ≡ packed_listing (listing_check_answer listing.now (first_bytes lent)) }
-    ensures fact_2 { let lent = work ∷ [] in
+    ensures bytes { let lent = work ∷ [] in
         last_bytes lent ≡ listing_check_bytes (first_bytes lent) }
 {
     pack_listing(check_listing(listing, work))
@@ -82,9 +84,9 @@ pub extern "C" fn gawipsol_check_listing(listing: &[u8], work: &mut [u8]) -> u64
 // The export of a listing for callers outside, with its answer in one number.
 #[unsafe(no_mangle)]
 pub extern "C" fn gawipsol_export(listing: &[u8], out: &mut [u8], work: &mut [u8]) -> u64
-    ensures fact_1 { let lent = out ∷ work ∷ [] in
+    ensures answer { let lent = out ∷ work ∷ [] in
         result ≡ packed_conversion (export_answer listing.now (first_bytes lent)) }
-    ensures fact_2 { let lent = out ∷ work ∷ [] in
+    ensures bytes { let lent = out ∷ work ∷ [] in
         last_bytes lent ≡ export_bytes listing.now (first_bytes lent) }
 {
     pack_conversion(export(listing, out, work))
@@ -100,9 +102,9 @@ pub extern "C" fn gawipsol_import(
     table: &mut [u8],
     exported: &mut [u8],
 ) -> u64
-    ensures fact_1 { let lent = out ∷ slots ∷ listing ∷ table ∷ exported ∷ [] in
+    ensures answer { let lent = out ∷ slots ∷ listing ∷ table ∷ exported ∷ [] in
         result ≡ packed_conversion (import_answer text.now (first_bytes lent)) }
-    ensures fact_2 { let lent = out ∷ slots ∷ listing ∷ table ∷ exported ∷ [] in
+    ensures bytes { let lent = out ∷ slots ∷ listing ∷ table ∷ exported ∷ [] in
         last_bytes lent ≡ import_bytes text.now (first_bytes lent) }
 {
     pack_conversion(import(text, out, slots, listing, table, exported))

@@ -3,6 +3,8 @@
 // Main theorems: unpacked-read, unpacked-check, unpacked-run, unpacked-listing, unpacked-export, unpacked-import
 // (proofs/Theorems/Unpacking), a caller gets back every answer.
 // Called by cabinet.
+#![tactic(auto)]
+
 ghost use Rattle.std.specs.Prelude.{◌≡◌};
 ghost use Rattle.refusals.specs.Refusals.{refusal_number, refusal_place};
 ghost use Rattle.cabinet_answers.specs.Packed.{packed_refusal, packed_sizes, packed_ran, packed_read, packed_check};

@@ -4,3 +4,4 @@
 // Main theorems: all-hold, the table by computation from the files' bytes; least-answers, for buffers of the least lengths;
 // listings-hold and listing-answers, the same of the listings.
 // Nothing calls it.
+#![tactic(auto)]

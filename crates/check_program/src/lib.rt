@@ -3,6 +3,8 @@
 // Main theorem: check_means (proofs/Theorems/Checked), accepted exactly if the typing rules derive a type; 16, 17 and 18 in this
 // order, each at the first such entry.
 // Called by the run (program_type) and by cabinet (check).
+#![tactic(auto)]
+
 pub mod bindings;
 pub mod file;
 pub mod infer;
@@ -113,9 +115,9 @@ pub fn program_type(file: &[u8], work: &mut [u8]) -> ProgramType
 // The check: the type of a program file, in preorder at the start of the output buffer, and its length; or a refusal, 16, 17 and
 // 18 at the first such entry of the file.
 pub fn check(file: &[u8], out: &mut [u8], work: &mut [u8]) -> CheckAnswer
-    ensures bytes_1 { let lent = out ∷ work ∷ [] in
+    ensures answer { let lent = out ∷ work ∷ [] in
         result ≡ check_answer file.now (first_bytes lent) }
-    ensures bytes_2 { let lent = out ∷ work ∷ [] in
+    ensures bytes { let lent = out ∷ work ∷ [] in
         last_bytes lent ≡ check_bytes file.now (first_bytes lent) }
     ensures safety { AcceptedIsSafe file.now }
     ensures meaning { CheckMeans file.now }

@@ -3,6 +3,8 @@
 // Nothing to believe. Denotes (specs/Cells) says which type a cell is; each rule's function meets the rule of rules/specs/Inference.
 // Main law: denotes_kept (proofs/Laws/Cells), a cell's type stays while cells are only added.
 // Called by the check, and by the run for refusal 20. The contracts have no `requires`: they speak of all types that cells denote.
+#![tactic(auto)]
+
 ghost use Rattle.std.specs.Prelude.{ℕ, ◌+◌, ◌*◌, ◌-◌, ◌≤◌, ◌<◌, ◌≡◌, length, get_or, [], ◌∷◌};
 ghost use Rattle.words.specs.Words.{words, put_words};
 ghost use Rattle.rules.specs.Types.{Ty, copyable};

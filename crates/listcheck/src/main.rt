@@ -1,6 +1,8 @@
 // The program listcheck (02, ticket 3): it says whether the listing on standard input is accepted, or why it is refused.
 // Believe: what docs/BELIEVED.md says of input and output, of which no contract can speak.
 // All else is proved in listcheck_io. Nothing calls it.
+#![tactic(auto)]
+
 fn main() {
     listcheck_io::print_check(libc::STDIN_FILENO, libc::STDOUT_FILENO);
 }

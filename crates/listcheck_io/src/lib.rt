@@ -2,6 +2,8 @@
 // Believe: specs/Printing.
 // Main theorem: same-line (proofs/Theorems/Longest), that reading no more bytes loses nothing.
 // Called by the program listcheck.
+#![tactic(auto)]
+
 ghost use Rattle.std.specs.Prelude.{◌≤◌, ◌≡◌, length, take};
 ghost use Rattle.wirelist_lines.specs.Least.{refusal_bytes};
 ghost use Rattle.text.specs.Written.{Written};

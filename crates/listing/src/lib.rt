@@ -2,6 +2,8 @@
 // Believe: specs/Listing, the listing of a circuit with its outputs.
 // Main laws: proofs/Laws/ReadBack (the parts of a circuit are read back from its listing), listing_fits (proofs/Laws/Lengths).
 // Called by the writer of listings and by wirelist's lines.
+#![tactic(auto)]
+
 ghost use Rattle.std.specs.Prelude.{◌<◌, ◌≡◌};
 ghost use Rattle.listing.specs.Reading.{input_count, gate_count, output_count, entry_count, kind_at, slots_from, outputs_from};
 

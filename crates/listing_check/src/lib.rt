@@ -3,6 +3,8 @@
 // Main theorem: listing_means (proofs/Theorems/Listings), accepted exactly if the bytes list a sound circuit within the sizes whose
 // every wire goes exactly once; each refusal exactly where 02 names it.
 // check_uncleared is the core for every operation that reads a listing. Called by cabinet and by listcheck.
+#![tactic(auto)]
+
 mod entries;
 mod wires;
 
@@ -60,9 +62,9 @@ pub fn check_uncleared(listing: &[u8], work: &mut [u8]) -> ListingAnswer
 
 // The check of a listing. The other buffer is working memory.
 pub fn check_listing(listing: &[u8], work: &mut [u8]) -> ListingAnswer
-    ensures bytes_1 { let lent = work ∷ [] in
+    ensures answer { let lent = work ∷ [] in
         result ≡ listing_check_answer listing.now (first_bytes lent) }
-    ensures bytes_2 { let lent = work ∷ [] in
+    ensures bytes { let lent = work ∷ [] in
         last_bytes lent ≡ listing_check_bytes (first_bytes lent) }
     ensures meaning { ListingMeans listing.now }
 {

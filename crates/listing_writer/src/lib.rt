@@ -2,6 +2,8 @@
 // Nothing to believe: write_listing promises the bytes of crate listing's `listing`.
 // Main laws: proofs/Laws/Reading (the parts in memory are those of the circuit), proofs/Laws/Writing (one written behind the other).
 // Called by the end of a run.
+#![tactic(auto)]
+
 ghost use Rattle.std.specs.Prelude.{◌+◌, ◌*◌, ◌/◌, ◌≤◌, ◌<◌, ◌≡◌, length, drop};
 ghost use mathlib.Core.List.{List, [], ◌∷◌, ◌++◌, map, flat_map};
 ghost use Rattle.std.proofs.Math.Option.{some};
@@ -147,7 +149,7 @@ fn write_gate_slots(gates: &[u8], count: usize, out: &mut [u8], at: usize)
 // The labels among the first nodes are written, in order.
 fn write_outputs(nodes: &[u8], size: usize, out: &mut [u8], at: usize)
     requires size_in_bounds { size ≤ length nodes.now / 4 }
-    requires size_in_bounds_2 { at + length (outputs_read (nodes_in nodes.now) size) * 2 ≤ length out.old }
+    requires room { at + length (outputs_read (nodes_in nodes.now) size) * 2 ≤ length out.old }
     ensures { out.new ≡ over out.old at (flat_map bytes_of (outputs_read (nodes_in nodes.now) size)) }
 {
     let mut found: usize = 0;

@@ -3,6 +3,8 @@
 // `advanced`, for every typed state that the memory holds.
 // Main laws: proofs/Laws/Advancing, what is left comes to what the whole comes to.
 // Called by the run. No `requires`: in memory that holds no typed state it ends, and nothing is promised.
+#![tactic(auto)]
+
 ghost use Rattle.std.specs.Prelude.{ℕ, ◌≤◌, ◌<◌, ◌≡◌, true, false, length};
 ghost use Rattle.rules.specs.Types.{most_entries};
 ghost use Rattle.rules.specs.Sizes.{most_nodes};

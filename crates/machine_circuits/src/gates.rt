@@ -45,7 +45,7 @@ fn label_at(labels: &[u8], n: usize, k: usize) -> usize
 // A gate that takes the first labels stands in a quadword. The second clause says it of the quadwords: no label is cut to 16 bits.
 pub fn append_gate(gates: &mut [u8], i: usize, number: usize, labels: &[u8])
     ensures gates_after { gates.new ≡ put_words 4 gates.old i (four_words (gate_words (number on take (wires_in number) (words labels.now)))) }
-    ensures gates_after_2 { quadwords_in gates.new ≡ set (quadwords_in gates.old) i (gate_words ((number % 65536) on take (wires_in number) (words labels.now))) }
+    ensures gate_put { quadwords_in gates.new ≡ set (quadwords_in gates.old) i (gate_words ((number % 65536) on take (wires_in number) (words labels.now))) }
 {
     let n = rules::wires_in(number);
     let first = label_at(labels, n, 0);

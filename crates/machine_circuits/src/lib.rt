@@ -3,6 +3,8 @@
 // Nothing to believe. HoldsOpen and HoldsClosed (specs/Layout) say which circuits the memory holds.
 // Main laws: one_more_closed and open-more (proofs/Laws/Held), what box exit and apply leave.
 // Called by the steps, loading and the writer of listings.
+#![tactic(auto)]
+
 pub mod closed;
 pub mod gates;
 pub mod tuples;

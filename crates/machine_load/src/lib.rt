@@ -2,6 +2,8 @@
 // Nothing to believe. Loads (specs/Start) says that the memory then holds the rules' start of that file.
 // Main law: loaded (proofs/Laws/Loading).
 // Called by the run, once a file is checked.
+#![tactic(auto)]
+
 ghost use Rattle.std.specs.Prelude.{◌+◌, ◌<◌, ◌≤◌, ◌≡◌, length};
 ghost use Rattle.program.specs.Format.{entry_count, kind_at};
 ghost use Rattle.words.specs.Numbers.{word_at};

@@ -2,6 +2,8 @@
 // Nothing to believe. nodes_in (specs/Nodes) is the buffer as a list of nodes.
 // Main laws: node_put (proofs/Laws/Nodes), nodes_copied (proofs/Laws/Bytes), span_tree (proofs/Laws/Spans).
 // Called by the walk, the substitution, the steps, loading and the writer of listings.
+#![tactic(auto)]
+
 ghost use Rattle.std.specs.Prelude.{◌+◌, ◌*◌, ◌/◌, ◌<◌, ◌≤◌, ◌≡◌, [], ◌∷◌, length, drop};
 ghost use Rattle.words.specs.Numbers.{word_at};
 ghost use Rattle.words.specs.Words.{put_words};

@@ -3,6 +3,8 @@
 // one contract of all six kinds of step.
 // Main laws: proofs/Laws/Frames, which writes keep the frames.
 // Used by loading, the steps, the machine and the run.
+#![tactic(auto)]
+
 use machine_walk::Place;
 
 // How much there is of what a configuration counts.

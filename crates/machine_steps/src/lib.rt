@@ -2,6 +2,8 @@
 // Nothing to believe: it meets the contract Steps of crate machine_state at each stop.
 // Main laws: proofs/Laws/Stops, there is no step at the end and none at a variable.
 // Called by the machine.
+#![tactic(auto)]
+
 ghost use Rattle.std.specs.Prelude.{ℕ, ◌≤◌, ◌<◌, List, length};
 ghost use Rattle.rules.specs.Types.{most_entries};
 ghost use Rattle.rules.specs.Sizes.{most_nodes};

@@ -3,6 +3,8 @@
 // it; a body of n nodes needs n + 1 words. Nothing to believe. Wrote (specs/Reducts) is the contract of the writing.
 // Main laws: application_reduct and let_reduct (proofs/Laws/Contractions), what is written is the reduct of the rules.
 // Called by the steps at an application and at a let.
+#![tactic(auto)]
+
 ghost use Rattle.std.specs.Prelude.{◌+◌, ◌^◌, ◌≤◌, ◌<◌, ◌≡◌, length};
 ghost use Rattle.words.specs.Words.{words};
 ghost use Rattle.machine_terms.specs.Trees.{node};

@@ -3,6 +3,8 @@
 // Nothing to believe. Holds (specs/Places) says which walk on trees the memory holds.
 // Main law: reaches_stop (proofs/Laws/Functions), it stops where the walk on trees does; proofs/Laws/Redexes has what the steps
 // need there. Called by the machine. No `requires`: in memory that holds no walk the functions end, and nothing is promised.
+#![tactic(auto)]
+
 pub mod stack;
 
 ghost use Rattle.std.specs.Prelude.{ℕ, ◌<◌, ◌≡◌, List, true, false, T as IsTrue, length};

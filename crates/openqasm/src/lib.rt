@@ -2,6 +2,8 @@
 // Believe: specs/Layout, the text of a listing to the byte.
 // Main laws: proofs/Laws/Lines, a line by its parts.
 // Called by the export.
+#![tactic(auto)]
+
 ghost use Rattle.std.specs.Prelude.{ℕ, ◌≤◌, cond, List, [], ◌∷◌, ◌++◌, get_or, ◌≡◌};
 ghost use Rattle.rules.specs.Types.{Bit, Qubit};
 ghost use Rattle.listing.specs.Reading.{input_type};

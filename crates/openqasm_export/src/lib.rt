@@ -3,6 +3,8 @@
 // Main theorem: twenty_eight (proofs/Theorems/Exports), that 28 is the answer exactly where Meaning says. Main law: sound_fits
 // (proofs/Laws/Longest), that no text is longer than 55,211 bytes.
 // check_export and write_text are the core, for the import too. Called by cabinet and by qasmout.
+#![tactic(auto)]
+
 mod places;
 
 ghost use Rattle.std.specs.Prelude.{◌≤◌, ◌<◌, ◌≡◌, [], ◌∷◌, map, length};
@@ -209,9 +211,9 @@ fn export_uncleared(listing: &[u8], out: &mut [u8], work: &mut [u8]) -> Conversi
 
 // The export of a listing. The text starts the output buffer; the other buffer is working memory.
 pub fn export(listing: &[u8], out: &mut [u8], work: &mut [u8]) -> Conversion
-    ensures fact_1 { let lent = out ∷ work ∷ [] in
+    ensures answer { let lent = out ∷ work ∷ [] in
         result ≡ export_answer listing.now (first_bytes lent) }
-    ensures fact_2 { let lent = out ∷ work ∷ [] in
+    ensures bytes { let lent = out ∷ work ∷ [] in
         last_bytes lent ≡ export_bytes listing.now (first_bytes lent) }
 {
     if (out.len() < MOST_TEXT) | (work.len() < LEAST_WORK) {

@@ -3,6 +3,8 @@
 // Believe: specs/Answers and Meaning.
 // Main theorems: import_means, export_imported, one_export (proofs/Theorems/Imports).
 // Called by cabinet and by qasmin.
+#![tactic(auto)]
+
 ghost use Rattle.std.specs.Prelude.{◌≤◌, ◌≡◌, [], ◌∷◌, length};
 ghost use Rattle.lent.specs.Lent.{first_bytes, last_bytes};
 ghost use Rattle.listing_check.specs.Answers.{most_wires};
@@ -99,9 +101,9 @@ pub fn import(
     table: &mut [u8],
     exported: &mut [u8],
 ) -> Conversion
-    ensures bytes_1 { let lent = out ∷ slots ∷ listing ∷ table ∷ exported ∷ [] in
+    ensures answer { let lent = out ∷ slots ∷ listing ∷ table ∷ exported ∷ [] in
         result ≡ import_answer text.now (first_bytes lent) }
-    ensures bytes_2 { let lent = out ∷ slots ∷ listing ∷ table ∷ exported ∷ [] in
+    ensures bytes { let lent = out ∷ slots ∷ listing ∷ table ∷ exported ∷ [] in
         last_bytes lent ≡ import_bytes text.now (first_bytes lent) }
     ensures meaning { ImportMeans text.now }
 {

@@ -3,6 +3,8 @@
 // Believe: specs/Printing.
 // Main theorems: same_export and same_import (proofs/Theorems/Longest), that reading no more bytes loses nothing.
 // Called by the programs qasmout and qasmin.
+#![tactic(auto)]
+
 ghost use Rattle.std.specs.Prelude.{◌≤◌, ◌≡◌, length, take};
 ghost use Rattle.openqasm_io.specs.Printing.{most_listing_read, most_text_read, exported_bytes, imported_bytes};
 ghost use Rattle.openqasm_io.specs.Answered.{Ends};

@@ -38,8 +38,8 @@ pub(crate) fn put_entry(
 )
     requires bound { (entry < 65536) × (kind < 256) × (first < 65536) × (second < 65536) × (third < 65536) }
     requires in_bounds { (entry < length kinds.old) × (2 * entry_slots * (entry + 1) ≤ length slots.old) }
-    ensures adds { Adds kinds.old entry (kind ∷ []) kinds.new }
-    ensures adds_2 { Adds slots.old (2 * entry_slots * entry) (flat_map bytes_of (first ∷ second ∷ third ∷ []))
+    ensures adds_kinds { Adds kinds.old entry (kind ∷ []) kinds.new }
+    ensures adds_slots { Adds slots.old (2 * entry_slots * entry) (flat_map bytes_of (first ∷ second ∷ third ∷ []))
         slots.new }
 {
     kinds[entry] = kind as u8;

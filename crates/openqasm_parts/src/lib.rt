@@ -2,6 +2,8 @@
 // Believe: specs/Reading, which the definition of an import uses; what an import means is said without it.
 // Main theorem: parts_back (proofs/Theorems/ReadBack), that the parts of an export are those of which it was made.
 // Called by the import.
+#![tactic(auto)]
+
 mod entries;
 mod registers;
 

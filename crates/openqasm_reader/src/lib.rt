@@ -3,6 +3,8 @@
 // Believe: specs/Items, which the definition of an import uses; what that means is said without it.
 // No theorem beyond the contracts.
 // Called by the import.
+#![tactic(auto)]
+
 ghost use Rattle.std.specs.Prelude.{◌+◌, ◌≤◌, ◌<◌, ◌^◌, ◌≡◌, get_or, drop};
 ghost use Rattle.openqasm_reader.specs.Items.{is_digit, digits_in, number_in, ccx_item, before, between, behind};
 ghost use Rattle.openqasm_reader.specs.Items.{one_number, two_numbers, three_numbers, item_in};
@@ -60,8 +62,8 @@ fn is_digit(byte: u8) -> bool
 // The number at a place.
 fn number_at(text: &[u8], at: usize) -> Number
     requires { at + 1 < 2 ^ 64 }
-    ensures value_value { result.value ≡ number_in (drop at text.now) }
-    ensures digits_value { result.digits ≡ digits_in (drop at text.now) }
+    ensures value { result.value ≡ number_in (drop at text.now) }
+    ensures digits { result.digits ≡ digits_in (drop at text.now) }
     ensures value_bound { (result.value < 4096) × (result.digits ≤ 2) }
 {
     let first = saturating_sub(byte_at(text, at) as usize, 48);

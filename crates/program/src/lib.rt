@@ -3,6 +3,8 @@
 // the number of their parts, specs/CaseFiles the files of c1 to c12.
 // Main theorems: read_sound and read_complete (proofs/Theorems/Accepting), a file is accepted exactly if a program stands in it.
 // Called by the check, by loading (the accessors of src/format.rt) and by cabinet.
+#![tactic(auto)]
+
 pub mod format;
 pub mod scan;
 pub mod traversal;

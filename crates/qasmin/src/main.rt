@@ -1,6 +1,8 @@
 // The program qasmin (02, ticket 4): it writes the listing of the OpenQASM 2.0 text on standard input, or why it is refused.
 // Believe: what docs/BELIEVED.md says of input and output, of which no contract can speak.
 // All else is proved in openqasm_io. Nothing calls it.
+#![tactic(auto)]
+
 fn main() {
     openqasm_io::import_all(libc::STDIN_FILENO, libc::STDOUT_FILENO);
 }

@@ -2,6 +2,8 @@
 // Believe: specs/Refusals, a refusal's number and place.
 // No theorem: the two functions give back a field. Which numbers there are: proofs/Theorems/Families of crate run_answers.
 // Called by the reader, the check, the run, and whatever prints or packs an answer.
+#![tactic(auto)]
+
 ghost use Rattle.std.specs.Prelude.{◌≡◌};
 ghost use Rattle.refusals.specs.Refusals.{refusal_number, refusal_place};
 

@@ -4,6 +4,8 @@
 // Believe: specs/ in 000's order: Types, Gates, Terms, Parts, Circuits, Typing, Contexts, Steps; then Sizes, Demand3, Next, Runs.
 // Main theorem: demand3_from (proofs/Theorems/Safety), demand 3 from every configuration that has a type.
 // Called by the reader, the check and the machine; every contract above speaks of these rules.
+#![tactic(auto)]
+
 pub mod kinds;
 pub mod parts;
 pub mod sizes;

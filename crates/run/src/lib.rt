@@ -2,6 +2,8 @@
 // Believe: its contract, which speaks in the definitions of run_answers.
 // Main theorems: run_means and run_is_safe of run_answers; the clearing is proofs/Laws/Cleared.
 // Called by cabinet and by wirelist.
+#![tactic(auto)]
+
 ghost use Rattle.std.specs.Prelude.{◌≡◌, [], ◌∷◌};
 ghost use Rattle.lent.specs.Lent.{first_bytes, last_bytes};
 ghost use Rattle.run_answers.specs.Answers.{run_answer, run_bytes};
@@ -30,9 +32,9 @@ pub fn run(
     results2: &mut [u8],
     results3: &mut [u8],
 ) -> RunAnswer
-    ensures bytes_1 { let lent = out ∷ nodes ∷ stack ∷ types ∷ frames ∷ gates ∷ circuits ∷ results0 ∷ results1 ∷ results2 ∷ results3 ∷ [] in
+    ensures answer { let lent = out ∷ nodes ∷ stack ∷ types ∷ frames ∷ gates ∷ circuits ∷ results0 ∷ results1 ∷ results2 ∷ results3 ∷ [] in
         result ≡ run_answer file.now limit (first_bytes lent) }
-    ensures bytes_2 { let lent = out ∷ nodes ∷ stack ∷ types ∷ frames ∷ gates ∷ circuits ∷ results0 ∷ results1 ∷ results2 ∷ results3 ∷ [] in
+    ensures bytes { let lent = out ∷ nodes ∷ stack ∷ types ∷ frames ∷ gates ∷ circuits ∷ results0 ∷ results1 ∷ results2 ∷ results3 ∷ [] in
         last_bytes lent ≡ run_bytes file.now limit (first_bytes lent) }
     ensures meaning { RunMeans file.now limit }
     ensures safety { RunIsSafe file.now limit }

@@ -2,6 +2,8 @@
 // Nothing to believe: the least lengths are those of run_answers/specs/Lengths.
 // No theorem beyond the two contracts.
 // Called by run and run_parts.
+#![tactic(auto)]
+
 ghost use Rattle.std.specs.Prelude.{◌≡◌, [], ◌∷◌, map};
 ghost use Rattle.lent.specs.Lent.{any_below, first_bytes, last_bytes, zeroed};
 ghost use Rattle.run_answers.specs.Lengths.{run_lengths};

@@ -2,3 +2,4 @@
 // Believe: specs/Accepted.
 // Main theorem: run_listing_accepted (proofs/Theorems/Listings).
 // Nothing calls it.
+#![tactic(auto)]

@@ -2,6 +2,8 @@
 // Nothing to believe. BegunAs and EndsAs (specs/Parts) are the contracts of the two ends, for every typed state.
 // Main laws: start_held, gone_on, says_ended (proofs/Laws/Running).
 // Called by run.
+#![tactic(auto)]
+
 pub mod begin;
 pub mod finish;
 
@@ -47,9 +49,9 @@ pub fn run_uncleared(
     results2: &mut [u8],
     results3: &mut [u8],
 ) -> RunAnswer
-    ensures fact_1 { let lent = out ∷ nodes ∷ stack ∷ types ∷ frames ∷ gates ∷ circuits ∷ results0 ∷ results1 ∷ results2 ∷ results3 ∷ [] in
+    ensures answer { let lent = out ∷ nodes ∷ stack ∷ types ∷ frames ∷ gates ∷ circuits ∷ results0 ∷ results1 ∷ results2 ∷ results3 ∷ [] in
         result ≡ run_answer file.now limit (first_bytes lent) }
-    ensures fact_2 { let lent = out ∷ nodes ∷ stack ∷ types ∷ frames ∷ gates ∷ circuits ∷ results0 ∷ results1 ∷ results2 ∷ results3 ∷ [] in
+    ensures bytes { let lent = out ∷ nodes ∷ stack ∷ types ∷ frames ∷ gates ∷ circuits ∷ results0 ∷ results1 ∷ results2 ∷ results3 ∷ [] in
         out.new ≡ out_left file.now limit (first_bytes lent) out.old }
 {
     if too_short(

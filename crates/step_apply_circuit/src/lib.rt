@@ -3,6 +3,8 @@
 // Nothing to believe: it meets the contract Steps of crate machine_state.
 // Main laws: proofs/Laws/Stepping and proofs/Laws/Outcomes.
 // Called by machine_steps.
+#![tactic(auto)]
+
 ghost use Rattle.std.specs.Prelude.{ℕ, ◌+◌, ◌-◌, ◌*◌, ◌/◌, ◌%◌, ◌≤◌, ◌<◌, ◌≡◌, true, false, List, ltb, length, take};
 ghost use Rattle.rules.specs.Kinds.{gate_kind_lem};
 ghost use Rattle.rules.specs.Types.{most_entries};
@@ -96,7 +98,7 @@ fn read_redex(
 // Is there room for the step, in memory with so many nodes?
 fn has_room(redex: Redex, numbers: StateNumbers, size: usize, allowance: usize) -> bool
     ensures room { result ≡ true → Room redex numbers size allowance }
-    ensures fact { result ≡ false → Room redex numbers size allowance → ⊥ }
+    ensures no_room { result ≡ false → Room redex numbers size allowance → ⊥ }
 {
     let place = numbers.place;
     let counts = numbers.counts;

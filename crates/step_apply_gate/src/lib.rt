@@ -3,6 +3,8 @@
 // Nothing to believe: it meets the contract Steps of crate machine_state.
 // Main laws: proofs/Laws/Stepping.
 // Called by machine_steps.
+#![tactic(auto)]
+
 ghost use Rattle.std.specs.Prelude.{ℕ, ◌+◌, ◌-◌, ◌≤◌, ◌≡◌, List, ltb, length};
 ghost use Rattle.rules.specs.Kinds.{gate_kind_lem};
 ghost use Rattle.rules.specs.Types.{most_entries};

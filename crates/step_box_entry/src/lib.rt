@@ -3,6 +3,8 @@
 // front of those still to be walked.
 // Nothing to believe: it meets the contract Steps of crate machine_state. Main laws: proofs/Laws/Stepping.
 // Called by machine_steps.
+#![tactic(auto)]
+
 ghost use Rattle.std.specs.Prelude.{ℕ, ◌+◌, ◌-◌, ◌^◌, ◌%◌, ◌≤◌, ◌<◌, ◌≡◌, List, length, set};
 ghost use Rattle.words.specs.Words.{words};
 ghost use Rattle.machine_terms.specs.Walks.{at_box};

@@ -3,6 +3,8 @@
 // Nothing to believe: it meets the contract Steps of crate machine_state.
 // Main law: circuit_closed (proofs/Laws/Exit).
 // Called by machine_steps.
+#![tactic(auto)]
+
 ghost use Rattle.std.specs.Prelude.{ℕ, ◌≤◌, ◌<◌, ◌≡◌, List};
 ghost use Rattle.rules.specs.Sizes.{most_gates, most_boxes};
 ghost use Rattle.machine_terms.specs.Trees.{argument};

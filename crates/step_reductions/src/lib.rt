@@ -2,6 +2,8 @@
 // Nothing to believe: each meets the contract Steps of crate machine_state, for every typed state that the memory holds.
 // Main laws: contraction_taken and contraction_refused (proofs/Laws/Reductions), one law for the steps with a substitution.
 // Called by machine_steps. No `requires`: in memory that holds no typed state they end, and nothing is promised.
+#![tactic(auto)]
+
 ghost use Rattle.std.specs.Prelude.{ℕ, ◌<◌, ◌≡◌, List, length};
 ghost use Rattle.rules.specs.Sizes.{most_nodes};
 ghost use Rattle.words.specs.Words.{words};

@@ -3,6 +3,8 @@
 // Believe: specs/Text (decimal, words, lines) and specs/Written (what the buffer holds then).
 // Main laws: puts_both and puts-first (proofs/Laws/Writing), length_decimal (proofs/Laws/Decimals).
 // Called by wirelist's lines and by whatever writes an OpenQASM text or a listing read from one.
+#![tactic(auto)]
+
 ghost use Rattle.std.specs.Prelude.{[], ◌∷◌};
 ghost use Rattle.text.specs.Text.{decimal, spaced};
 ghost use Rattle.text.specs.Writing.{Puts};

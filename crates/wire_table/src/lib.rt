@@ -4,6 +4,8 @@
 // Main theorem: wires_mean (proofs/Theorems/Wires), the place where a wire rule is broken, and that none is broken exactly if the
 // circuit is sound and each wire goes exactly once.
 // Called by the check of listings.
+#![tactic(auto)]
+
 ghost use Rattle.std.specs.Prelude.{ℕ, ◌+◌, ◌≤◌, ◌<◌, ◌≡◌, cond, List, eqb, ltb, length, get_or, set};
 ghost use Rattle.words.specs.Numbers.{words_at};
 ghost use Rattle.rules.specs.Types.{Wire};

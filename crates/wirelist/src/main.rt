@@ -1,6 +1,8 @@
 // The program wirelist (01, "Listing"): it prints the gates of the program file on standard input, or why it is refused.
 // Believe: what docs/BELIEVED.md says of input and output, of which no contract can speak.
 // All else is proved in wirelist_io. Nothing calls it.
+#![tactic(auto)]
+
 fn main() {
     wirelist_io::print_run(libc::STDIN_FILENO, libc::STDOUT_FILENO);
 }

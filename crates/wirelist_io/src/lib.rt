@@ -2,6 +2,8 @@
 // Believe: specs/Printing.
 // Main theorems: printed_finished and printed_refused (proofs/Theorems/Printed), same-text (proofs/Theorems/Longest).
 // Called by the program wirelist.
+#![tactic(auto)]
+
 ghost use Rattle.std.specs.Prelude.{◌≤◌, ◌≡◌, length, take};
 ghost use Rattle.wirelist_lines.specs.Least.{least_text};
 ghost use Rattle.text.specs.Written.{Written};

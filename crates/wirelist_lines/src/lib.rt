@@ -3,6 +3,8 @@
 // Main theorem: in-order (proofs/Theorems/Lines), of a circuit's listing these are the circuit's lines; no line ends in a space
 // (lines_solid in proofs/Theorems/Spaces).
 // Called by wirelist_io.
+#![tactic(auto)]
+
 pub mod names;
 pub mod numbers;
 

@@ -2,6 +2,8 @@
 // Believe: specs/Numbers, the number at a byte.
 // Main laws: put-view (proofs/Laws/Words) and quadword_put (proofs/Laws/Quadwords), what is put, seen as words and as quadwords.
 // Called by the reader, the check, the machine, and whatever reads or writes a listing.
+#![tactic(auto)]
+
 pub mod quadwords;
 
 ghost use Rattle.std.specs.Prelude.{◌+◌, ◌-◌, ◌<◌, ◌≡◌, [], ◌∷◌, ltb, length, get_or, replicate};

@@ -1,0 +1,14 @@
+use Prim.Native.Nat.{◌-◌, ◌≤◌}
+use native.Mathlib.Omega.{arith}
+use mathlib.Core.Path.{◌≡◌, sym, ◌∙◌}
+use borrow.Author.Rules.{rules}
+use Rattle.words.specs.Words.{words}
+use Rattle.check_program.specs.Deciding.{wrong_use}
+use Rattle.check_program.proofs.Laws.Deciding.{wrong_here, right_here, none_wrong, wrong_start}
+use Rattle.check_program.proofs.file.wrong_label.Given as goal
+
+abbrev pub invariant-loop-i : goal.invariant-loop-i
+invariant-loop-i l = (l.i ≤ l.labels) × (wrong_use (words l.work) 0 l.labels ≡ wrong_use (words l.work) l.i (l.labels - l.i))
+
+abbrev pub decreases-loop-i : goal.decreases-loop-i
+decreases-loop-i l = l.labels - l.i

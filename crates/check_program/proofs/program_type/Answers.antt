@@ -1,0 +1,33 @@
+-- `check_program::program_type` meets its contract: by the length of the memory, and by the answer of the reader. Assumes nothing.
+use Rattle.check_program.proofs.Laws.ProgramTypes.{program_type_short, program_type_refused, program_type_said, readable_of}
+use borrow.Author.Rules.{rules}
+use Rattle.check_program.proofs.program_type.Goals as goal
+
+pub returns-then-work-lt-LEAST_WORK : goal.returns-then-work-lt-LEAST_WORK
+returns-then-work-lt-LEAST_WORK c = program_type_short c.args.file.now c.args.work.now c.if-work-lt-LEAST_WORK.true
+
+pub returns-in_default : goal.returns-in_default
+returns-in_default c =
+    let s = c.args in
+    program_type_refused s.file.now s.work.now s.work.now c.refusal_of_read.result c.read-answer.result c.read-answer.ensures c.if-work-lt-LEAST_WORK.false
+    c.in_default.field-0
+    c.in_default.is
+    c.refusal_of_read.ensures
+
+pub check_file-requires : goal.check_file-requires
+check_file-requires c =
+    let s = c.args in
+    let p = c.answer-1.given.0 in (
+      readable_of s.file.now p.0 p.1.0 p.1.1.0 c.read-answer.result c.read-answer.ensures c.in-Accepted.is,
+      c.if-work-lt-LEAST_WORK.false,
+    )
+
+pub returns : goal.returns
+returns c =
+    let s = c.args in
+    let p = c.answer-1.given.0 in
+    program_type_said s.file.now s.work.now c.check_file.new.work c.check_file.result c.read-answer.result c.read-answer.ensures
+    c.if-work-lt-LEAST_WORK.false
+    p.0 p.1.0 p.1.1.0
+    c.in-Accepted.is
+    c.check_file.ensures

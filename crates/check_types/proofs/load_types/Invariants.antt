@@ -1,0 +1,18 @@
+use Prim.Native.Nat.{◌+◌, ◌-◌, ◌≤◌}
+use native.Mathlib.Omega.{arith}
+use mathlib.Core.Path.{◌≡◌, refl, ◌∙◌, ap₂}
+use lib.ListN.{length}
+use Rattle.words.specs.Words.{words}
+use Rattle.check_types.specs.Load.{codes_of, load_entry, load_codes}
+use Rattle.check_types.proofs.Laws.Load.{load_none, load_next, load_all}
+use Rattle.check_types.proofs.load_types.Given as goal
+
+abbrev pub invariant-loop-k : goal.invariant-loop-k
+invariant-loop-k l =
+    (l.k ≤ l.count)
+    × (l.count ≡ length l.codes)
+    × (words l.work ≡ load_codes (words l.initial.work) l.n (codes_of l.codes) (l.count - l.k) l.k)
+    × (length l.work ≡ length l.initial.work)
+
+abbrev pub decreases-loop-k : goal.decreases-loop-k
+decreases-loop-k l = l.count - l.k

@@ -1,0 +1,14 @@
+-- `listcheck_io::print_all` meets its contract: the text holds the line. Assumes nothing.
+use Prim.Native.Nat.{◌≤◌}
+use native.Mathlib.Omega.{arith}
+use lib.ListN.{length}
+use Rattle.wirelist_lines.specs.Least.{refusal_bytes}
+use Rattle.text.proofs.Laws.Writing.{all_written}
+use borrow.Author.Rules.{rules}
+use Rattle.listcheck_io.proofs.print_all.Goals as goal
+
+pub returns : goal.returns
+returns c =
+    let w = c.print_line.ensures in
+    let room : refusal_bytes ≤ length c.args.text.now = omega (arith, c.print_line-arg-1.given) in
+    record { text_after = all_written w.0 (omega arith); upper_bound = omega (arith, w.0.place, c.print_line.auto.text) }

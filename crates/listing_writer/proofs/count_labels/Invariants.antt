@@ -1,0 +1,17 @@
+use Prim.Native.Nat.{◌-◌, ◌≤◌, ◌<◌}
+use native.Mathlib.Omega.{arith}
+use mathlib.Core.Path.{◌≡◌, refl, sym, ◌∙◌, ap}
+use lib.ListN.{length}
+use borrow.Author.Rules.{rules}
+use Rattle.machine_nodes.specs.Nodes.{nodes_in}
+use Rattle.machine_nodes.proofs.Laws.Nodes.{length_nodes_in}
+use Rattle.listing_writer.specs.Parts.{outputs_read}
+use Rattle.listing_writer.proofs.Laws.Writing.{one_label_more, other_read}
+use Rattle.listing_writer.proofs.count_labels.Given as goal
+
+abbrev pub invariant-loop-i : goal.invariant-loop-i
+invariant-loop-i l =
+    (l.i ≤ l.size) × (l.found ≤ l.i) × (l.found ≡ length (outputs_read (nodes_in l.nodes) l.i))
+
+abbrev pub decreases-loop-i : goal.decreases-loop-i
+decreases-loop-i l = l.size - l.i

@@ -1,0 +1,14 @@
+-- `listing_writer::put_bytes` meets its contract. Assumes nothing.
+use Prim.Native.Nat.{◌/◌, ◌%◌}
+use native.Mathlib.Omega.{arith}
+use lib.ListN.{length-set}
+use borrow.Author.Rules.{rules}
+use Rattle.listing.proofs.Laws.Pieces.{over_two}
+use Rattle.listing_writer.proofs.put_bytes.Goals as goal
+
+pub bounds-out-at-2 : goal.bounds-out-at-2
+bounds-out-at-2 c = simp length-set (omega arith)
+
+pub returns : goal.returns
+returns c =
+    let a = c.args in over_two a.out.now a.at (a.value % 256) (a.value / 256) c.requires.at_in_bounds

@@ -1,0 +1,21 @@
+use Prim.Native.Nat.{◌+◌, ◌-◌, ◌*◌, ◌≤◌}
+use native.Mathlib.Omega.{arith}
+use mathlib.Core.Path.{◌≡◌, refl, ◌∙◌, ap}
+use lib.ListN.{length}
+use Rattle.words.specs.Regions.{over}
+use Rattle.words.specs.Quadwords.{quadwords_in}
+use Rattle.listing.specs.Listing.{entry_slots}
+use Rattle.listing.specs.Pieces.{pieces}
+use Rattle.listing_writer.specs.Parts.{slots_piece}
+use Rattle.listing.proofs.Laws.Pieces.{piece_written, none_written}
+use Rattle.listing_writer.proofs.Laws.Reading.{length_slots_piece}
+use Rattle.listing_writer.proofs.write_gate_slots.Given as goal
+
+abbrev pub invariant-loop-i : goal.invariant-loop-i
+invariant-loop-i l =
+    (l.i ≤ l.count)
+    × (length l.out ≡ length l.initial.out)
+    × (l.out ≡ over l.initial.out l.at (pieces (slots_piece (quadwords_in l.gates)) l.i))
+
+abbrev pub decreases-loop-i : goal.decreases-loop-i
+decreases-loop-i l = l.count - l.i

@@ -1,0 +1,16 @@
+use Prim.Native.Nat.{◌+◌, ◌-◌, ◌*◌, ◌≤◌}
+use native.Mathlib.Omega.{arith}
+use mathlib.Core.Path.{◌≡◌, refl, ◌∙◌, ap}
+use lib.ListN.{length}
+use Rattle.words.specs.Regions.{over}
+use Rattle.listing.specs.Pieces.{pieces}
+use Rattle.listing_writer.specs.Parts.{unused_piece}
+use Rattle.listing.proofs.Laws.Pieces.{piece_written, none_written}
+use Rattle.listing_writer.proofs.write_unused.Given as goal
+
+abbrev pub invariant-loop-i : goal.invariant-loop-i
+invariant-loop-i l =
+    (l.i ≤ l.slots) × (length l.out ≡ length l.initial.out) × (l.out ≡ over l.initial.out l.at (pieces unused_piece l.i))
+
+abbrev pub decreases-loop-i : goal.decreases-loop-i
+decreases-loop-i l = l.slots - l.i

@@ -1,0 +1,29 @@
+-- `machine_circuits::gates::append_gate` meets its contract. Assumes nothing.
+use borrow.Author.Rules.{rules}
+use Rattle.rules.specs.Gates.{wires_in}
+use Rattle.words.specs.Words.{words}
+use Rattle.words.specs.Quadwords.{quadwords_in}
+use Rattle.words.proofs.Laws.Quadwords.{quadword_put}
+use Rattle.machine_circuits.proofs.Laws.Copies.{labels_put}
+use Rattle.machine_circuits.proofs.gates.append_gate.Goals as goal
+
+pub returns : goal.returns
+returns c =
+    let a = c.args in
+    let n = c.wires_in-n.ensures in
+    let first = c.label_at-first.ensures.value in
+    let second = c.label_at-second.ensures.value in
+    let third = c.label_at-third.ensures.value in record {
+      gates_after = cc c.put_quadword.ensures;
+      gate_put = labels_put (quadwords_in a.gates.now) (quadwords_in c.put_quadword.new.buffer) a.i a.number c.wires_in-n.result
+          (words a.labels.now)
+          (wires_in a.number)
+          c.label_at-first.result
+          c.label_at-second.result
+          c.label_at-third.result
+          (quadword_put _ _ _ _ _ _ _ c.put_quadword.ensures)
+          c.wires_in-n.ensures
+          c.label_at-first.ensures
+          c.label_at-second.ensures
+          c.label_at-third.ensures;
+    }

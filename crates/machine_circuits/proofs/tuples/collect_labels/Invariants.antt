@@ -1,0 +1,27 @@
+use Prim.Native.Nat.{◌+◌, ◌-◌, ◌/◌, ◌≤◌, ◌<◌}
+use native.Mathlib.Omega.{arith}
+use mathlib.Core.Path.{◌≡◌, refl, sym, ◌∙◌, ap}
+use mathlib.Core.List.{[], ◌∷◌, ◌++◌}
+use lib.ListN.{length, take, length-append}
+use borrow.Author.Rules.{rules}
+use Rattle.words.specs.Words.{words}
+use Rattle.words.proofs.Laws.Words.{same_words, word_put}
+use Rattle.machine_nodes.specs.Nodes.{nodes_in, node_at}
+use Rattle.machine_nodes.proofs.Laws.Nodes.{length_nodes_in}
+use Rattle.words.proofs.Laws.Ends.{past_end, not_past}
+use Rattle.machine_circuits.specs.Tuples.{labels_passed}
+use Rattle.machine_circuits.proofs.Laws.Tuples.{label_passed, other_passed}
+use Rattle.machine_circuits.proofs.Laws.Writing.{collected_more, all_collected, tree_inside}
+use Rattle.machine_circuits.proofs.tuples.collect_labels.Given as goal
+
+abbrev pub invariant-loop-i : goal.invariant-loop-i
+invariant-loop-i l =
+    (l.at + l.count ≤ length l.nodes / 4)
+    × (l.i ≤ l.count)
+    × (l.found ≤ l.i)
+    × (length l.labels ≡ length l.initial.labels)
+    × (l.found ≡ length (labels_passed (nodes_in l.nodes) l.at l.i))
+    × (l.count ≤ length (words l.initial.labels) → take l.found (words l.labels) ≡ labels_passed (nodes_in l.nodes) l.at l.i)
+
+abbrev pub decreases-loop-i : goal.decreases-loop-i
+decreases-loop-i l = l.count - l.i

@@ -1,0 +1,27 @@
+-- `machine_circuits::tuples::write_outputs` meets its contract. Assumes nothing.
+use native.Mathlib.Omega.{arith}
+use Prim.Native.Nat.{◌+◌}
+use mathlib.Core.Path.{◌∙◌, ap}
+use borrow.Author.Rules.{rules}
+use Rattle.machine_circuits.proofs.Laws.Outputs.{entries_of_lem, output_wires_lem, input_span, output_stands, output_count_lem}
+use Rattle.machine_circuits.proofs.tuples.write_outputs.Goals as goal
+
+slice-aggregate-write-type : tie.Need-slice-aggregate-write-type
+slice-aggregate-write-type c = search rules
+
+pub write_type-requires : goal.write_type-requires
+write_type-requires c =
+    let n = c.args.number in record { count_in_bounds = omega (arith, c.saturating_sub-count.ensures, c.type_entries.ensures, entries_of_lem n); count_bound = omega (arith, c.saturating_sub-count.ensures, c.type_entries.type-inv, c.output_start-start.type-inv) }
+
+pub returns : goal.returns
+returns c = λ T U e room few.
+    let n = c.args.number in
+    let start = c.output_start-start.ensures ∙ ap (λ i. 1 + i) (input_span n T U e) in
+    c.write_type.ensures U (output_wires_lem n T U e)
+    (rw start (output_stands n T U e))
+    (output_count_lem n T U e
+    c.type_entries.ensures
+    c.output_start-start.ensures
+    c.saturating_sub-count.ensures)
+    room
+    few

@@ -1,0 +1,19 @@
+use Prim.Native.Nat.{◌-◌, ◌≤◌}
+use native.Mathlib.Omega.{arith}
+use mathlib.Core.Path.{◌≡◌, refl, ◌∙◌, ap}
+use lib.ListN.{length}
+use Rattle.machine_nodes.specs.Nodes.{nodes_in}
+use Rattle.machine_nodes.proofs.Laws.Nodes.{length_nodes_in, node_put}
+use Rattle.words.specs.Regions.{over}
+use Rattle.machine_load.specs.Trees.{values_from, node_from}
+use Rattle.machine_load.proofs.Laws.Writing.{none_written, node_written}
+use Rattle.machine_load.proofs.load_terms.Given as goal
+
+abbrev pub invariant-loop-i : goal.invariant-loop-i
+invariant-loop-i l =
+    (l.i ≤ l.terms)
+    × (nodes_in l.nodes ≡ over (nodes_in l.initial.nodes) l.to (values_from (node_from l.file) l.first l.i))
+    × (length l.nodes ≡ length l.initial.nodes)
+
+abbrev pub decreases-loop-i : goal.decreases-loop-i
+decreases-loop-i l = l.terms - l.i

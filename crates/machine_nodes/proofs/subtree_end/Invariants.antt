@@ -1,0 +1,20 @@
+use Prim.Native.Nat.{◌+◌, ◌*◌, ◌-◌, ◌≤◌, ◌/◌}
+use native.Mathlib.Omega.{arith}
+use mathlib.Core.Path.{◌≡◌, refl, sym, ap, ◌∙◌}
+use lib.ListN.{length, drop}
+use Rattle.machine_terms.specs.Trees.{Node, kind, parts}
+use Rattle.machine_nodes.specs.Nodes.{nodes_in, node_at, no_node}
+use Rattle.machine_nodes.proofs.Laws.Nodes.{length_nodes_in}
+use Rattle.machine_nodes.specs.Spans.{asked, span}
+use Rattle.machine_nodes.proofs.Laws.Spans.{one_more, none_waiting, run_out}
+use Rattle.machine_nodes.proofs.subtree_end.Given as goal
+
+abbrev pub invariant-loop-i : goal.invariant-loop-i
+invariant-loop-i l =
+    (l.i + span (drop l.i (nodes_in l.nodes)) l.waiting ≡ l.at + span (drop l.at (nodes_in l.nodes)) 1)
+    × (l.at ≤ l.i)
+    × (l.waiting ≤ 1 + 2 * (l.i - l.at))
+    × (l.n ≡ length l.nodes / 4)
+
+abbrev pub decreases-loop-i : goal.decreases-loop-i
+decreases-loop-i l = l.n - l.i

@@ -1,0 +1,26 @@
+-- `openqasm_export::export_uncleared` meets its contract. Assumes nothing.
+use Prim.Native.Nat.{ℕ, ◌≤◌, ◌<◌}
+use mathlib.Core.Path.{sym, ◌∙◌}
+use lib.ListN.{length, get_or}
+use Rattle.listing_check.specs.Answers.{most_wires}
+use native.Mathlib.Omega.{arith}
+use Rattle.openqasm_export.proofs.Laws.Answering.{accepted_whole, is_sound, exported, declined}
+use Rattle.openqasm_export.proofs.Laws.Statements.{export_accepted}
+use borrow.Author.Rules.{rules}
+use Rattle.openqasm_export.proofs.export_uncleared.Goals as goal
+
+pub returns-in-Accepted : goal.returns-in-Accepted
+returns-in-Accepted c =
+    let a = c.args in
+    let b = a.listing.now in
+    let small : (j : ℕ) → get_or b j 0 < 256 = λ j. (c.type_inv.listing j).fits in
+    let is = c.check_export.ensures c.requires.1 in
+    let accepted = c.in-Accepted.is in
+    let long : most_wires ≤ length c.check_export.new.work = omega (arith, c.requires.1, c.check_export.auto.work) in
+    exported b small is accepted c.requires.0 (c.write_text.ensures (accepted_whole b _ (is_sound b small is accepted) long) (export_accepted b (sym is ∙ accepted)).1)
+
+pub returns-in-Refused : goal.returns-in-Refused
+returns-in-Refused c =
+    let a = c.args in
+    let b = a.listing.now in
+    declined b (λ j. (c.type_inv.listing j).fits) (c.check_export.ensures c.requires.1) a.out.now record { value = c.in-Refused.is.0; out_after = c.in-Refused.is.1 }

@@ -1,0 +1,46 @@
+-- `openqasm_export::write_names` meets its contract. Assumes nothing.
+use borrow.Author.Rules.{rules}
+use Prim.Native.Nat.{◌+◌, ◌-◌, ◌*◌, ◌≤◌, ◌<◌}
+use native.Mathlib.Omega.{arith}
+use mathlib.Core.Path.{◌≡◌, refl, ◌∙◌, ap}
+use lib.ListN.{length, get_or}
+use Rattle.words.specs.Numbers.{word_at}
+use Rattle.listing.specs.Reading.{output_count, inputs_of, gates_of}
+use Rattle.openqasm.specs.Layout.{AllWritten}
+use Rattle.openqasm_export.specs.Places.{places_of, Begins}
+use Rattle.openqasm_export.proofs.Laws.Writing.{OutputsWritten, outputs_start, outputs_next, outputs_end}
+use Rattle.openqasm_export.proofs.write_names.Goals as goal
+
+pub loop-j-init : goal.loop-j-init
+loop-j-init c = let a = c.args in (omega arith, refl, λ written begun. outputs_start a.listing.now a.text.now a.at)
+
+pub overflow_mul-j : goal.overflow_mul-j
+overflow_mul-j c = search (rules, c.loop-j-test.true, c.output_count-count.ensures.upper_bound)
+
+pub overflow_add-from : goal.overflow_add-from
+overflow_add-from c = search (rules, c.loop-j-test.true, c.output_count-count.ensures.upper_bound, c.outputs_from-from.ensures.upper_bound)
+
+pub overflow_add-j : goal.overflow_add-j
+overflow_add-j c = search (rules, c.loop-j-test.true)
+
+pub loop-j-smaller : goal.loop-j-smaller
+loop-j-smaller c = omega (arith, c.loop-j-test.true)
+
+pub loop-j-preserved : goal.loop-j-preserved
+loop-j-preserved c =
+    let a = c.args in
+    let b = a.listing.now in
+    let s = c.loop-j in
+    let below : s.j < output_count b = omega (arith, c.loop-j-test.true, c.output_count-count.ensures.value) in (
+      omega (arith, c.loop-j-test.true),
+      c.write_output-here.auto.text ∙ s.invariant.1,
+      λ written begun. outputs_next b a.text.now a.at c.byte_at-place.result (s.invariant.2 written begun) written begun below
+          (c.byte_at-place.ensures ∙ ap (λ w. get_or a.table.now w 0) (c.word_at.ensures.value ∙ ap (λ n. word_at b (n + 2 * s.j)) c.outputs_from-from.ensures.value))
+          c.write_output-here.ensures,
+    )
+
+pub shape_of-text : goal.shape_of-text
+shape_of-text c = c.loop-j.invariant.1
+
+pub returns : goal.returns
+returns c = let a = c.args in λ written begun. outputs_end a.listing.now a.text.now a.at (c.loop-j.invariant.2 written begun) (omega (arith, c.loop-j-test.false, c.output_count-count.ensures.value))

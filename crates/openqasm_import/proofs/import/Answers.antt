@@ -1,0 +1,28 @@
+-- `openqasm_import::import` meets its contract. Assumes nothing.
+use mathlib.Core.Path.{◌∙◌, ap}
+use lib.ListN.{replicate}
+use Rattle.openqasm_import.proofs.Theorems.Imports.{import_means}
+use Rattle.openqasm_import.proofs.Laws.Answering.{short_answered, all_long, long_answered}
+use borrow.Author.Rules.{rules}
+use Rattle.openqasm_import.proofs.import.Goals as goal
+
+pub returns-then-out-slots : goal.returns-then-out-slots
+returns-then-out-slots c =
+    let a = c.args in
+    let short = short_answered a.text.now a.out.now a.slots.now a.listing.now a.table.now a.exported.now c.if-out-slots.true c.refused.ensures in
+    (short.0, (short.1, import_means a.text.now))
+
+pub import_uncleared-answer-requires : goal.import_uncleared-answer-requires
+import_uncleared-answer-requires c = let a = c.args in all_long a.text.now a.out.now a.slots.now a.listing.now a.table.now a.exported.now c.if-out-slots.false
+
+pub returns : goal.returns
+returns c =
+    let a = c.args in
+    let u = c.import_uncleared-answer in
+    let long = long_answered a.text.now a.out.now a.slots.now a.listing.now a.table.now a.exported.now
+    u.new.out c.clear.new.memory c.clear-2.new.memory c.clear-3.new.memory c.clear-4.new.memory c.if-out-slots.false u.ensures.value u.ensures.out_after
+    (c.clear.ensures ∙ ap (λ n. replicate n 0) u.auto.slots)
+    (c.clear-2.ensures ∙ ap (λ n. replicate n 0) u.auto.listing)
+    (c.clear-3.ensures ∙ ap (λ n. replicate n 0) u.auto.table)
+    (c.clear-4.ensures ∙ ap (λ n. replicate n 0) u.auto.exported) in
+    (long.0, (long.1, import_means a.text.now))

@@ -1,0 +1,14 @@
+use Prim.Native.Nat.{◌-◌}
+use native.Mathlib.Omega.{arith}
+use mathlib.Core.Path.{◌≡◌, refl, ◌∙◌, sym}
+use Rattle.program.specs.Failing.{fails_at}
+use Rattle.program.proofs.Laws.Scans.{scan_hits, scan_goes_on, scan_ends}
+use Rattle.program.specs.Traversal.{first_from}
+use Rattle.program.proofs.scan.first_failing.Given as goal
+
+abbrev pub invariant-loop-e : goal.invariant-loop-e
+invariant-loop-e l =
+    first_from (fails_at l.test l.file) l.from (l.end - l.from) ≡ first_from (fails_at l.test l.file) l.e (l.end - l.e)
+
+abbrev pub decreases-loop-e : goal.decreases-loop-e
+decreases-loop-e l = l.end - l.e

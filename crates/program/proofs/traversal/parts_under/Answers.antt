@@ -1,0 +1,12 @@
+-- `program::traversal::parts_under` meets its contract.
+use borrow.Author.Tests.{ne_eqb}
+use Rattle.program.proofs.traversal.parts_under.Goals as goal
+
+pub returns-in-0 : goal.returns-in-0
+returns-in-0 c = rw c.in-0.is
+
+pub returns-in-1 : goal.returns-in-1
+returns-in-1 c = rw c.in-1.is
+
+pub returns-in_default : goal.returns-in_default
+returns-in_default c = rw (ne_eqb _ _ c.in_default.rest.0.1, ne_eqb _ _ c.in_default.rest.1)

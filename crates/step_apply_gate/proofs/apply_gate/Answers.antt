@@ -1,0 +1,114 @@
+-- `step_apply_gate::apply_gate` meets its contract: each of its ends is one of the three of GateSteps. Assumes nothing.
+use Prim.Native.Nat.{◌+◌, ◌≤◌, ◌<◌}
+use native.Mathlib.Omega.{arith}
+use mathlib.Core.Path.{sym, ◌∙◌, ap}
+use borrow.Author.Tests.{ltb-true, ltb-false}
+use borrow.Author.Rules.{rules}
+use Rattle.rules.specs.Sizes.{most_nodes}
+use Rattle.words.specs.Words.{words}
+use Rattle.machine_nodes.specs.Nodes.{nodes_in}
+use Rattle.machine_nodes.proofs.Laws.Nodes.{length_nodes_in}
+use Rattle.words.specs.Quadwords.{quadword_at, quadwords_in}
+use Rattle.machine_walk.specs.Stack.{stack_node, stack_start}
+use Rattle.machine_state.specs.Memory.{memory}
+use Rattle.step_apply_gate.proofs.Laws.Stepping.{nodes_refused, gates_refused, gate_taken}
+use Rattle.step_apply_gate.proofs.apply_gate.Goals as goal
+
+pub overflow_add-at : goal.overflow_add-at
+overflow_add-at c = omega (arith, c.stack_node-at.ensures.upper_bound)
+
+pub returns-then-too_many_nodes : goal.returns-then-too_many_nodes
+returns-then-too_many_nodes c = λ room cs ws results e.
+    let read = c in
+    let a = c.args in
+    let r = a.numbers in
+    let ns = nodes_in a.nodes.now in
+    let rs = quadwords_in a.stack.now in
+    let m = memory ns rs (quadwords_in a.gates.now) cs (quadwords_in a.frames.now) ws results in
+    let at = c.stack_node-at in
+    let size = c.output_size-size in
+    let rest = c.saturating_sub-rest in
+    let many : most_nodes < at.result + size.result + rest.result
+    = ltb-true most_nodes (at.result + size.result + rest.result)
+    (sym c.too_many_nodes.ensures ∙ c.if-too_many_nodes.true) in
+    nodes_refused m r a.allowance at.result c.argument_at-number.result size.result e
+    (at.ensures.0 ∙ ap (λ d. stack_node (quadword_at rs d)) c.saturating_sub-depth.ensures)
+    c.argument_at-number.ensures.value
+    size.ensures
+    (omega (arith, many, rest.ensures, length_nodes_in a.nodes.now))
+
+pub returns-then-too_many_gates : goal.returns-then-too_many_gates
+returns-then-too_many_gates c = λ room cs ws results e.
+    let a = c.args in
+    let r = a.numbers in
+    let ns = nodes_in a.nodes.now in
+    let rs = quadwords_in a.stack.now in
+    let m = memory ns rs (quadwords_in a.gates.now) cs (quadwords_in a.frames.now) ws results in
+    gates_refused m r a.allowance e
+    (ltb-true a.allowance (r.counts.gates + r.counts.kept + 1)
+    (sym c.too_many_gates.ensures ∙ c.if-too_many_gates.true))
+
+pub overflow_add-result : goal.overflow_add-result
+overflow_add-result c =
+    let tested = c in
+    let start = c in
+    let a = start.args in
+    let r = a.numbers in
+    let below : r.counts.gates + r.counts.kept + 1 ≤ a.allowance
+    = ltb-false a.allowance (r.counts.gates + r.counts.kept + 1)
+    (sym c.too_many_gates.ensures ∙ c.if-too_many_gates.false) in
+    omega (arith, below, start.ranges)
+
+pub returns : goal.returns
+returns c = λ room cs ws results e.
+    let o = c in
+    let p = c in
+    let tested = p.before.before.before.before.before.before in
+    let read = tested.before.before.before.before in
+    let a = read.before.before.before.before.before.before.before.before.before.before.before.before.before.args in
+    let r = a.numbers in
+    let ns = nodes_in a.nodes.now in
+    let rs = quadwords_in a.stack.now in
+    let m = memory ns rs (quadwords_in a.gates.now) cs (quadwords_in a.frames.now) ws results in
+    let at = read.before.before.before.before.stack-node in
+    let start = p.before.before.before.before.before.stack-start in
+    let number = read.before.before.argument-at in
+    let size = read.before.output-size in
+    let rest = read.saturating-sub2 in
+    let deep = read.before.before.before.before.before.saturating-sub in
+    let count = p.before.before.before.before.saturating-sub3 in
+    let right = c.saturating_sub-right in
+    let frame = c.saturating_sub-frame in
+    let few : at.result + size.result + rest.result ≤ most_nodes
+    = ltb-false most_nodes (at.result + size.result + rest.result)
+    (sym tested.before.before.before.too-many-nodes.ensures ∙ tested.before.before.if1.false) in
+    let below : r.counts.gates + r.counts.kept + 1 ≤ a.allowance
+    = ltb-false a.allowance (r.counts.gates + r.counts.kept + 1)
+    (sym tested.before.too-many-gates.ensures ∙ tested.if2.false) in
+    gate_taken m r a.allowance (nodes_in c.put_outputs.new.nodes) (quadwords_in p.put-gate.new.1.1.1.1.0)
+    (quadwords_in c.put_outputs.new.frames)
+    (words a.labels.now)
+    at.result
+    start.result
+    number.result
+    size.result
+    right.result
+    count.result
+    deep.result
+    frame.result
+    e
+    record {
+      at_is = at.ensures.0 ∙ ap (λ d. stack_node (quadword_at rs d)) deep.ensures;
+      start_is = start.ensures.0 ∙ ap (λ d. stack_start (quadword_at rs d)) deep.ensures;
+      number_is = number.ensures.0;
+      wide_is = size.ensures;
+      from_is = right.ensures;
+      count_is = count.ensures;
+      depth_is = deep.ensures;
+      frame_is = frame.ensures;
+    }
+    room
+    (omega (arith, few, rest.ensures, length_nodes_in a.nodes.now))
+    below
+    p.put-gate.ensures
+    c.put_outputs.ensures

@@ -1,0 +1,6 @@
+-- `step_reductions::taken` meets its contract. Assumes nothing.
+use borrow.Author.Rules.{rules}
+use Rattle.step_reductions.proofs.taken.Goals as goal
+
+pub returns : goal.returns
+returns c = rw c.saturating_sub.ensures

@@ -1,0 +1,16 @@
+use borrow.Author.Rules.{rules}
+use Prim.Native.Nat.{◌+◌, ◌-◌, ◌≤◌, ◌<◌}
+use native.Mathlib.Omega.{arith}
+use mathlib.Core.Path.{◌≡◌, refl, ◌∙◌, subst}
+use lib.ListN.{length, take, get_or, set, length-set}
+use Rattle.text.specs.Writing.{Puts}
+use Rattle.text.proofs.Laws.Writing.{puts_none, puts_byte}
+use Rattle.text.proofs.Laws.Words.{puts_next, puts_all}
+use Rattle.text.proofs.put_bytes.Given as goal
+
+abbrev pub invariant-loop-i : goal.invariant-loop-i
+invariant-loop-i l =
+    (l.i ≤ length l.bytes) × (length l.text ≡ length l.initial.text) × Puts l.initial.text l.at (take l.i l.bytes) l.text (l.at + l.i)
+
+abbrev pub decreases-loop-i : goal.decreases-loop-i
+decreases-loop-i l = length l.bytes - l.i

@@ -1,0 +1,14 @@
+-- `wirelist_io::print_all` meets its contract: the text has the least length. Assumes nothing.
+use Prim.Native.Nat.{◌≤◌}
+use native.Mathlib.Omega.{arith}
+use lib.ListN.{length}
+use Rattle.wirelist_lines.specs.Least.{least_text}
+use Rattle.text.proofs.Laws.Writing.{all_written}
+use borrow.Author.Rules.{rules}
+use Rattle.wirelist_io.proofs.print_all.Goals as goal
+
+pub returns : goal.returns
+returns c =
+    let w = c.print_text.ensures in
+    let room : least_text ≤ length c.args.text.now = omega (arith, c.print_text-arg-1.given) in
+    record { text_after = all_written w.0 (omega arith); upper_bound = omega (arith, w.0.place, c.print_text.auto.text) }

@@ -1,0 +1,21 @@
+use Prim.Native.Nat.{◌-◌, ◌≤◌}
+use native.Mathlib.Omega.{arith}
+use mathlib.Core.Path.{◌≡◌, refl, ◌∙◌, ap}
+use mathlib.Core.List.{map}
+use lib.ListN.{length}
+use borrow.Author.Rules.{rules}
+use Rattle.rules.specs.Circuits.{numbers}
+use Rattle.text.specs.Text.{decimal, spaced}
+use Rattle.text.specs.Writing.{Puts}
+use Rattle.text.proofs.Laws.Writing.{puts_none, puts_same}
+use Rattle.wirelist_lines.proofs.Laws.Read.{puts_number}
+use Rattle.wirelist_lines.proofs.numbers.put_numbers.Given as goal
+
+abbrev pub invariant-loop-i : goal.invariant-loop-i
+invariant-loop-i l =
+    (l.i ≤ l.count)
+    × (length l.text ≡ length l.initial.text)
+    × Puts l.initial.text l.at (spaced (map decimal (numbers l.first l.i))) l.text l.here
+
+abbrev pub decreases-loop-i : goal.decreases-loop-i
+decreases-loop-i l = l.count - l.i

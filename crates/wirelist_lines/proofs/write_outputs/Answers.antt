@@ -1,0 +1,24 @@
+-- `wirelist_lines::write_outputs` meets its contract. Assumes nothing.
+use mathlib.Core.Path.{ap₂}
+use mathlib.Core.List.{map}
+use borrow.Author.Rules.{rules}
+use Rattle.text.specs.Text.{ascii, decimal, spaced}
+use Rattle.words.specs.Numbers.{words_at}
+use Rattle.listing.specs.Reading.{outputs_from, output_count}
+use Rattle.wirelist_lines.specs.LinesAt.{out_line_at}
+use Rattle.text.proofs.Laws.Writing.{puts_same}
+use Rattle.wirelist_lines.proofs.Laws.Lines.{puts_line}
+use Rattle.wirelist_lines.proofs.write_outputs.Goals as goal
+
+slice-aggregate-put-bytes : tie.Need-slice-aggregate-put-bytes
+slice-aggregate-put-bytes c = search rules
+
+pub returns : goal.returns
+unfolding out_line_at
+returns c =
+    let b = c.args.listing.now in
+    puts_line (ascii "out") (map decimal (words_at b (outputs_from b) (output_count b))) c.put_bytes-named.ensures
+    (puts_same
+    (ap₂ (λ from k. spaced (map decimal (words_at b from k))) c.outputs_from.ensures.value c.output_count.ensures.value)
+    c.put_words-listed.ensures)
+    c.put_byte.ensures
