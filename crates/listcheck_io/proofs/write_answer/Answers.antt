@@ -4,9 +4,6 @@ use Rattle.listcheck_io.proofs.Laws.Printed.{line_accepted, line_refused}
 use borrow.Author.Rules.{rules}
 use Rattle.listcheck_io.proofs.write_answer.Goals as goal
 
-slice-aggregate-put-bytes : tie.Need-slice-aggregate-put-bytes
-slice-aggregate-put-bytes c = search rules
-
 pub returns-in-Accepted : goal.returns-in-Accepted
 returns-in-Accepted c = line_accepted c.in-Accepted.is (puts_first c.put_bytes.ensures)
 

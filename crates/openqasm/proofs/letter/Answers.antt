@@ -6,8 +6,5 @@ use Rattle.openqasm.specs.Lines.{letters}
 use borrow.Author.Rules.{rules}
 use Rattle.openqasm.proofs.letter.Goals as goal
 
-array-read-result : tie.Need-array-read-result
-array-read-result c = search rules
-
 pub returns-else-gate-lt5 : goal.returns-else-gate-lt5
 returns-else-gate-lt5 c = sym (get_or-eq_default letters 0 {n = c.args.gate} (omega (arith, c.if-gate-lt5.false)))

@@ -7,12 +7,6 @@ use Rattle.openqasm.proofs.Laws.Lines.{puts_qubit, puts_declared}
 use borrow.Author.Rules.{rules}
 use Rattle.openqasm.proofs.write_declaration.Goals as goal
 
-slice-aggregate-put-named : tie.Need-slice-aggregate-put-named
-slice-aggregate-put-named c = search rules
-
-slice-aggregate-put-bytes : tie.Need-slice-aggregate-put-bytes
-slice-aggregate-put-bytes c = search rules
-
 pub returns-then-kind-eq-BIT_INPUT : goal.returns-then-kind-eq-BIT_INPUT
 returns-then-kind-eq-BIT_INPUT c = puts_declared c.args.k c.args.kind Bit (sym (ap (λ b. cond b Bit Qubit) (eq-eqb c.args.kind 128 c.if-kind-eq-BIT_INPUT.true))) c.write_bit_register.ensures
 

@@ -3,11 +3,5 @@ use Rattle.text.proofs.Laws.Writing.{puts_both}
 use borrow.Author.Rules.{rules}
 use Rattle.openqasm.proofs.write_header.Goals as goal
 
-slice-aggregate-put-bytes : tie.Need-slice-aggregate-put-bytes
-slice-aggregate-put-bytes c = search rules
-
-slice-aggregate-put-bytes-2 : tie.Need-slice-aggregate-put-bytes-2
-slice-aggregate-put-bytes-2 c = search rules
-
 pub returns : goal.returns
 returns c = puts_both c.put_bytes-version.ensures c.put_bytes.ensures

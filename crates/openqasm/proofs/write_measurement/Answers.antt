@@ -3,14 +3,5 @@ use Rattle.text.proofs.Laws.Writing.{puts_both}
 use borrow.Author.Rules.{rules}
 use Rattle.openqasm.proofs.write_measurement.Goals as goal
 
-slice-aggregate-put-bytes : tie.Need-slice-aggregate-put-bytes
-slice-aggregate-put-bytes c = search rules
-
-slice-aggregate-put-bytes-2 : tie.Need-slice-aggregate-put-bytes-2
-slice-aggregate-put-bytes-2 c = search rules
-
-slice-aggregate-put-bytes-3 : tie.Need-slice-aggregate-put-bytes-3
-slice-aggregate-put-bytes-3 c = search rules
-
 pub returns : goal.returns
 returns c = puts_both c.put_bytes-named.ensures (puts_both c.put_decimal-first.ensures (puts_both c.put_bytes-parted.ensures (puts_both c.put_decimal-second.ensures c.put_bytes.ensures)))

@@ -9,12 +9,6 @@ use Rattle.openqasm.specs.Layout.{register_name}
 use borrow.Author.Rules.{rules}
 use Rattle.openqasm.proofs.write_output.Goals as goal
 
-slice-aggregate-put-named : tie.Need-slice-aggregate-put-named
-slice-aggregate-put-named c = search rules
-
-slice-aggregate-put-named-2 : tie.Need-slice-aggregate-put-named-2
-slice-aggregate-put-named-2 c = search rules
-
 pub returns-then-qubit : goal.returns-then-qubit
 returns-then-qubit c = puts_same (ap (λ ys. 32 ∷ 113 ∷ ys) (sym (append-nil (decimal c.args.r))) ∙ sym (ap (λ b. spaced (register_name (cond b Qubit Bit) c.args.r ∷ [])) c.if-qubit.true)) c.put_named.ensures
 

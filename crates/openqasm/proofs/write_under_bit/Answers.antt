@@ -9,12 +9,6 @@ use Rattle.openqasm.proofs.Laws.Lines.{gate_bx, gate_bz, puts_two}
 use borrow.Author.Rules.{rules}
 use Rattle.openqasm.proofs.write_under_bit.Goals as goal
 
-slice-aggregate-put-bytes : tie.Need-slice-aggregate-put-bytes
-slice-aggregate-put-bytes c = search rules
-
-slice-aggregate-put-bytes-2 : tie.Need-slice-aggregate-put-bytes-2
-slice-aggregate-put-bytes-2 c = search rules
-
 pub returns-then-gate-eq7 : goal.returns-then-gate-eq7
 returns-then-gate-eq7 c rs = let a = c.args in puts_same (gate_bx a.r a.s rs ∙ ap (λ n. gate_line n (a.r ∷ a.s ∷ rs)) (sym c.if-gate-eq7.true)) (puts_two (ascii "if(c") (ascii "==1) x q") a.r a.s c.write_test-tested.ensures c.put_bytes-named.ensures c.write_last.ensures)
 

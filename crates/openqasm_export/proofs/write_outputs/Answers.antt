@@ -3,8 +3,5 @@ use Rattle.openqasm_export.proofs.Laws.Writing.{puts_outputs}
 use borrow.Author.Rules.{rules}
 use Rattle.openqasm_export.proofs.write_outputs.Goals as goal
 
-slice-aggregate-put-bytes : tie.Need-slice-aggregate-put-bytes
-slice-aggregate-put-bytes c = search rules
-
 pub returns : goal.returns
 returns c = λ written begun. puts_outputs c.args.listing.now c.put_bytes-begun.ensures (c.write_names-named.ensures written begun) c.put_byte.ensures

@@ -95,7 +95,7 @@ loop-i-preserved c =
           c.slot_wire-first.ensures.value
           c.slot_wire-second.ensures.value
           c.slot_wire-third.ensures.value
-          put.ensures.adds
+          put.ensures.adds_kinds
           put.ensures.adds_slots
           h.ensures.value
           h.ensures.held_after,

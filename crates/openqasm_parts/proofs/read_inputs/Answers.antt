@@ -77,7 +77,7 @@ loop-i-preserved c =
             s.invariant.2,
             c.requires.1,
           ))
-          c.put_entry.ensures.adds
+          c.put_entry.ensures.adds_kinds
           c.put_entry.ensures.adds_slots,
     )
 

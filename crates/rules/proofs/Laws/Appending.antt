@@ -287,7 +287,7 @@ rename_types o X wires_end = wires_end
 rename_types o X (next_wire {w = w} p d) = next_wire (rename_type o X w ∙ p) (rename_types o X d)
 
 -- The copied gates take wires made before them, of their types.
-append_takes_earlier : (I : List Wire) {hs gs : List Gate} {ℓs : List ℕ} {αs : List Wire}
+append_takes_earlier : (I : List Wire) {hs : List Gate} {ℓs : List ℕ} {αs : List Wire} {gs : List Gate}
     → OfTypes (I ++ outputs hs) ℓs αs
     → TakesEarlier I hs
     → TakesEarlier αs gs

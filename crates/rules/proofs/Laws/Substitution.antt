@@ -281,6 +281,7 @@ splits_parameter_end p (appends_next e) (◌then◌ {a₁ = a₁} {a₂ = a₂} 
 
 variable_parameter_end : {k n : ℕ} {Γ Δ G : Context} {A : Ty}
     → Parameter Δ → Appends k Γ Δ G → Variable Γ n A → Variable G n A
+variable_parameter_end {n = n} {A = A} p (appends_end {Δ = Δ}) x = elim x [ ]
 variable_parameter_end p (appends_next e) (here q) = here (parameter_appends e q p)
 variable_parameter_end p (appends_next e) (past_absent x) = past_absent (variable_parameter_end p e x)
 variable_parameter_end p (appends_next e) (past_parameter c x) = past_parameter c (variable_parameter_end p e x)
@@ -355,6 +356,7 @@ values_splits (copied c then g) (used {R₁ = R₁} s v t vs) =
 -- The value of a variable has its type.
 value_at_lem : {Δ : Context} {R : LabelContext} {Ws : List Term} {n : ℕ} {A : Ty} (M : Term)
     → Values Δ R Ws → Variable Δ n A → [] ∣ R ⊢ term_at Ws n M ∶ A
+value_at_lem {n = n} {A = A} M (values_end {R = R} _) x = elim x [ ]
 value_at_lem M (unused vs) (past_absent x) = value_at_lem M vs x
 value_at_lem {A = A} M (used {W = W} s v t vs) (here p) =
     subst (λ P. [] ∣ P ⊢ W ∶ A) (sym (splits_right_none (values_parameter p vs) s)) t

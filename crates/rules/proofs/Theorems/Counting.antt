@@ -499,7 +499,8 @@ plain→has {Γ} {Δ} {Q} P p q plain_unit v l b c =
     by_unit (zero→parameter p v) (λ ℓ. unused_label (Q ℓ) 0 (l ℓ) refl)
 plain→has {Γ} {Δ} {Q} P p q (plain_circ t m s d) v l b c =
     by_circ (zero→parameter p v) (λ ℓ. unused_label (Q ℓ) 0 (l ℓ) refl) t m s d
-plain→has {Γ} {Δ} {Q} P p q (plain_abs m d) v l b c = by_abs m (plain→has P (present p) q d (b.0, v) l b.1 c)
+plain→has {Γ} {Δ} {Q} P p q (plain_abs {A = A} m d) v l b c =
+    by_abs m (plain→has {Γ = some A ∷ Γ} P (present p) q d (b.0, v) l b.1 c)
 plain→has {Γ} {Δ} {Q} P p q (plain_app {M = M} {N = N} d e) v l b c =
     let s = context_share Γ (λ n. uses n M) (λ n. uses n N) v in
     let t = labels_share Q M N l in

@@ -58,6 +58,14 @@ find_proto (let_in M N) (proto_let v) = rw (find_value M v)
 find_proto (force M) (proto_force v) = rw (find_value M v)
 find_proto (box T M) (proto_box v) = rw (find_value M v)
 find_proto (apply M N) (proto_apply v w) = rw (find_value M v, find_value N w)
+find_proto (variable _) p = elim p [ ]
+find_proto (label _) p = elim p [ ]
+find_proto (gate _) p = elim p [ ]
+find_proto unit_value p = elim p [ ]
+find_proto (constant _) p = elim p [ ]
+find_proto (abstraction _ _) p = elim p [ ]
+find_proto (pair _ _) p = elim p [ ]
+find_proto (lift _) p = elim p [ ]
 
 -- A proto-redex in an evaluation context is what the step function finds there.
 pub find_plug : (E : EvaluationContext) (R : Term) → Proto R → find (plug E R) ≡ reducible E R

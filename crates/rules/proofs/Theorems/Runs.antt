@@ -459,7 +459,7 @@ inputs_kept (box_entry {C = circuit I gs} E T M) = refl
 inputs_kept (box_exit r {C = circuit I gs} E T M) = refl
 
 -- So does a row of steps.
-pub row_inputs_kept : {allowance n : ℕ} {c d : Configuration}
+pub row_inputs_kept : {allowance : ℕ} {c : Configuration} {n : ℕ} {d : Configuration}
     → Row allowance c n d
     → outermost_inputs d ≡ outermost_inputs c
 row_inputs_kept no_step = refl

@@ -425,12 +425,12 @@ start_has L {M} {A} d =
     none_closed
 
 -- The type is kept along a row of any length.
-pub row_keeps : {allowance : ℕ} {A : Ty} {n : ℕ} {c d : Configuration} → Row allowance c n d → ProgramHas A c → ProgramHas A d
+pub row_keeps : {allowance : ℕ} {A : Ty} {c : Configuration} {n : ℕ} {d : Configuration} → Row allowance c n d → ProgramHas A c → ProgramHas A d
 row_keeps no_step h = h
 row_keeps (one_more r s f) h = preservation s (row_keeps r h)
 
 -- Rows of one length from one start end alike.
-pub row_unique : {allowance : ℕ} {n : ℕ} {c d e : Configuration} → Row allowance c n d → Row allowance c n e → d ≡ e
+pub row_unique : {allowance : ℕ} {c : Configuration} {n : ℕ} {d e : Configuration} → Row allowance c n d → Row allowance c n e → d ≡ e
 row_unique no_step no_step = refl
 row_unique (one_more r s f) (one_more {e = e} r' s' f') =
     deterministic s (subst (λ x. x ⟶ e) (sym (row_unique r r')) s')

@@ -7,9 +7,6 @@ use Rattle.rules.specs.GateCodes.{wires_code, taken_code}
 use Rattle.rules.proofs.GateTable.{of_no_gate, entry_at}
 use Rattle.rules.proofs.taken_code.Goals as goal
 
-array-read-wide : tie.Need-array-read-wide
-array-read-wide c = search rules
-
 pub returns-then-n-lt-GATES : goal.returns-then-n-lt-GATES
 unfolding taken_code
 returns-then-n-lt-GATES c =

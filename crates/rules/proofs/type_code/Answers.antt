@@ -7,9 +7,6 @@ use borrow.Author.Rules.{rules}
 use Rattle.rules.proofs.GateTable.{is_row, code_inside, no_such_gate, no_such_entry}
 use Rattle.rules.proofs.type_code.Goals as goal
 
-array-read-wide : tie.Need-array-read-wide
-array-read-wide c = search rules
-
 pub offset_bounds-wide : goal.offset_bounds-wide
 offset_bounds-wide c =
     let few : c.wide.result < 7 = is_row c.args.n c.wide.result c.wide.ensures (search rules) in

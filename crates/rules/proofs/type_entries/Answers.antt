@@ -8,9 +8,6 @@ use Rattle.rules.specs.GateCodes.{circ_codes, type_entries}
 use Rattle.rules.proofs.GateTable.{of_no_gate, entry_at}
 use Rattle.rules.proofs.type_entries.Goals as goal
 
-array-read-wide : tie.Need-array-read-wide
-array-read-wide c = search rules
-
 pub returns-then-n-lt-GATES : goal.returns-then-n-lt-GATES
 unfolding type_entries
 returns-then-n-lt-GATES c =

@@ -7,9 +7,6 @@ use Rattle.rules.specs.Gates.{gate_table, input_wires, wires_in}
 use Rattle.rules.proofs.GateTable.{of_no_gate, entry_at}
 use Rattle.rules.proofs.wires_in.Goals as goal
 
-array-read-wide : tie.Need-array-read-wide
-array-read-wide c = search rules
-
 pub returns-then-n-lt-GATES : goal.returns-then-n-lt-GATES
 unfolding wires_in
 returns-then-n-lt-GATES c =

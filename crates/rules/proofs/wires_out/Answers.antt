@@ -7,9 +7,6 @@ use Rattle.rules.specs.Gates.{gate_table, output_wires, wires_out}
 use Rattle.rules.proofs.GateTable.{of_no_gate, entry_at}
 use Rattle.rules.proofs.wires_out.Goals as goal
 
-array-read-wide : tie.Need-array-read-wide
-array-read-wide c = search rules
-
 pub returns-then-n-lt-GATES : goal.returns-then-n-lt-GATES
 unfolding wires_out
 returns-then-n-lt-GATES c =

@@ -67,7 +67,7 @@ returns-else-has_room c = λ wide ws other.
     let a = c.args in
     let x = c.read_redex-redex.result in
     let full : Room x a.numbers (length (nodes_in a.nodes.now)) a.allowance → ⊥
-    = rw (length_nodes_in a.nodes.now) (c.has_room.ensures.fact c.if-has_room.false) in
+    = rw (length_nodes_in a.nodes.now) (c.has_room.ensures.no_room c.if-has_room.false) in
     constant_refused (nodes_in a.nodes.now) (quadwords_in a.stack.now) (quadwords_in a.gates.now) (quadwords_in a.circuits.now)
     (quadwords_in a.frames.now)
     ws

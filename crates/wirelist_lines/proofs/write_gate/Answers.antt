@@ -13,9 +13,6 @@ use Rattle.wirelist_lines.proofs.Laws.Lines.{puts_gate}
 use borrow.Author.Rules.{rules}
 use Rattle.wirelist_lines.proofs.write_gate.Goals as goal
 
-slice-aggregate-put-bytes : tie.Need-slice-aggregate-put-bytes
-slice-aggregate-put-bytes c = search rules
-
 pub put_numbers-numbered-requires : goal.put_numbers-numbered-requires
 put_numbers-numbered-requires c = omega (arith, c.wires_out.ensures, few_out c.args.number)
 

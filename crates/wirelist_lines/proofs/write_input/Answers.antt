@@ -6,15 +6,6 @@ use Rattle.text.proofs.Laws.Writing.{puts_same}
 use Rattle.wirelist_lines.proofs.Laws.Lines.{puts_input, bit_line, qubit_line}
 use Rattle.wirelist_lines.proofs.write_input.Goals as goal
 
-slice-aggregate-put-bytes : tie.Need-slice-aggregate-put-bytes
-slice-aggregate-put-bytes c = search rules
-
-slice-aggregate-put-bytes-2 : tie.Need-slice-aggregate-put-bytes-2
-slice-aggregate-put-bytes-2 c = search rules
-
-slice-aggregate-put-bytes-3 : tie.Need-slice-aggregate-put-bytes-3
-slice-aggregate-put-bytes-3 c = search rules
-
 pub returns-then-kind_at-eq-BIT_INPUT : goal.returns-then-kind_at-eq-BIT_INPUT
 returns-then-kind_at-eq-BIT_INPUT c =
     let a = c.args in

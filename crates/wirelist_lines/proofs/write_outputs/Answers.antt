@@ -10,9 +10,6 @@ use Rattle.text.proofs.Laws.Writing.{puts_same}
 use Rattle.wirelist_lines.proofs.Laws.Lines.{puts_line}
 use Rattle.wirelist_lines.proofs.write_outputs.Goals as goal
 
-slice-aggregate-put-bytes : tie.Need-slice-aggregate-put-bytes
-slice-aggregate-put-bytes c = search rules
-
 pub returns : goal.returns
 unfolding out_line_at
 returns c =

@@ -7,9 +7,6 @@ use Rattle.wirelist_lines.proofs.Laws.Lines.{puts_line, puts_words}
 use Rattle.wirelist_lines.proofs.Laws.Fitting.{refusal_fits}
 use Rattle.wirelist_lines.proofs.write_refusal.Goals as goal
 
-slice-aggregate-put-bytes : tie.Need-slice-aggregate-put-bytes
-slice-aggregate-put-bytes c = search rules
-
 pub returns : goal.returns
 returns c =
     let a = c.args in

@@ -5,9 +5,6 @@ use Rattle.text.specs.Text.{ascii, decimal}
 use Rattle.wirelist_lines.proofs.Laws.Lines.{puts_line}
 use Rattle.wirelist_lines.proofs.write_steps.Goals as goal
 
-slice-aggregate-put-bytes : tie.Need-slice-aggregate-put-bytes
-slice-aggregate-put-bytes c = search rules
-
 pub returns : goal.returns
 returns c =
     puts_line (ascii "steps") (decimal c.args.steps ∷ []) c.put_bytes-named.ensures c.put_number-numbered.ensures c.put_byte.ensures

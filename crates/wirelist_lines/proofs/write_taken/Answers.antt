@@ -12,9 +12,6 @@ use Rattle.text.proofs.Laws.Writing.{puts_same}
 use Rattle.wirelist_lines.proofs.Laws.Lines.{puts_taken}
 use Rattle.wirelist_lines.proofs.write_taken.Goals as goal
 
-slice-aggregate-put-bytes : tie.Need-slice-aggregate-put-bytes
-slice-aggregate-put-bytes c = search rules
-
 pub put_words-requires : goal.put_words-requires
 put_words-requires c = record { from_bound = c.slots_from.ensures.upper_bound; count_bound = omega (arith, c.wires_in.ensures, few_in c.args.number) }
 

@@ -9,12 +9,6 @@ use Rattle.check_program.proofs.Laws.ProgramTypes.{file_possible, file_said}
 use borrow.Author.Rules.{rules}
 use Rattle.check_program.proofs.file.check_file.Goals as goal
 
-part-load-types-start : tie.Need-slice-bounds-load-types-start
-part-load-types-start c = search rules
-
-part-load-types-end : tie.Need-slice-bounds-load-types-end
-part-load-types-end c = search rules
-
 pub infer-found-requires : goal.infer-found-requires
 infer-found-requires c =
     let s = c.args in

@@ -6,9 +6,6 @@ use borrow.Author.Rules.{rules}
 use Rattle.machine_circuits.proofs.Laws.Outputs.{entries_of_lem, output_wires_lem, input_span, output_stands, output_count_lem}
 use Rattle.machine_circuits.proofs.tuples.write_outputs.Goals as goal
 
-slice-aggregate-write-type : tie.Need-slice-aggregate-write-type
-slice-aggregate-write-type c = search rules
-
 pub write_type-requires : goal.write_type-requires
 write_type-requires c =
     let n = c.args.number in record { count_in_bounds = omega (arith, c.saturating_sub-count.ensures, c.type_entries.ensures, entries_of_lem n); count_bound = omega (arith, c.saturating_sub-count.ensures, c.type_entries.type-inv, c.output_start-start.type-inv) }

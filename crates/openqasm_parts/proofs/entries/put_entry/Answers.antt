@@ -15,4 +15,4 @@ put_slot-requires-3 c = (c.requires.bound.4, omega (arith, c.requires.in_bounds.
 
 pub returns : goal.returns
 returns c =
-    let a = c.args in record { adds = one_added a.kinds.now a.entry a.kind c.requires.in_bounds.0; adds_slots = slots_added a.first a.second a.third c.put_slot.ensures c.put_slot-2.ensures c.put_slot-3.ensures }
+    let a = c.args in record { adds_kinds = one_added a.kinds.now a.entry a.kind c.requires.in_bounds.0; adds_slots = slots_added a.first a.second a.third c.put_slot.ensures c.put_slot-2.ensures c.put_slot-3.ensures }

@@ -6,9 +6,6 @@ use borrow.Author.Rules.{rules}
 use Rattle.rules.specs.PartsColumn.{parts_column, parts_at}
 use Rattle.rules.proofs.parts.parts_at.Goals as goal
 
-array-read-wide : tie.Need-array-read-wide
-array-read-wide c = search rules
-
 pub returns-then-place-lt-KINDS : goal.returns-then-place-lt-KINDS
 unfolding parts_at
 returns-then-place-lt-KINDS c = c.wide.ensures
