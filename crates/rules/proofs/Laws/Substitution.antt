@@ -294,14 +294,14 @@ weaken p e (by_label q o) = by_label (parameter_appends e q p) o
 weaken p e (by_gate q n d) = by_gate (parameter_appends e q p) n d
 weaken p e (by_unit q n) = by_unit (parameter_appends e q p) n
 weaken p e (by_circ q n w b h t) = by_circ (parameter_appends e q p) n w b h t
-weaken p e (by_abs b t) = by_abs b (weaken p (appends_next e) t)
+weaken {k = k} p e (by_abs b t) = by_abs b (weaken {k = suc k} p (appends_next e) t)
 weaken p e (by_app g s t u) =
     let r = splits_parameter_end p e g in by_app r.2 s (weaken p r.3 t) (weaken p r.4 u)
 weaken p e (by_tuple b g s t u) =
     let r = splits_parameter_end p e g in by_tuple b r.2 s (weaken p r.3 t) (weaken p r.4 u)
-weaken p e (by_let g s t u) =
+weaken {k = k} p e (by_let g s t u) =
     let r = splits_parameter_end p e g in
-    by_let r.2 s (weaken p r.3 t) (weaken p (appends_next (appends_next r.4)) u)
+    by_let r.2 s (weaken p r.3 t) (weaken {k = suc (suc k)} p (appends_next (appends_next r.4)) u)
 weaken p e (by_lift b q n t) = by_lift b (parameter_appends e q p) n (weaken p e t)
 weaken p e (by_force t) = by_force (weaken p e t)
 weaken p e (by_box w w' t) = by_box w w' (weaken p e t)
@@ -407,7 +407,7 @@ substitution e vs s (by_unit p n) =
     let q = appends_parameter e p in by_unit q.0 (no_label_whole n (values_parameter q.1 vs) s)
 substitution e vs s (by_circ p n w b h t) =
     let q = appends_parameter e p in by_circ q.0 (no_label_whole n (values_parameter q.1 vs) s) w b h t
-substitution e vs s (by_abs b t) = by_abs b (substitution (appends_next e) vs s t)
+substitution {k = k} e vs s (by_abs b t) = by_abs b (substitution {k = suc k} (appends_next e) vs s t)
 substitution e vs s (by_app g s' t u) =
     let b = appends_splits e g in
     let r = values_splits b.then_split vs in
@@ -420,12 +420,12 @@ substitution e vs s (by_tuple d g s' t u) =
     let q = splits_interchange s s' r.2 in
     by_tuple d b.first_split q.0 (substitution b.appends₁ r.3 q.1 t)
     (substitution b.appends₂ r.4 q.2 u)
-substitution e vs s (by_let g s' t u) =
+substitution {k = k} e vs s (by_let g s' t u) =
     let b = appends_splits e g in
     let r = values_splits b.then_split vs in
     let q = splits_interchange s s' r.2 in
     by_let b.first_split q.0 (substitution b.appends₁ r.3 q.1 t)
-    (substitution (appends_next (appends_next b.appends₂)) r.4 q.2 u)
+    (substitution {k = suc (suc k)} (appends_next (appends_next b.appends₂)) r.4 q.2 u)
 substitution e vs s (by_lift b p n t) =
     let q = appends_parameter e p in
     by_lift b q.0 (no_label_whole n (values_parameter q.1 vs) s) (substitution e vs s t)

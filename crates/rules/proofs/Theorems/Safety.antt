@@ -398,8 +398,11 @@ value_exit {C} {D = circuit I gs} {M} {P} {X} {K} E T N here r =
     (sym here)
     (_, box_exit r.0 E T N))
 
+box_has : {Q : LabelContext} {S T U : Ty} {M : Term} → [] ∣ Q ⊢ box S M ∶ Circ T U → IsTrue (is_wire_type U)
+box_has (by_box t u d) = u
+
 box_output : {Q : LabelContext} {T U : Ty} {M : Term} → [] ∣ Q ⊢ box T M ∶ Circ T U → IsTrue (is_wire_type U)
-box_output (by_box t u d) = u
+box_output = box_has
 
 -- 000, theorem 2.18, for stacked configurations: a typed program is finished or has a step.
 pub progress : {A : Ty} {c : Configuration} → ProgramHas A c → Finished c ⊎ ((d : Configuration) × (c ⟶ d))

@@ -24,6 +24,6 @@ pub returns-else-n-lt-GATES : goal.returns-else-n-lt-GATES
 returns-else-n-lt-GATES c =
     let a = c.args in
     ⊎_elim
-    (λ w. no_such_entry a.n a.i (search rules))
-    (λ w. no_such_gate a.n a.i w.left)
-    c.else-n-lt-GATES.branch
+    (λ w. no_such_entry a.n a.i w.1)
+    (λ w. no_such_gate a.n a.i w)
+    c.else-n-lt-GATES.either
