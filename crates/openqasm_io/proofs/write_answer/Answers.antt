@@ -12,4 +12,4 @@ returns-in-Refused c =
     let w = c.write_refusal.ensures in
     ends_refused c.in-Refused.is
     c.number_of_lem.ensures
-    c.place_of-place.ensures w.0 w.1
+    c.place_of-place.ensures w.written w.place_len_bound

@@ -5,7 +5,7 @@ use mathlib.Core.Path.{◌≡◌, sym, ◌∙◌}
 use mathlib.Core.Bool.{true}
 use borrow.Author.Tests.{not-true, not-false}
 use Rattle.program.specs.Sized.{sizes_fit}
-use Rattle.program.proofs.Laws.Reading.{Ranges, ranges, Start, too_short, wrong_sizes, wrong_length, right_length}
+use Rattle.program.proofs.Laws.Reading.{Ranges, ranges, Start, too_short_lem, wrong_sizes, wrong_length, right_length}
 use Rattle.program.proofs.Laws.Reading.{sizes_known}
 use Rattle.program.specs.declared.format.Sizes.{Sizes}
 use Rattle.program.proofs.read.Goals as goal
@@ -31,7 +31,7 @@ in_range c = ranges (sizes c.before.before) (fit c)
 
 pub returns-then-file-lt-SIZES : goal.returns-then-file-lt-SIZES
 returns-then-file-lt-SIZES c =
-    c.form.ensures ∙ too_short c.args.file.now c.if-file-lt-SIZES.true
+    c.form.ensures ∙ too_short_lem c.args.file.now c.if-file-lt-SIZES.true
 
 pub returns-then-not-sizes_fit : goal.returns-then-not-sizes_fit
 returns-then-not-sizes_fit c =

@@ -10,7 +10,7 @@ use Rattle.step_apply_circuit.proofs.has_room.Goals as goal
 pub returns-then-place-redex : goal.returns-then-place-redex
 returns-then-place-redex c =
     let a = c.args in
-    refuses (Room a.redex a.numbers a.size a.allowance) (λ room. omega (arith, c.if-place-redex.true, room.argument-before))
+    refuses (Room a.redex a.numbers a.size a.allowance) (λ room. omega (arith, c.if-place-redex.true, room.argument_before))
 
 pub returns-then-size-place : goal.returns-then-size-place
 returns-then-size-place c =
@@ -25,21 +25,21 @@ returns-then-place-redex-2 c =
 pub returns-then-redex-gt-NO_WIRE : goal.returns-then-redex-gt-NO_WIRE
 returns-then-redex-gt-NO_WIRE c =
     let a = c.args in
-    refuses (Room a.redex a.numbers a.size a.allowance) (λ room. omega (arith, c.if-redex-gt-NO_WIRE.true, room.few-made))
+    refuses (Room a.redex a.numbers a.size a.allowance) (λ room. omega (arith, c.if-redex-gt-NO_WIRE.true, room.few_made))
 
 pub returns-then-exceed : goal.returns-then-exceed
 returns-then-exceed c =
     let a = c.args in
     let sum = a.redex.at + a.redex.nodes + (a.size - a.numbers.place.right) in
     refuses (Room a.redex a.numbers a.size a.allowance)
-    (λ room. omega (arith, above c.exceed.result most_nodes sum c.exceed.ensures c.if-exceed.true, room.nodes-fit))
+    (λ room. omega (arith, above c.exceed.result most_nodes sum c.exceed.ensures c.if-exceed.true, room.nodes_fit))
 
 pub returns-then-exceed-2 : goal.returns-then-exceed-2
 returns-then-exceed-2 c =
     let a = c.args in
     let sum = a.numbers.counts.gates + a.numbers.counts.kept + a.redex.gates in
     refuses (Room a.redex a.numbers a.size a.allowance)
-    (λ room. omega (arith, above c.exceed-2.result a.allowance sum c.exceed-2.ensures c.if-exceed-2.true, room.gates-fit))
+    (λ room. omega (arith, above c.exceed-2.result a.allowance sum c.exceed-2.ensures c.if-exceed-2.true, room.gates_fit))
 
 pub returns : goal.returns
 returns c =

@@ -40,7 +40,7 @@ write_application-wires-requires c =
     let h =
     fits_known (nodes_in a.nodes.now) (quadwords_in a.stack.now) (words a.types.now) a.numbers.place
     c.measure-measured.result e c.measure-measured.ensures c.decreases.given.1 in
-    (omega (arith, h.body-ends, h.apart), omega (arith, h.new-end, h.inside))
+    (omega (arith, h.body_ends, h.apart), omega (arith, h.new_end, h.inside))
 
 pub put_frame-requires : goal.put_frame-requires
 put_frame-requires c =

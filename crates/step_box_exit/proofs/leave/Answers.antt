@@ -12,7 +12,7 @@ pub put_constant-requires : goal.put_constant-requires
 put_constant-requires c =
     let exit = c.exit_at-exit.ensures in
     let start = c in
-    (search rules, (search rules, omega (arith, exit.gates-are, c.requires)))
+    (search rules, (search rules, omega (arith, exit.gates_are, c.requires)))
 
 pub returns : goal.returns
 returns c =

@@ -8,7 +8,7 @@ use lib.ListN.{length, get_or, drop}
 use borrow.Author.Rules.{rules}
 use Rattle.words.specs.Words.{words}
 use Rattle.rules.specs.Parts.{parts_of_kind}
-use Rattle.rules.proofs.Laws.Parts.{at_most_two}
+use Rattle.rules.proofs.Laws.Parts.{at_most_two_lem}
 use Rattle.machine_nodes.proofs.Laws.Spans.{none_waiting, one_more, run_out}
 use Rattle.machine_circuits.specs.Tuples.{code_span, codes_of}
 use Rattle.machine_circuits.proofs.tuples.type_end.Goals as goal
@@ -31,7 +31,7 @@ overflow_sub-waiting c = omega (arith, c.if-parts-gt0.true)
 pub overflow_add-waiting : goal.overflow_add-waiting
 overflow_add-waiting c =
     let s = c.loop-i.invariant in
-    omega (arith, s.1, s.2, c.loop-i-test.true, c.parts_of_kind-parts.ensures, at_most_two c.Code-in.result)
+    omega (arith, s.1, s.2, c.loop-i-test.true, c.parts_of_kind-parts.ensures, at_most_two_lem c.Code-in.result)
 
 pub overflow_add-i : goal.overflow_add-i
 overflow_add-i c =
@@ -51,7 +51,7 @@ loop-i-preserved-then-parts-gt0 c =
     = c.parts_of_kind-parts.ensures ∙ ap parts_of_kind (c.Code-in.ensures inside) in (
       s.invariant.0,
       s.invariant.1,
-      omega (arith, s.invariant.2, c.parts_of_kind-parts.ensures, at_most_two c.Code-in.result),
+      omega (arith, s.invariant.2, c.parts_of_kind-parts.ensures, at_most_two_lem c.Code-in.result),
       sym (passed cs s.i s.waiting (s.waiting + (c.parts_of_kind-parts.result - 1) + 1) inside (omega (arith, c.if-parts-gt0.true, parts)))
           ∙ s.invariant.3,
     )

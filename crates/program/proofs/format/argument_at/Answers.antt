@@ -20,4 +20,4 @@ unfolding argument_at
 returns c =
     let a = c.args in
     let number = c.word_at.ensures in
-    record { value = number.0 ∙ ap (λ n. word_at a.file.now (6 + n + 2 * a.e)) c.entry_count.ensures.value; upper_bound = number.1 }
+    record { value = number.value ∙ ap (λ n. word_at a.file.now (6 + n + 2 * a.e)) c.entry_count.ensures.value; upper_bound = number.upper_bound }

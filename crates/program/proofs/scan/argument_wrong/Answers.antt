@@ -19,6 +19,6 @@ returns c =
       c.rule_allows.ensures,
       rule,
       c.argument_at-a.ensures.value,
-      sized.labels-are,
+      sized.labels_are,
       sized.types_are,
     )

@@ -16,7 +16,7 @@ scope_parts-requires c =
     let is = c.kind_at-kind.ensures.value in (
       c.shape_at-shape.ensures ∙ shape_is sized c.args.e is,
       is,
-      omega (arith, c.requires.1, c.requires.2, sized.labels-fit, sized.types-fit, sized.terms-fit),
+      omega (arith, c.requires.1, c.requires.2, sized.labels_fit, sized.types_fit, sized.terms_fit),
     )
 
 pub returns-in-TypeEnd : goal.returns-in-TypeEnd
