@@ -1,4 +1,5 @@
 -- `check_types::load_gates` meets its contract: the invariant: the types of the gates below g are loaded. Assumes nothing.
+use Rattle.rules.specs.Kinds.{qubit_kind, unit_kind}
 use Prim.Native.Nat.{◌+◌, ◌-◌, ◌≤◌, ℕ}
 use native.Mathlib.Omega.{arith}
 use mathlib.Core.Path.{◌≡◌, refl, ◌∙◌, ap, ap₂}

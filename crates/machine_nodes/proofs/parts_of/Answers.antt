@@ -1,5 +1,6 @@
 -- `machine_nodes::parts_of` meets its contract: numbers below the table, the kinds of the table, a circuit constant, every other
 -- number. Assumes nothing.
+use Rattle.machine_terms.proofs.Laws.Kinds.{parts_inside, parts_below, parts_above}
 use native.Mathlib.Omega.{arith}
 use mathlib.Core.Path.{sym, ◌∙◌, ap}
 use borrow.Author.Rules.{rules}

@@ -1,4 +1,5 @@
 -- `program::format::term_rule` meets its contract: first the arms of one kind, then that of a range, then every other kind.
+use Rattle.rules.specs.Kinds.{variable_kind, label_kind, abstraction_kind, box_kind, apply_kind, gate_kind_lem, unit_value_kind}
 use native.Mathlib.Omega.{arith}
 use Prim.Native.Nat.{ℕ, ◌≤◌, ◌<◌}
 use mathlib.Core.Path.{◌≡◌, sym, ap}

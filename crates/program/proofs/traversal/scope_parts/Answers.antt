@@ -1,4 +1,5 @@
 -- `program::traversal::scope_parts` meets its contract.
+use Rattle.rules.specs.Kinds.{variable_kind, abstraction_kind, let_kind}
 use borrow.Author.Rules.{rules}
 use borrow.Author.Tests.{lt-ltb, le-ltb, ne_eqb}
 use Prim.Native.Nat.{ℕ, ◌+◌}

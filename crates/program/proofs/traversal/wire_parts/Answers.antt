@@ -1,4 +1,5 @@
 -- `program::traversal::wire_parts` meets its contract.
+use Rattle.rules.specs.Kinds.{pair_type_kind, unit_kind}
 use native.Mathlib.Omega.{arith}
 use Prim.Native.Nat.{ℕ, ◌≤◌}
 use mathlib.Core.Path.{◌≡◌, refl, sym, ap, ◌∙◌}
