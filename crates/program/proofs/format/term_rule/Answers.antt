@@ -42,7 +42,7 @@ returns-in-27 c = rw c.in-27.is
 
 pub returns-in-19-to-23 : goal.returns-in-19-to-23
 returns-in-19-to-23 c =
-    let others = c.in_default-1.rest in
+    let others = c.in_default-1.in_default-own.rest in
     let from17 = above variable_kind c.if-kind-lt16.false others.0.0.0.0.0.0.1 in
     let from18 = above label_kind from17 others.0.0.0.0.0.1 in
     let from19 = above abstraction_kind from18 others.0.0.0.0.1 in
@@ -53,7 +53,7 @@ returns-in_default c = sym (ap rule_of (no_terms_below c.args.kind (omega arith)
 
 pub returns-in_default-2 : goal.returns-in_default-2
 returns-in_default-2 c =
-    let others = c.in_default-1.rest in
+    let others = c.in_default-1.in_default-own.rest in
     let from25 = above box_kind c.if-kind-lt24.false others.0.0.0.1 in
     let from26 = above apply_kind from25 others.0.0.1 in
     let from27 = above gate_kind_lem from26 others.0.1 in

@@ -104,6 +104,6 @@ returns-in-21 c =
 pub returns-in_default : goal.returns-in_default
 returns-in_default c =
     let start = c in
-    let others = c.in_default.rest in
+    let others = c.in_default.in_default-own.rest in
     other c.args.file.now c.args.e c.args.binders c.requires.1
     others.0.0.1 others.0.1 others.1 c.requires.0 c.parts_of.ensures

@@ -39,4 +39,4 @@ returns-in-0-to-2 c =
 pub returns-in_default : goal.returns-in_default
 returns-in_default c =
     let kind = c.args.kind in
-    rw (lt-leb kind 1 (omega arith), ne_eqb kind 2 (λ e. omega (arith, e)), ne_eqb _ _ c.in_default-1.rest.1)
+    rw (lt-leb kind 1 (omega arith), ne_eqb kind 2 (λ e. omega (arith, e)), ne_eqb _ _ c.in_default-1.in_default-own.rest.1)

@@ -27,7 +27,7 @@ not-reached Out tag is = false≢true is
 pub returns-in_default : goal.returns-in_default
 returns-in_default c =
     let start = c in
-    let stuck = not-reached c.traverse.result c.in_default.keys2 in
+    let stuck = not-reached c.traverse.result c.in_default.in_default-own.keys2 in
     circ_first c.requires.0 c.args.e stuck c.traverse.ensures
 
 pub returns : goal.returns
