@@ -52,7 +52,7 @@ put_frame-requires c =
     h.deep
 
 pub numbers_after-requires : goal.numbers_after-requires
-numbers_after-requires c = omega (arith, c.if-frames-counts.false, c.well-formed.1.1.1.0)
+numbers_after-requires c = omega (arith, c.if-frames-counts.false, c.well_formed.1.1.1.0)
 
 pub returns : goal.returns
 returns c = λ gs cs results allowance.
