@@ -1,9 +1,8 @@
 -- `listing_check::wires::make_inputs` meets its contract. The loop's invariant: the first inputs are made, the others are left.
-use Prim.Native.Nat.{◌-◌, ◌≤◌, ◌<◌}
+use Prim.Native.Nat.{◌-◌, ◌<◌}
 use native.Mathlib.Omega.{arith}
 use mathlib.Core.Path.{◌≡◌, refl, ◌∙◌, ap, subst}
 use mathlib.Core.List.{[]}
-use lib.ListN.{length}
 use mathlib.Core.Option.{some}
 use Rattle.listing.specs.Reading.{input_count, kind_at, input_type, inputs_from, inputs_of}
 use Rattle.wire_table.specs.Table.{wire_byte}

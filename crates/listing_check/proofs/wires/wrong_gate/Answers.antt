@@ -1,6 +1,6 @@
 -- `listing_check::wires::wrong_gate` meets its contract. The loop's invariant: the first gates took their wires rightly, and the table
 -- has the wires that are there after them.
-use Prim.Native.Nat.{◌+◌, ◌-◌, ◌≤◌, ◌<◌}
+use Prim.Native.Nat.{◌+◌, ◌≤◌, ◌<◌}
 use native.Mathlib.Omega.{arith}
 use mathlib.Core.Path.{◌≡◌, refl, ◌∙◌, ap, subst}
 use mathlib.Core.List.{◌++◌}
@@ -9,9 +9,9 @@ use borrow.Author.Tests.{not-true, not-false}
 use Rattle.rules.specs.Gates.{gate_type, gate_outputs, input_wires, wires_in, wires_out}
 use Rattle.rules.specs.Circuits.{outputs, taken}
 use Rattle.words.specs.Numbers.{words_at}
-use Rattle.listing.specs.Reading.{input_count, gate_count, kind_at, slots_from, inputs_of, first_gates}
+use Rattle.listing.specs.Reading.{input_count, gate_count, kind_at, inputs_of, first_gates}
 use Rattle.wire_table.specs.Table.{TakesAll, MakesAll}
-use Rattle.listing_check.proofs.Laws.Wires.{GatesSoFar, GateTakes, gates_start, gate_right, gate_wrong, gates_end, few_made, one_more_gate}
+use Rattle.listing_check.proofs.Laws.Wires.{GateTakes, gates_start, gate_right, gate_wrong, gates_end, few_made, one_more_gate}
 use borrow.Author.Rules.{rules}
 use Rattle.listing_check.proofs.wires.wrong_gate.Goals as goal
 
