@@ -1,4 +1,5 @@
 -- `check_types::box_parts` meets its contract: one law for each test. Assumes nothing.
+use Rattle.rules.specs.Kinds.{function_kind}
 use mathlib.Core.Path.{◌≡◌, refl, sym, ◌∙◌, ap, subst, subst₂}
 use borrow.Author.Tests.{not-true, not-false}
 use Rattle.words.specs.Words.{words}

@@ -5,4 +5,4 @@ use borrow.Author.Rules.{rules}
 use Rattle.check_types.proofs.is_copyable.Goals as goal
 
 pub returns : goal.returns
-returns c = λ n A d. c.cell_copyable.ensures ∙ (cell_of d).may-be-copied
+returns c = λ n A d. c.cell_copyable.ensures ∙ (cell_of d).may_be_copied

@@ -1,3 +1,4 @@
+use Rattle.rules.specs.Kinds.{qubit_kind, unit_kind}
 use Prim.Native.Nat.{◌+◌, ◌-◌, ◌≤◌, ℕ}
 use native.Mathlib.Omega.{arith}
 use mathlib.Core.Path.{◌≡◌, refl, ◌∙◌, ap, ap₂}
