@@ -1,7 +1,6 @@
 -- `check_types::is_copyable` meets its contract: a cell says whether its type may be copied. Assumes nothing.
 use mathlib.Core.Path.{◌∙◌}
 use Rattle.check_types.proofs.Laws.Cells.{cell_of}
-use borrow.Author.Rules.{rules}
 use Rattle.check_types.proofs.is_copyable.Goals as goal
 
 pub returns : goal.returns

@@ -2,7 +2,6 @@
 use Prim.Native.Nat.{◌+◌, ◌*◌}
 use native.Mathlib.Omega.{arith}
 use mathlib.Core.Path.{sym, ap, ◌∙◌}
-use borrow.Author.Rules.{rules}
 use Rattle.words.specs.Numbers.{word_at}
 use Rattle.words.proofs.Laws.Numbers.{number_past}
 use Rattle.program.specs.Format.{entry_count, argument_at}
