@@ -1,6 +1,5 @@
 -- `openqasm_export::check_export` meets its contract. Assumes nothing.
 use Rattle.openqasm_export.proofs.Laws.Answering.{core_answer, checked_written, checked_unwritten, checked_refused}
-use borrow.Author.Rules.{rules}
 use Rattle.openqasm_export.proofs.check_export.Goals as goal
 
 pub returns-then-entry-gt0 : goal.returns-then-entry-gt0

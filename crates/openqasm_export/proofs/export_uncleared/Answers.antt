@@ -6,7 +6,6 @@ use Rattle.listing_check.specs.Answers.{most_wires}
 use native.Mathlib.Omega.{arith}
 use Rattle.openqasm_export.proofs.Laws.Answering.{accepted_whole, is_sound, exported, declined}
 use Rattle.openqasm_export.proofs.Laws.Statements.{export_accepted}
-use borrow.Author.Rules.{rules}
 use Rattle.openqasm_export.proofs.export_uncleared.Goals as goal
 
 pub returns-in-Accepted : goal.returns-in-Accepted
@@ -17,10 +16,12 @@ returns-in-Accepted c =
     let is = c.check_export.ensures c.requires.1 in
     let accepted = c.in-Accepted.is in
     let long : most_wires ≤ length c.check_export.new.work = omega (arith, c.requires.1, c.check_export.auto.work) in
-    exported b small is accepted c.requires.0 (c.write_text.ensures (accepted_whole b _ (is_sound b small is accepted) long) (export_accepted b (sym is ∙ accepted)).1)
+    let r = exported b small is accepted c.requires.0 (c.write_text.ensures (accepted_whole b _ (is_sound b small is accepted) long) (export_accepted b (sym is ∙ accepted)).1) in
+    record { value = r.0; out_after = r.1 }
 
 pub returns-in-Refused : goal.returns-in-Refused
 returns-in-Refused c =
     let a = c.args in
     let b = a.listing.now in
-    declined b (λ j. (c.type_inv.listing j).fits) (c.check_export.ensures c.requires.1) a.out.now record { value = c.in-Refused.is.0; out_after = c.in-Refused.is.1 }
+    let r = declined b (λ j. (c.type_inv.listing j).fits) (c.check_export.ensures c.requires.1) a.out.now c.in-Refused.is in
+    record { value = r.0; out_after = r.1 }

@@ -1,6 +1,6 @@
 -- `openqasm_export::write_gates` meets its contract. Assumes nothing.
 use borrow.Author.Rules.{rules}
-use Prim.Native.Nat.{ℕ, ◌+◌, ◌-◌, ◌/◌, ◌≤◌, ◌<◌}
+use Prim.Native.Nat.{ℕ, ◌+◌, ◌/◌, ◌≤◌, ◌<◌}
 use native.Mathlib.Omega.{arith}
 use mathlib.Core.Path.{◌≡◌, refl, ◌∙◌, ap, ap₂, subst}
 use mathlib.Core.List.{[], ◌∷◌, ◌++◌, map}
@@ -9,11 +9,11 @@ use Rattle.rules.specs.Gates.{wires_in, wires_out}
 use Rattle.words.specs.Numbers.{words_at}
 use Rattle.text.specs.Writing.{Puts}
 use Rattle.listing.specs.Listing.{entry_slots}
-use Rattle.listing.specs.Reading.{input_count, gate_count, kind_at, slots_from, inputs_of, first_gates}
+use Rattle.listing.specs.Reading.{input_count, gate_count, kind_at, inputs_of, first_gates}
 use Rattle.listing_check.proofs.Laws.Wires.{few_made}
 use Rattle.openqasm.specs.Layout.{gate_line}
 use Rattle.openqasm_export.specs.Places.{places_of, Begins, kept_places}
-use Rattle.openqasm_export.proofs.Laws.Writing.{GatesWritten, gates_start, places_made, gate_next, gates_end}
+use Rattle.openqasm_export.proofs.Laws.Writing.{gates_start, places_made, gate_next, gates_end}
 use Rattle.openqasm_export.proofs.write_gates.Goals as goal
 
 pub loop-i-init : goal.loop-i-init
@@ -86,4 +86,7 @@ pub shape_of-text : goal.shape_of-text
 shape_of-text c = c.loop-i.invariant.2
 
 pub returns : goal.returns
-returns c = let a = c.args in gates_end a.listing.now a.text.now a.at c.loop-i.invariant.4 (omega (arith, c.loop-i.invariant.0, c.loop-i-test.false, c.gate_count-gates.ensures.value))
+returns c =
+    let a = c.args in
+    let r = gates_end a.listing.now a.text.now a.at c.loop-i.invariant.4 (omega (arith, c.loop-i.invariant.0, c.loop-i-test.false, c.gate_count-gates.ensures.value)) in
+    record { puts = r.0; begins = r.1 }

@@ -1,17 +1,17 @@
 -- `openqasm_export::write_inputs` meets its contract. Assumes nothing.
 use borrow.Author.Rules.{rules}
-use Prim.Native.Nat.{◌+◌, ◌-◌, ◌*◌, ◌≤◌, ◌<◌}
+use Prim.Native.Nat.{◌+◌, ◌*◌, ◌<◌}
 use native.Mathlib.Omega.{arith}
 use mathlib.Core.Path.{◌≡◌, refl, sym, ◌∙◌, ap, subst}
 use mathlib.Core.List.{[], ◌∷◌, ◌++◌}
-use lib.ListN.{length, set}
+use lib.ListN.{set}
 use Rattle.rules.specs.Types.{wire_code}
 use Rattle.text.specs.Writing.{Puts}
 use Rattle.listing.specs.Reading.{input_count, kind_at, input_type}
 use Rattle.openqasm.specs.Layout.{declaration}
 use Rattle.openqasm_export.specs.Places.{Begins}
 use Rattle.openqasm_export.proofs.Laws.Places.{begins_more}
-use Rattle.openqasm_export.proofs.Laws.Writing.{InputsWritten, inputs_start, inputs_next, inputs_end}
+use Rattle.openqasm_export.proofs.Laws.Writing.{inputs_start, inputs_next, inputs_end}
 use Rattle.openqasm_export.proofs.write_inputs.Goals as goal
 
 pub loop-i-init : goal.loop-i-init
@@ -53,4 +53,7 @@ pub shape_of-text : goal.shape_of-text
 shape_of-text c = c.loop-i.invariant.2
 
 pub returns : goal.returns
-returns c = let a = c.args in inputs_end a.listing.now a.text.now a.at c.loop-i.invariant.3 (omega (arith, c.loop-i-test.false, c.input_count-count.ensures.value))
+returns c =
+    let a = c.args in
+    let r = inputs_end a.listing.now a.text.now a.at c.loop-i.invariant.3 (omega (arith, c.loop-i-test.false, c.input_count-count.ensures.value)) in
+    record { puts = r.0; begins = r.1 }

@@ -1,16 +1,7 @@
-use borrow.Author.Rules.{rules}
-use Prim.Native.Nat.{◌+◌, ◌-◌, ◌*◌, ◌≤◌, ◌<◌}
-use native.Mathlib.Omega.{arith}
-use mathlib.Core.Path.{◌≡◌, refl, sym, ◌∙◌, ap, subst}
-use mathlib.Core.List.{[], ◌∷◌, ◌++◌}
-use lib.ListN.{length, set}
-use Rattle.rules.specs.Types.{wire_code}
-use Rattle.text.specs.Writing.{Puts}
-use Rattle.listing.specs.Reading.{input_count, kind_at, input_type}
-use Rattle.openqasm.specs.Layout.{declaration}
-use Rattle.openqasm_export.specs.Places.{Begins}
-use Rattle.openqasm_export.proofs.Laws.Places.{begins_more}
-use Rattle.openqasm_export.proofs.Laws.Writing.{InputsWritten, inputs_start, inputs_next, inputs_end}
+use Prim.Native.Nat.{◌-◌, ◌≤◌}
+use mathlib.Core.Path.{◌≡◌}
+use lib.ListN.{length}
+use Rattle.openqasm_export.proofs.Laws.Writing.{InputsWritten}
 use Rattle.openqasm_export.proofs.write_inputs.Given as goal
 
 abbrev pub invariant-loop-i : goal.invariant-loop-i

@@ -1,14 +1,12 @@
 -- `openqasm_export::write_names` meets its contract. Assumes nothing.
 use borrow.Author.Rules.{rules}
-use Prim.Native.Nat.{◌+◌, ◌-◌, ◌*◌, ◌≤◌, ◌<◌}
+use Prim.Native.Nat.{◌+◌, ◌*◌, ◌<◌}
 use native.Mathlib.Omega.{arith}
-use mathlib.Core.Path.{◌≡◌, refl, ◌∙◌, ap}
-use lib.ListN.{length, get_or}
+use mathlib.Core.Path.{refl, ◌∙◌, ap}
+use lib.ListN.{get_or}
 use Rattle.words.specs.Numbers.{word_at}
-use Rattle.listing.specs.Reading.{output_count, inputs_of, gates_of}
-use Rattle.openqasm.specs.Layout.{AllWritten}
-use Rattle.openqasm_export.specs.Places.{places_of, Begins}
-use Rattle.openqasm_export.proofs.Laws.Writing.{OutputsWritten, outputs_start, outputs_next, outputs_end}
+use Rattle.listing.specs.Reading.{output_count}
+use Rattle.openqasm_export.proofs.Laws.Writing.{outputs_start, outputs_next, outputs_end}
 use Rattle.openqasm_export.proofs.write_names.Goals as goal
 
 pub loop-j-init : goal.loop-j-init

@@ -1,13 +1,10 @@
-use borrow.Author.Rules.{rules}
-use Prim.Native.Nat.{◌+◌, ◌-◌, ◌*◌, ◌≤◌, ◌<◌}
-use native.Mathlib.Omega.{arith}
-use mathlib.Core.Path.{◌≡◌, refl, ◌∙◌, ap}
-use lib.ListN.{length, get_or}
-use Rattle.words.specs.Numbers.{word_at}
-use Rattle.listing.specs.Reading.{output_count, inputs_of, gates_of}
+use Prim.Native.Nat.{◌-◌, ◌≤◌}
+use mathlib.Core.Path.{◌≡◌}
+use lib.ListN.{length}
+use Rattle.listing.specs.Reading.{inputs_of, gates_of}
 use Rattle.openqasm.specs.Layout.{AllWritten}
 use Rattle.openqasm_export.specs.Places.{places_of, Begins}
-use Rattle.openqasm_export.proofs.Laws.Writing.{OutputsWritten, outputs_start, outputs_next, outputs_end}
+use Rattle.openqasm_export.proofs.Laws.Writing.{OutputsWritten}
 use Rattle.openqasm_export.proofs.write_names.Given as goal
 
 abbrev pub invariant-loop-j : goal.invariant-loop-j

@@ -1,6 +1,5 @@
 -- `openqasm_export::write_outputs` meets its contract. Assumes nothing.
 use Rattle.openqasm_export.proofs.Laws.Writing.{puts_outputs}
-use borrow.Author.Rules.{rules}
 use Rattle.openqasm_export.proofs.write_outputs.Goals as goal
 
 pub returns : goal.returns

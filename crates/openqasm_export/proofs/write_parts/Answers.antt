@@ -1,7 +1,6 @@
 -- `openqasm_export::write_parts` meets its contract. Assumes nothing.
 use Rattle.listing_check.proofs.Laws.Wires.{whole_kept}
 use Rattle.openqasm_export.proofs.Laws.Writing.{puts_text}
-use borrow.Author.Rules.{rules}
 use Rattle.openqasm_export.proofs.write_parts.Goals as goal
 
 pub write_inputs-declared-requires : goal.write_inputs-declared-requires

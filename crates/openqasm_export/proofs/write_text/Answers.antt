@@ -2,7 +2,6 @@
 use native.Mathlib.Omega.{arith}
 use lib.ListN.{length}
 use Rattle.openqasm_export.proofs.Laws.Places.{begins_none}
-use borrow.Author.Rules.{rules}
 use Rattle.openqasm_export.proofs.write_text.Goals as goal
 
 pub returns-then-table-lt-LEAST_WORK : goal.returns-then-table-lt-LEAST_WORK

@@ -1,7 +1,6 @@
 -- `openqasm_import::accepts` meets its contract. Assumes nothing.
 use mathlib.Core.Path.{sym, ◌∙◌, ap}
 use Rattle.openqasm_import.specs.Answers.{is_accepted}
-use borrow.Author.Rules.{rules}
 use Rattle.openqasm_import.proofs.accepts.Goals as goal
 
 pub returns-in-Accepted : goal.returns-in-Accepted

@@ -3,14 +3,13 @@ use mathlib.Core.Path.{◌∙◌, ap}
 use lib.ListN.{replicate}
 use Rattle.openqasm_import.proofs.Theorems.Imports.{import_means}
 use Rattle.openqasm_import.proofs.Laws.Answering.{short_answered, all_long, long_answered}
-use borrow.Author.Rules.{rules}
 use Rattle.openqasm_import.proofs.import.Goals as goal
 
 pub returns-then-out-slots : goal.returns-then-out-slots
 returns-then-out-slots c =
     let a = c.args in
     let short = short_answered a.text.now a.out.now a.slots.now a.listing.now a.table.now a.exported.now c.if-out-slots.true c.refused.ensures in
-    (short.0, (short.1, import_means a.text.now))
+    record { answer = short.0; bytes = short.1; meaning = import_means a.text.now }
 
 pub import_uncleared-answer-requires : goal.import_uncleared-answer-requires
 import_uncleared-answer-requires c = let a = c.args in all_long a.text.now a.out.now a.slots.now a.listing.now a.table.now a.exported.now c.if-out-slots.false
@@ -25,4 +24,4 @@ returns c =
     (c.clear-2.ensures ∙ ap (λ n. replicate n 0) u.auto.listing)
     (c.clear-3.ensures ∙ ap (λ n. replicate n 0) u.auto.table)
     (c.clear-4.ensures ∙ ap (λ n. replicate n 0) u.auto.exported) in
-    (long.0, (long.1, import_means a.text.now))
+    record { answer = long.0; bytes = long.1; meaning = import_means a.text.now }

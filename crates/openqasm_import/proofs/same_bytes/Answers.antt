@@ -1,10 +1,8 @@
 -- `openqasm_import::same_bytes` meets its contract. Assumes nothing.
 use borrow.Author.Rules.{rules}
-use Prim.Native.Nat.{◌-◌, ◌≤◌}
 use native.Mathlib.Omega.{arith}
-use mathlib.Core.Path.{◌≡◌, refl}
-use lib.ListN.{length}
-use Rattle.openqasm_import.proofs.Laws.Comparing.{other_lengths, Comparing, compare_next, compare_end}
+use mathlib.Core.Path.{refl}
+use Rattle.openqasm_import.proofs.Laws.Comparing.{other_lengths, compare_next, compare_end}
 use Rattle.openqasm_import.proofs.same_bytes.Goals as goal
 
 pub returns-then-text-exported : goal.returns-then-text-exported

@@ -1,9 +1,7 @@
-use borrow.Author.Rules.{rules}
 use Prim.Native.Nat.{◌-◌, ◌≤◌}
-use native.Mathlib.Omega.{arith}
-use mathlib.Core.Path.{◌≡◌, refl}
+use mathlib.Core.Path.{◌≡◌}
 use lib.ListN.{length}
-use Rattle.openqasm_import.proofs.Laws.Comparing.{other_lengths, Comparing, compare_next, compare_end}
+use Rattle.openqasm_import.proofs.Laws.Comparing.{Comparing}
 use Rattle.openqasm_import.proofs.same_bytes.Given as goal
 
 abbrev pub invariant-loop-i : goal.invariant-loop-i

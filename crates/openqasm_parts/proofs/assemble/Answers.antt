@@ -4,7 +4,6 @@ use native.Mathlib.Omega.{arith}
 use lib.ListN.{length-take}
 use Rattle.listing.specs.Listing.{entry_slots}
 use Rattle.openqasm_parts.proofs.Laws.Stored.{puts_listing}
-use borrow.Author.Rules.{rules}
 use Rattle.openqasm_parts.proofs.assemble.Goals as goal
 
 pub slice_bounds-put_bytes-end : goal.slice_bounds-put_bytes-end

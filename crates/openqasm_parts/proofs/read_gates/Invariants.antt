@@ -1,13 +1,8 @@
-use borrow.Author.Rules.{rules}
 use Prim.Native.Nat.{◌-◌, ◌≤◌}
-use native.Mathlib.Omega.{arith}
-use mathlib.Core.Path.{◌≡◌, refl, sym, ◌∙◌, subst}
+use mathlib.Core.Path.{◌≡◌}
 use lib.ListN.{length}
-use borrow.Author.Tests.{not-true, not-false}
 use Rattle.rules.specs.Sizes.{most_labels, most_gates}
 use Rattle.openqasm_parts.specs.Stored.{GatesRead}
-use Rattle.openqasm_parts.proofs.Laws.Registers.{wires_taken_lem}
-use Rattle.openqasm_parts.proofs.Laws.Stored.{gates_start, gate_next, gates_stop}
 use Rattle.openqasm_parts.proofs.read_gates.Given as goal
 
 abbrev pub invariant-loop-i : goal.invariant-loop-i

@@ -1,12 +1,8 @@
-use borrow.Author.Rules.{rules}
 use Prim.Native.Nat.{◌-◌, ◌≤◌}
-use native.Mathlib.Omega.{arith}
-use mathlib.Core.Path.{◌≡◌, refl, sym, ◌∙◌, subst}
+use mathlib.Core.Path.{◌≡◌}
 use lib.ListN.{length}
-use borrow.Author.Tests.{not-true, not-false}
 use Rattle.rules.specs.Sizes.{most_labels}
 use Rattle.openqasm_parts.specs.Stored.{InputsRead}
-use Rattle.openqasm_parts.proofs.Laws.Stored.{inputs_start, input_next, inputs_stop}
 use Rattle.openqasm_parts.proofs.read_inputs.Given as goal
 
 abbrev pub invariant-loop-i : goal.invariant-loop-i

@@ -1,15 +1,13 @@
 -- `openqasm_parts::read_outputs` meets its contract. Assumes nothing.
 use borrow.Author.Rules.{rules}
-use Prim.Native.Nat.{ℕ, ◌-◌, ◌≤◌}
+use Prim.Native.Nat.{◌-◌}
 use native.Mathlib.Omega.{arith}
 use mathlib.Core.Path.{◌≡◌, refl, ap, ◌∙◌, subst}
-use mathlib.Core.List.{List}
 use lib.Dec.{eqb}
-use lib.ListN.{length}
 use borrow.Author.Tests.{ne_eqb}
 use Rattle.rules.specs.Sizes.{most_labels, most_gates}
 use Rattle.listing.specs.Listing.{most_outputs}
-use Rattle.openqasm_parts.specs.Stored.{GatesRead, OutputsRead}
+use Rattle.openqasm_parts.specs.Stored.{OutputsRead}
 use Rattle.openqasm_parts.proofs.Laws.Stored.{puts_word, outputs_start, output_next, outputs_stop}
 use Rattle.openqasm_parts.proofs.read_outputs.Goals as goal
 

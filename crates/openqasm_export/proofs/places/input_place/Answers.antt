@@ -5,7 +5,6 @@ use mathlib.Core.Bool.{cond}
 use Prim.Native.Nat.{◌+◌, ◌*◌}
 use borrow.Author.Tests.{eq-eqb, ne_eqb}
 use Rattle.rules.specs.Types.{Bit, Qubit, wire_code}
-use borrow.Author.Rules.{rules}
 use Rattle.openqasm_export.proofs.places.input_place.Goals as goal
 
 pub returns-then-kind-eq-BIT_INPUT : goal.returns-then-kind-eq-BIT_INPUT

@@ -1,7 +1,6 @@
 -- `openqasm_export::places::keep_place` meets its contract. Assumes nothing.
 use native.Mathlib.Omega.{arith}
 use Rattle.openqasm_export.proofs.Laws.Places.{kept_none, none_made, kept_one, one_made}
-use borrow.Author.Rules.{rules}
 use Rattle.openqasm_export.proofs.places.keep_place.Goals as goal
 
 pub returns-then-codes-eq0 : goal.returns-then-codes-eq0

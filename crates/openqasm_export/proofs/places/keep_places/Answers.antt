@@ -8,7 +8,6 @@ use Rattle.rules.specs.Gates.{gate_outputs}
 use Rattle.rules.specs.GateCodes.{made_code}
 use Rattle.openqasm_export.specs.Places.{place_bytes}
 use Rattle.openqasm_export.proofs.Laws.Places.{begins_same, quarter, kept_all, all_made, length_kept}
-use borrow.Author.Rules.{rules}
 use Rattle.openqasm_export.proofs.places.keep_places.Goals as goal
 
 pub keep_place-two-requires : goal.keep_place-two-requires

@@ -3,7 +3,6 @@ use native.Mathlib.Omega.{arith}
 use mathlib.Core.Path.{sym, ◌∙◌, ap}
 use lib.ListN.{get_or}
 use Rattle.openqasm_export.proofs.Laws.Places.{word_mapped, none_mapped}
-use borrow.Author.Rules.{rules}
 use Rattle.openqasm_export.proofs.places.place_at.Goals as goal
 
 pub returns-then-slot-count : goal.returns-then-slot-count

@@ -4,7 +4,6 @@ use mathlib.Core.Path.{◌≡◌, sym, ◌∙◌, ap}
 use mathlib.Core.Bool.{cond}
 use Prim.Native.Nat.{◌+◌, ◌*◌, ◌/◌}
 use borrow.Author.Tests.{eq-eqb, ne_eqb}
-use borrow.Author.Rules.{rules}
 use Rattle.openqasm_export.proofs.places.retype.Goals as goal
 
 pub returns-then-code-eq2 : goal.returns-then-code-eq2

@@ -1,7 +1,6 @@
 -- `openqasm_parts::entries::put_entry` meets its contract. Assumes nothing.
 use native.Mathlib.Omega.{arith}
 use Rattle.openqasm_parts.proofs.Laws.Stored.{one_added, slots_added}
-use borrow.Author.Rules.{rules}
 use Rattle.openqasm_parts.proofs.entries.put_entry.Goals as goal
 
 pub put_slot-requires : goal.put_slot-requires

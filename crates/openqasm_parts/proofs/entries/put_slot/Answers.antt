@@ -3,7 +3,6 @@ use Prim.Native.Nat.{◌/◌, ◌%◌}
 use native.Mathlib.Omega.{arith}
 use lib.ListN.{length-set}
 use Rattle.openqasm_parts.proofs.Laws.Stored.{word_put}
-use borrow.Author.Rules.{rules}
 use Rattle.openqasm_parts.proofs.entries.put_slot.Goals as goal
 
 pub bounds-slots-at-2 : goal.bounds-slots-at-2

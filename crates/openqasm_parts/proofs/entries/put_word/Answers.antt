@@ -1,6 +1,5 @@
 -- `openqasm_parts::entries::put_word` meets its contract. Assumes nothing.
 use Rattle.text.proofs.Laws.Writing.{puts_both}
-use borrow.Author.Rules.{rules}
 use Rattle.openqasm_parts.proofs.entries.put_word.Goals as goal
 
 pub returns : goal.returns

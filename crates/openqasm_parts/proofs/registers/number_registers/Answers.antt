@@ -1,11 +1,7 @@
 -- `openqasm_parts::registers::number_registers` meets its contract. Assumes nothing.
 use borrow.Author.Rules.{rules}
-use Prim.Native.Nat.{◌+◌, ◌-◌, ◌≤◌}
 use native.Mathlib.Omega.{arith}
-use mathlib.Core.Path.{◌≡◌, refl, ◌∙◌}
-use mathlib.Core.List.{◌++◌}
-use lib.ListN.{length, drop}
-use Rattle.rules.specs.Circuits.{numbers}
+use mathlib.Core.Path.{refl, ◌∙◌}
 use Rattle.rules.specs.Sizes.{most_labels}
 use Rattle.words.specs.Words.{words}
 use Rattle.words.proofs.Laws.Words.{length_words}

@@ -1,14 +1,10 @@
-use borrow.Author.Rules.{rules}
-use Prim.Native.Nat.{◌+◌, ◌-◌, ◌≤◌}
-use native.Mathlib.Omega.{arith}
-use mathlib.Core.Path.{◌≡◌, refl, ◌∙◌}
+use Prim.Native.Nat.{◌-◌, ◌≤◌}
+use mathlib.Core.Path.{◌≡◌}
 use mathlib.Core.List.{◌++◌}
 use lib.ListN.{length, drop}
 use Rattle.rules.specs.Circuits.{numbers}
 use Rattle.rules.specs.Sizes.{most_labels}
 use Rattle.words.specs.Words.{words}
-use Rattle.words.proofs.Laws.Words.{length_words}
-use Rattle.openqasm_parts.proofs.Laws.Registers.{registers_next, registers_end}
 use Rattle.openqasm_parts.proofs.registers.number_registers.Given as goal
 
 abbrev pub invariant-loop-k : goal.invariant-loop-k

@@ -2,7 +2,6 @@
 use native.Mathlib.Omega.{arith}
 use mathlib.Core.Path.{◌∙◌}
 use Rattle.openqasm_parts.proofs.Laws.Registers.{no_slot, slot_is}
-use borrow.Author.Rules.{rules}
 use Rattle.openqasm_parts.proofs.registers.slot_wire.Goals as goal
 
 pub returns-then-slot-count : goal.returns-then-slot-count

@@ -3,7 +3,6 @@ use Prim.Native.Nat.{◌<◌}
 use native.Mathlib.Omega.{arith}
 use mathlib.Core.Path.{sym, subst}
 use Rattle.words.proofs.Laws.Words.{word_below}
-use borrow.Author.Rules.{rules}
 use Rattle.openqasm_parts.proofs.registers.wire_in.Goals as goal
 
 pub returns : goal.returns
