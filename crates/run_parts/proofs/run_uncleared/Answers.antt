@@ -23,7 +23,8 @@ use Rattle.run_parts.proofs.run_uncleared.Goals as goal
 pub returns-then-too_short : goal.returns-then-too_short
 returns-then-too_short c =
     let s = c.args in
-    says_short s.file.now s.limit (s.out.now ∷ s.nodes.now ∷ s.stack.now ∷ s.types.now ∷ s.frames.now ∷ s.gates.now ∷ s.circuits.now ∷ s.results0.now ∷ s.results1.now ∷ s.results2.now ∷ s.results3.now ∷ []) s.out.now (sym c.too_short.ensures ∙ c.if-too_short.true)
+    let said = says_short s.file.now s.limit (s.out.now ∷ s.nodes.now ∷ s.stack.now ∷ s.types.now ∷ s.frames.now ∷ s.gates.now ∷ s.circuits.now ∷ s.results0.now ∷ s.results1.now ∷ s.results2.now ∷ s.results3.now ∷ []) s.out.now (sym c.too_short.ensures ∙ c.if-too_short.true) in
+    record { answer = said.0; bytes = said.1 }
 
 pub returns-in_default : goal.returns-in_default
 returns-in_default c =
@@ -31,7 +32,8 @@ returns-in_default c =
     let b = c.begin-begun in
     let long : too_short run_lengths (s.out.now ∷ s.nodes.now ∷ s.stack.now ∷ s.types.now ∷ s.frames.now ∷ s.gates.now ∷ s.circuits.now ∷ s.results0.now ∷ s.results1.now ∷ s.results2.now ∷ s.results3.now ∷ []) ≡ false = sym c.too_short.ensures ∙ c.if-too_short.false in
     let L = all_least run_lengths (map length (s.out.now ∷ s.nodes.now ∷ s.stack.now ∷ s.types.now ∷ s.frames.now ∷ s.gates.now ∷ s.circuits.now ∷ s.results0.now ∷ s.results1.now ∷ s.results2.now ∷ s.results3.now ∷ [])) long in
-    says_refused s.file.now s.limit (s.out.now ∷ s.nodes.now ∷ s.stack.now ∷ s.types.now ∷ s.frames.now ∷ s.gates.now ∷ s.circuits.now ∷ s.results0.now ∷ s.results1.now ∷ s.results2.now ∷ s.results3.now ∷ []) s.out.now long (nodes_in b.new.nodes) (words b.new.types) (quadwords_in b.new.frames) b.result c.in_default.field-0 c.refusal_of_begin.result (b.ensures L.1.0) c.in_default.is record { answer = c.refusal_of_begin.ensures.0; bytes = c.refusal_of_begin.ensures.1 }
+    let said = says_refused s.file.now s.limit (s.out.now ∷ s.nodes.now ∷ s.stack.now ∷ s.types.now ∷ s.frames.now ∷ s.gates.now ∷ s.circuits.now ∷ s.results0.now ∷ s.results1.now ∷ s.results2.now ∷ s.results3.now ∷ []) s.out.now long (nodes_in b.new.nodes) (words b.new.types) (quadwords_in b.new.frames) b.result c.in_default.field-0 c.refusal_of_begin.result (b.ensures L.1.0) c.in_default.is c.refusal_of_begin.ensures in
+    record { answer = said.0; bytes = said.1 }
 
 pub shape_of-nodes : goal.shape_of-nodes
 shape_of-nodes c =
@@ -66,7 +68,7 @@ returns c =
     let ws = words b.new.types in
     let results = four_results (words s.results0.now) (words s.results1.now) (words s.results2.now) (words s.results3.now) in
     let results₂ = four_results (words a.new.results0) (words a.new.results1) (words a.new.results2) (words a.new.results3) in
-    says_ended s.file.now s.limit (s.out.now ∷ s.nodes.now ∷ s.stack.now ∷ s.types.now ∷ s.frames.now ∷ s.gates.now ∷ s.circuits.now ∷ s.results0.now ∷ s.results1.now ∷ s.results2.now ∷ s.results3.now ∷ []) s.out.now long ns rs gs cs fs ws results
+    let said = says_ended s.file.now s.limit (s.out.now ∷ s.nodes.now ∷ s.stack.now ∷ s.types.now ∷ s.frames.now ∷ s.gates.now ∷ s.circuits.now ∷ s.results0.now ∷ s.results1.now ∷ s.results2.now ∷ s.results3.now ∷ []) s.out.now long ns rs gs cs fs ws results
     (memory (nodes_in a.new.nodes) (quadwords_in a.new.stack) (quadwords_in a.new.gates) (quadwords_in a.new.circuits) (quadwords_in a.new.frames) (words b.new.types)
     (four_results (words a.new.results0) (words a.new.results1) (words a.new.results2) (words a.new.results3)))
     c.in-Loaded.numbers a.result e.new.out e.result
@@ -85,4 +87,5 @@ returns c =
     a.ensures
     refl
     L.0
-    (e.ensures (quadwords_in a.new.stack) (quadwords_in a.new.circuits) results₂)
+    (e.ensures (quadwords_in a.new.stack) (quadwords_in a.new.circuits) results₂) in
+    record { answer = said.0; bytes = said.1 }
