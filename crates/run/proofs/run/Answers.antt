@@ -15,10 +15,12 @@ pub returns-then-too_short : goal.returns-then-too_short
 returns-then-too_short c =
     let s = c.args in
     let f = s.file.now in
-    let short : too_short run_lengths (s.out.now ∷ s.nodes.now ∷ s.stack.now ∷ s.types.now ∷ s.frames.now ∷ s.gates.now ∷ s.circuits.now ∷ s.results0.now ∷ s.results1.now ∷ s.results2.now ∷ s.results3.now ∷ []) ≡ true = sym c.too_short.ensures ∙ c.if-too_short.true in (
-      (says_short f s.limit (s.out.now ∷ s.nodes.now ∷ s.stack.now ∷ s.types.now ∷ s.frames.now ∷ s.gates.now ∷ s.circuits.now ∷ s.results0.now ∷ s.results1.now ∷ s.results2.now ∷ s.results3.now ∷ []) s.out.now short).0,
-      (untouched f s.limit s.out.now (s.nodes.now ∷ s.stack.now ∷ s.types.now ∷ s.frames.now ∷ s.gates.now ∷ s.circuits.now ∷ s.results0.now ∷ s.results1.now ∷ s.results2.now ∷ s.results3.now ∷ []) short, (run_means f s.limit, run_is_safe f s.limit)),
-    )
+    let short : too_short run_lengths (s.out.now ∷ s.nodes.now ∷ s.stack.now ∷ s.types.now ∷ s.frames.now ∷ s.gates.now ∷ s.circuits.now ∷ s.results0.now ∷ s.results1.now ∷ s.results2.now ∷ s.results3.now ∷ []) ≡ true = sym c.too_short.ensures ∙ c.if-too_short.true in record {
+      answer = (says_short f s.limit (s.out.now ∷ s.nodes.now ∷ s.stack.now ∷ s.types.now ∷ s.frames.now ∷ s.gates.now ∷ s.circuits.now ∷ s.results0.now ∷ s.results1.now ∷ s.results2.now ∷ s.results3.now ∷ []) s.out.now short).0;
+      bytes = untouched f s.limit s.out.now (s.nodes.now ∷ s.stack.now ∷ s.types.now ∷ s.frames.now ∷ s.gates.now ∷ s.circuits.now ∷ s.results0.now ∷ s.results1.now ∷ s.results2.now ∷ s.results3.now ∷ []) short;
+      meaning = run_means f s.limit;
+      safety = run_is_safe f s.limit;
+    }
 
 pub shape_of-out : goal.shape_of-out
 shape_of-out c =
@@ -91,16 +93,16 @@ returns c =
     let f = s.file.now in
     let u = c.run_uncleared-answer in
     let k = c.clear_all in
-    let long : too_short run_lengths (s.out.now ∷ s.nodes.now ∷ s.stack.now ∷ s.types.now ∷ s.frames.now ∷ s.gates.now ∷ s.circuits.now ∷ s.results0.now ∷ s.results1.now ∷ s.results2.now ∷ s.results3.now ∷ []) ≡ false = sym c.too_short.ensures ∙ c.if-too_short.false in (
-      u.ensures.answer,
-      (
+    let long : too_short run_lengths (s.out.now ∷ s.nodes.now ∷ s.stack.now ∷ s.types.now ∷ s.frames.now ∷ s.gates.now ∷ s.circuits.now ∷ s.results0.now ∷ s.results1.now ∷ s.results2.now ∷ s.results3.now ∷ []) ≡ false = sym c.too_short.ensures ∙ c.if-too_short.false in record {
+      answer = u.ensures.answer;
+      bytes =
         cleared f s.limit s.out.now (s.nodes.now ∷ s.stack.now ∷ s.types.now ∷ s.frames.now ∷ s.gates.now ∷ s.circuits.now ∷ s.results0.now ∷ s.results1.now ∷ s.results2.now ∷ s.results3.now ∷ []) u.new.out
             (u.new.nodes ∷ u.new.stack ∷ u.new.types ∷ u.new.frames ∷ u.new.gates ∷ u.new.circuits ∷ u.new.results0 ∷ u.new.results1 ∷ u.new.results2 ∷ u.new.results3 ∷ [])
             (k.new.nodes ∷ k.new.stack ∷ k.new.types ∷ k.new.frames ∷ k.new.gates ∷ k.new.circuits ∷ k.new.results0 ∷ k.new.results1 ∷ k.new.results2 ∷ k.new.results3 ∷ [])
             long
             u.ensures.bytes
             (ap₂ ◌∷◌ u.auto.nodes (ap₂ ◌∷◌ u.auto.stack (ap₂ ◌∷◌ u.auto.types (ap₂ ◌∷◌ u.auto.frames (ap₂ ◌∷◌ u.auto.gates (ap₂ ◌∷◌ u.auto.circuits (ap₂ ◌∷◌ u.auto.results0 (ap₂ ◌∷◌ u.auto.results1 (ap₂ ◌∷◌ u.auto.results2 (ap (λ n. n ∷ []) u.auto.results3))))))))))
-            k.ensures,
-        (run_means f s.limit, run_is_safe f s.limit),
-      ),
-    )
+            k.ensures;
+      meaning = run_means f s.limit;
+      safety = run_is_safe f s.limit;
+    }
