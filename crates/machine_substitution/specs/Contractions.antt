@@ -1,8 +1,6 @@
 -- The steps at an application and at a let, in the gap buffer: the reduct is written at the start of the gap, and copied to
 -- its end if it is not too large. In both cases the walk that is then to be held is held.
-use Rattle.std.specs.Prelude.{ℕ, ◌+◌, ◌-◌, true, false, length}
-use Rattle.machine_terms.specs.Trees.{two}
-use Rattle.machine_terms.specs.Holes.{first, second}
+use Rattle.std.specs.Prelude.{ℕ, ◌+◌, ◌-◌, true, false}
 use Rattle.machine_substitution.specs.declared.Values.{Values}
 
 -- And the value that it is applied to, where the walked nodes end at l.

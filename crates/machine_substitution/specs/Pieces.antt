@@ -1,5 +1,5 @@
 -- Where the nodes stand that a node becomes.
-use Rattle.std.specs.Prelude.{ℕ, zero, suc, ◌+◌, ◌-◌, ◌≤◌, cond, ◌⊎◌, eqb, ltb, length}
+use Rattle.std.specs.Prelude.{ℕ, zero, suc, ◌+◌, ◌-◌, ◌≤◌, cond, ◌⊎◌, eqb, ltb}
 use Rattle.rules.specs.Kinds.{variable_kind}
 use Rattle.machine_terms.specs.Trees.{Node, kind, argument}
 use Rattle.machine_substitution.specs.declared.Region.{Region}

@@ -1,5 +1,5 @@
 -- Substitution on the nodes of a forest in preorder, with the number of binders around each part that is waited for.
-use Rattle.std.specs.Prelude.{ℕ, zero, suc, cond, List, [], ◌∷◌, ◌++◌, eqb, length, take, drop}
+use Rattle.std.specs.Prelude.{ℕ, zero, suc, cond, List, [], ◌∷◌, ◌++◌, eqb, take, drop}
 use Rattle.rules.specs.Kinds.{variable_kind}
 use Rattle.machine_terms.specs.Trees.{Node, kind, argument, parts, one_kind, two_kind, binders_one, binders_two}
 use Rattle.machine_substitution.specs.declared.Region.{Region}

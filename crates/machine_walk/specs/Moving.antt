@@ -1,7 +1,7 @@
 -- The moves of the walk in memory: a law for each way through the code.
 use Rattle.std.specs.Prelude.{ℕ, ◌+◌, ◌-◌, ◌*◌, ◌<◌, Bool, true, false}
 use Rattle.machine_terms.specs.Trees.{TwoKind, an_application, a_pair, a_let, an_apply}
-use Rattle.machine_terms.specs.Walks.{returning, Stop as StopOf, at_application, at_let, at_apply, at_end}
+use Rattle.machine_terms.specs.Walks.{Stop as StopOf, at_application, at_let, at_apply, at_end}
 use Rattle.machine_walk.specs.declared.Place.{Place}
 use Rattle.machine_walk.specs.declared.Moved.{Moved}
 use Rattle.machine_walk.specs.declared.Moved.TheVariants.{GoesOn, Stops}

@@ -5,7 +5,7 @@ use Rattle.rules.specs.Types.{most_entries}
 use Rattle.rules.specs.Circuits.{outputs}
 use Rattle.rules.specs.Sizes.{most_nodes}
 use Rattle.machine_terms.specs.Trees.{Node, kind, argument}
-use Rattle.machine_terms.specs.Walks.{returning, at_apply}
+use Rattle.machine_terms.specs.Walks.{at_apply}
 use Rattle.machine_nodes.specs.Nodes.{node_at}
 use Rattle.machine_walk.specs.Stack.{stack_node, stack_start}
 use Rattle.words.specs.Quadwords.{Quadword, quadword_at, word_in}

@@ -5,7 +5,6 @@ use Rattle.rules.specs.Types.{Ty, is_wire_type, wires, entries, most_entries, ty
 use Rattle.rules.specs.Terms.{tuple_from}
 use Rattle.rules.specs.Sizes.{most_nodes}
 use Rattle.machine_terms.specs.Trees.{Node, node, argument, Tree, two, preorder, tuple_tree}
-use Rattle.machine_terms.specs.Walks.{returning}
 use Rattle.machine_nodes.specs.Nodes.{node_at}
 use Rattle.words.specs.Regions.{over, Stands}
 use Rattle.words.specs.Quadwords.{Quadword, quadword_at}

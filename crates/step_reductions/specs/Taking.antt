@@ -1,6 +1,5 @@
 -- What a step that builds no circuit leaves: only the nodes change, and with them the place of the walk.
 use Rattle.std.specs.Prelude.{ℕ, ◌-◌, false}
-use Rattle.machine_terms.specs.Walks.{left, right}
 use Rattle.machine_walk.specs.declared.Place.{Place}
 use Rattle.machine_state.specs.declared.StateNumbers.{StateNumbers}
 use Rattle.machine_state.specs.declared.Stepped.{Stepped}

@@ -1,10 +1,9 @@
 -- `listing_writer::count_labels` meets its contract. The invariant: so many of the nodes passed are labels; the measure is what is left
 -- of the nodes. Assumes nothing.
-use Prim.Native.Nat.{◌-◌, ◌≤◌, ◌<◌}
+use Prim.Native.Nat.{◌<◌}
 use native.Mathlib.Omega.{arith}
 use mathlib.Core.Path.{◌≡◌, refl, sym, ◌∙◌, ap}
 use lib.ListN.{length}
-use borrow.Author.Rules.{rules}
 use Rattle.machine_nodes.specs.Nodes.{nodes_in}
 use Rattle.machine_nodes.proofs.Laws.Nodes.{length_nodes_in}
 use Rattle.listing_writer.specs.Parts.{outputs_read}

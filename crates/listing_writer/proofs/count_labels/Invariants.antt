@@ -1,12 +1,8 @@
-use Prim.Native.Nat.{◌-◌, ◌≤◌, ◌<◌}
-use native.Mathlib.Omega.{arith}
-use mathlib.Core.Path.{◌≡◌, refl, sym, ◌∙◌, ap}
+use Prim.Native.Nat.{◌-◌, ◌≤◌}
+use mathlib.Core.Path.{◌≡◌}
 use lib.ListN.{length}
-use borrow.Author.Rules.{rules}
 use Rattle.machine_nodes.specs.Nodes.{nodes_in}
-use Rattle.machine_nodes.proofs.Laws.Nodes.{length_nodes_in}
 use Rattle.listing_writer.specs.Parts.{outputs_read}
-use Rattle.listing_writer.proofs.Laws.Writing.{one_label_more, other_read}
 use Rattle.listing_writer.proofs.count_labels.Given as goal
 
 abbrev pub invariant-loop-i : goal.invariant-loop-i

@@ -1,7 +1,6 @@
 -- `listing_writer::input_kind` meets its contract. Assumes nothing.
 use mathlib.Core.Path.{sym, ap}
 use mathlib.Core.Bool.{cond}
-use borrow.Author.Rules.{rules}
 use borrow.Author.Tests.{eq-eqb, ne_eqb}
 use Rattle.listing_writer.proofs.input_kind.Goals as goal
 

@@ -2,7 +2,6 @@
 use Prim.Native.Nat.{◌/◌, ◌%◌}
 use native.Mathlib.Omega.{arith}
 use lib.ListN.{length-set}
-use borrow.Author.Rules.{rules}
 use Rattle.listing.proofs.Laws.Pieces.{over_two}
 use Rattle.listing_writer.proofs.put_bytes.Goals as goal
 

@@ -1,10 +1,8 @@
 -- `listing_writer::write_gate` meets its contract. The invariant: the slots passed are written; the measure is what is left of the
 -- slots. Assumes nothing.
-use Prim.Native.Nat.{◌+◌, ◌-◌, ◌*◌, ◌≤◌}
+use Prim.Native.Nat.{◌+◌, ◌*◌}
 use native.Mathlib.Omega.{arith}
 use mathlib.Core.Path.{◌≡◌, refl, ◌∙◌, ap}
-use lib.ListN.{length}
-use borrow.Author.Rules.{rules}
 use Rattle.words.specs.Regions.{over}
 use Rattle.words.specs.Quadwords.{quadwords_in, quadword_at}
 use Rattle.words.proofs.Laws.Quadwords.{quadword_words_below}

@@ -1,11 +1,10 @@
 -- `listing_writer::write_gate_kinds` meets its contract. The invariant: the kinds of the gates passed are written; the measure is what
 -- is left of the gates. Assumes nothing.
-use Prim.Native.Nat.{◌+◌, ◌-◌, ◌%◌, ◌≤◌}
+use Prim.Native.Nat.{◌+◌, ◌%◌}
 use native.Mathlib.Omega.{arith}
 use mathlib.Core.Path.{◌≡◌, refl, ◌∙◌, ap}
 use mathlib.Core.List.{[], ◌∷◌}
-use lib.ListN.{length, length-set}
-use borrow.Author.Rules.{rules}
+use lib.ListN.{length-set}
 use Rattle.words.specs.Regions.{over}
 use Rattle.words.specs.Quadwords.{quadwords_in}
 use Rattle.listing.specs.Pieces.{pieces}

@@ -1,9 +1,8 @@
 -- `listing_writer::write_gate_slots` meets its contract. The invariant: the slots of the gates passed are written; the measure is what
 -- is left of the gates. Assumes nothing.
-use Prim.Native.Nat.{◌+◌, ◌-◌, ◌*◌, ◌≤◌}
+use Prim.Native.Nat.{◌+◌, ◌*◌}
 use native.Mathlib.Omega.{arith}
 use mathlib.Core.Path.{◌≡◌, refl, ◌∙◌, ap}
-use lib.ListN.{length}
 use Rattle.words.specs.Regions.{over}
 use Rattle.words.specs.Quadwords.{quadwords_in}
 use Rattle.listing.specs.Listing.{entry_slots}

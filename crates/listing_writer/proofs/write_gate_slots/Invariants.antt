@@ -1,14 +1,10 @@
-use Prim.Native.Nat.{◌+◌, ◌-◌, ◌*◌, ◌≤◌}
-use native.Mathlib.Omega.{arith}
-use mathlib.Core.Path.{◌≡◌, refl, ◌∙◌, ap}
+use Prim.Native.Nat.{◌-◌, ◌≤◌}
+use mathlib.Core.Path.{◌≡◌}
 use lib.ListN.{length}
 use Rattle.words.specs.Regions.{over}
 use Rattle.words.specs.Quadwords.{quadwords_in}
-use Rattle.listing.specs.Listing.{entry_slots}
 use Rattle.listing.specs.Pieces.{pieces}
 use Rattle.listing_writer.specs.Parts.{slots_piece}
-use Rattle.listing.proofs.Laws.Pieces.{piece_written, none_written}
-use Rattle.listing_writer.proofs.Laws.Reading.{length_slots_piece}
 use Rattle.listing_writer.proofs.write_gate_slots.Given as goal
 
 abbrev pub invariant-loop-i : goal.invariant-loop-i

@@ -1,14 +1,10 @@
-use Prim.Native.Nat.{◌+◌, ◌-◌, ◌≤◌}
-use native.Mathlib.Omega.{arith}
-use mathlib.Core.Path.{◌≡◌, refl, ◌∙◌, ap}
-use mathlib.Core.List.{[], ◌∷◌}
-use lib.ListN.{length, length-set}
-use borrow.Author.Rules.{rules}
+use Prim.Native.Nat.{◌-◌, ◌≤◌}
+use mathlib.Core.Path.{◌≡◌}
+use lib.ListN.{length}
 use Rattle.words.specs.Words.{words}
 use Rattle.words.specs.Regions.{over}
 use Rattle.listing.specs.Pieces.{pieces}
-use Rattle.listing_writer.specs.Parts.{input_byte, input_piece}
-use Rattle.listing.proofs.Laws.Pieces.{byte_written, none_written}
+use Rattle.listing_writer.specs.Parts.{input_piece}
 use Rattle.listing_writer.proofs.write_input_kinds.Given as goal
 
 abbrev pub invariant-loop-i : goal.invariant-loop-i

@@ -1,5 +1,4 @@
 -- `listing_writer::write_kinds` meets its contract. Assumes nothing.
-use borrow.Author.Rules.{rules}
 use Rattle.words.specs.Words.{words}
 use Rattle.words.specs.Quadwords.{quadwords_in}
 use Rattle.listing_writer.proofs.Laws.Writing.{kinds_written}

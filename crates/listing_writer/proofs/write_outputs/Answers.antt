@@ -1,11 +1,10 @@
 -- `listing_writer::write_outputs` meets its contract. The invariant: the labels of the nodes passed are written; the measure is what is
 -- left of the nodes. Assumes nothing.
-use Prim.Native.Nat.{◌+◌, ◌-◌, ◌≤◌, ◌<◌}
+use Prim.Native.Nat.{◌+◌, ◌<◌}
 use native.Mathlib.Omega.{arith}
 use mathlib.Core.Path.{◌≡◌, refl, sym, ◌∙◌, ap}
 use mathlib.Core.List.{flat_map}
 use lib.ListN.{length}
-use borrow.Author.Rules.{rules}
 use Rattle.machine_nodes.specs.Nodes.{nodes_in}
 use Rattle.machine_nodes.proofs.Laws.Nodes.{length_nodes_in}
 use Rattle.words.specs.Regions.{over}

@@ -1,15 +1,11 @@
-use Prim.Native.Nat.{◌+◌, ◌-◌, ◌≤◌, ◌<◌}
-use native.Mathlib.Omega.{arith}
-use mathlib.Core.Path.{◌≡◌, refl, sym, ◌∙◌, ap}
+use Prim.Native.Nat.{◌-◌, ◌≤◌}
+use mathlib.Core.Path.{◌≡◌}
 use mathlib.Core.List.{flat_map}
 use lib.ListN.{length}
-use borrow.Author.Rules.{rules}
 use Rattle.machine_nodes.specs.Nodes.{nodes_in}
-use Rattle.machine_nodes.proofs.Laws.Nodes.{length_nodes_in}
 use Rattle.words.specs.Regions.{over}
 use Rattle.listing.specs.Listing.{bytes_of}
 use Rattle.listing_writer.specs.Parts.{outputs_read}
-use Rattle.listing_writer.proofs.Laws.Writing.{one_label_more, other_read, label_room, output_written, no_output}
 use Rattle.listing_writer.proofs.write_outputs.Given as goal
 
 abbrev pub invariant-loop-i : goal.invariant-loop-i

@@ -1,5 +1,4 @@
 -- `listing_writer::write_sizes` meets its contract. Assumes nothing.
-use borrow.Author.Rules.{rules}
 use Rattle.listing_writer.proofs.Laws.Writing.{sizes_written}
 use Rattle.listing_writer.proofs.write_sizes.Goals as goal
 

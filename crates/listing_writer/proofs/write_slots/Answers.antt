@@ -1,7 +1,6 @@
 -- `listing_writer::write_slots` meets its contract. Assumes nothing.
 use Prim.Native.Nat.{◌+◌, ◌*◌}
 use native.Mathlib.Omega.{arith}
-use borrow.Author.Rules.{rules}
 use Rattle.words.specs.Quadwords.{quadwords_in}
 use Rattle.listing.specs.Listing.{entry_slots}
 use Rattle.listing_writer.proofs.Laws.Writing.{slots_written}

@@ -1,9 +1,8 @@
 -- `listing_writer::write_unused` meets its contract. The invariant: the slots passed are written; the measure is what is left of the
 -- slots. Assumes nothing.
-use Prim.Native.Nat.{◌+◌, ◌-◌, ◌*◌, ◌≤◌}
+use Prim.Native.Nat.{◌+◌, ◌*◌}
 use native.Mathlib.Omega.{arith}
 use mathlib.Core.Path.{◌≡◌, refl, ◌∙◌, ap}
-use lib.ListN.{length}
 use Rattle.words.specs.Regions.{over}
 use Rattle.listing.specs.Pieces.{pieces}
 use Rattle.listing_writer.specs.Parts.{unused_piece}

@@ -1,11 +1,9 @@
-use Prim.Native.Nat.{◌+◌, ◌-◌, ◌*◌, ◌≤◌}
-use native.Mathlib.Omega.{arith}
-use mathlib.Core.Path.{◌≡◌, refl, ◌∙◌, ap}
+use Prim.Native.Nat.{◌-◌, ◌≤◌}
+use mathlib.Core.Path.{◌≡◌}
 use lib.ListN.{length}
 use Rattle.words.specs.Regions.{over}
 use Rattle.listing.specs.Pieces.{pieces}
 use Rattle.listing_writer.specs.Parts.{unused_piece}
-use Rattle.listing.proofs.Laws.Pieces.{piece_written, none_written}
 use Rattle.listing_writer.proofs.write_unused.Given as goal
 
 abbrev pub invariant-loop-i : goal.invariant-loop-i

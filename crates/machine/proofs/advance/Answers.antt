@@ -1,11 +1,9 @@
 -- `machine::advance` meets its contract. The invariant: so many steps are done, and what is left comes to what the whole comes
 -- to; the two local memories keep their lengths. The measure is the number of steps that may still be taken. Assumes nothing.
-use Prim.Native.Nat.{◌-◌, ◌≤◌, ◌<◌, ◌+◌, ◌*◌}
+use Prim.Native.Nat.{◌<◌}
 use native.Mathlib.Omega.{arith}
-use mathlib.Core.Path.{◌≡◌, refl, sym, ◌∙◌, subst}
+use mathlib.Core.Path.{refl, sym, ◌∙◌, subst}
 use lib.Dec.{leb}
-use lib.ListN.{length}
-use borrow.Author.Rules.{rules}
 use borrow.Author.Tests.{leb-false}
 use Rattle.words.specs.Words.{words}
 use Rattle.words.proofs.Laws.Words.{length_words}
@@ -14,11 +12,7 @@ use Rattle.words.specs.Quadwords.{quadwords_in}
 use Rattle.machine_circuits.specs.Layout.{four_results}
 use Rattle.machine_state.specs.Memory.{memory}
 use Rattle.machine.specs.Progress.{NotLast}
-use Rattle.machine.proofs.Laws.Progress.{AllUnderway}
 use Rattle.machine.proofs.Laws.Advancing.{none_underway, more_underway, all_advanced}
-use Rattle.machine.proofs.advance.Lts as lts
-use Rattle.rules.specs.Sizes.{most_nodes}
-use Rattle.rules.specs.Types.{most_entries}
 use Rattle.machine.proofs.advance.Goals as goal
 
 pub loop-next-init : goal.loop-next-init

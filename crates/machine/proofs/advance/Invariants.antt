@@ -1,20 +1,12 @@
-use Prim.Native.Nat.{◌-◌, ◌≤◌, ◌<◌, ◌+◌, ◌*◌}
-use native.Mathlib.Omega.{arith}
-use mathlib.Core.Path.{◌≡◌, refl, sym, ◌∙◌, subst}
-use lib.Dec.{leb}
+use Prim.Native.Nat.{◌-◌, ◌≤◌, ◌+◌, ◌*◌}
+use mathlib.Core.Path.{◌≡◌}
 use lib.ListN.{length}
-use borrow.Author.Rules.{rules}
-use borrow.Author.Tests.{leb-false}
 use Rattle.words.specs.Words.{words}
-use Rattle.words.proofs.Laws.Words.{length_words}
 use Rattle.machine_nodes.specs.Nodes.{nodes_in}
 use Rattle.words.specs.Quadwords.{quadwords_in}
 use Rattle.machine_circuits.specs.Layout.{four_results}
 use Rattle.machine_state.specs.Memory.{memory}
-use Rattle.machine.specs.Progress.{NotLast}
 use Rattle.machine.proofs.Laws.Progress.{AllUnderway}
-use Rattle.machine.proofs.Laws.Advancing.{none_underway, more_underway, all_advanced}
-use Rattle.machine.proofs.advance.Lts as lts
 use Rattle.rules.specs.Sizes.{most_nodes}
 use Rattle.rules.specs.Types.{most_entries}
 use Rattle.machine.proofs.advance.Given as goal

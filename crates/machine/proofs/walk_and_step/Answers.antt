@@ -10,8 +10,6 @@ use Rattle.machine_state.specs.Memory.{memory}
 use Rattle.machine_state.specs.Outcomes.{Steps}
 use Rattle.machine.proofs.Laws.Progress.{moved_to}
 use Rattle.machine.proofs.Laws.Advancing.{once_finished, once_running, once_taken, once_exceeding}
-use borrow.Author.Rules.{rules}
-use Rattle.machine.proofs.walk_and_step.Lts as lts
 use Rattle.machine.proofs.walk_and_step.Goals as goal
 
 pub returns-then-is_end : goal.returns-then-is_end

@@ -8,7 +8,6 @@ use Rattle.machine_nodes.proofs.Laws.Nodes.{length_nodes_in, same_nodes}
 use Rattle.words.specs.Quadwords.{quadwords_in}
 use Rattle.words.proofs.Laws.Quadwords.{quadword_put}
 use Rattle.machine_load.proofs.Laws.Loading.{too_short_lem, loaded}
-use borrow.Author.Rules.{rules}
 use Rattle.machine_load.proofs.load.Goals as goal
 
 pub returns-then-n-terms : goal.returns-then-n-terms

@@ -1,9 +1,7 @@
 -- `machine_load::load_kinds` meets its contract. The invariant: the first i kinds are written. The measure is what is left of
 -- the count. Assumes nothing.
-use Prim.Native.Nat.{◌+◌, ◌-◌, ◌≤◌}
 use native.Mathlib.Omega.{arith}
 use mathlib.Core.Path.{◌≡◌, refl, ◌∙◌, ap}
-use lib.ListN.{length}
 use Rattle.program.specs.Format.{kind_at}
 use Rattle.words.specs.Words.{words}
 use Rattle.words.proofs.Laws.Words.{word_put}

@@ -1,13 +1,10 @@
 use Prim.Native.Nat.{◌+◌, ◌-◌, ◌≤◌}
-use native.Mathlib.Omega.{arith}
-use mathlib.Core.Path.{◌≡◌, refl, ◌∙◌, ap}
+use mathlib.Core.Path.{◌≡◌}
 use lib.ListN.{length}
 use Rattle.program.specs.Format.{kind_at}
 use Rattle.words.specs.Words.{words}
-use Rattle.words.proofs.Laws.Words.{word_put}
 use Rattle.words.specs.Regions.{over}
 use Rattle.machine_load.specs.Trees.{values_from}
-use Rattle.machine_load.proofs.Laws.Writing.{none_written, kind_written}
 use Rattle.machine_load.proofs.load_kinds.Given as goal
 
 abbrev pub invariant-loop-i : goal.invariant-loop-i

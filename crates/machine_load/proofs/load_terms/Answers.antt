@@ -1,9 +1,7 @@
 -- `machine_load::load_terms` meets its contract. The invariant: the first i entries are written. The measure is what is left of
 -- the count. Assumes nothing.
-use Prim.Native.Nat.{◌-◌, ◌≤◌}
 use native.Mathlib.Omega.{arith}
 use mathlib.Core.Path.{◌≡◌, refl, ◌∙◌, ap}
-use lib.ListN.{length}
 use Rattle.machine_nodes.specs.Nodes.{nodes_in}
 use Rattle.machine_nodes.proofs.Laws.Nodes.{length_nodes_in, node_put}
 use Rattle.words.specs.Regions.{over}

@@ -1,12 +1,9 @@
 use Prim.Native.Nat.{◌-◌, ◌≤◌}
-use native.Mathlib.Omega.{arith}
-use mathlib.Core.Path.{◌≡◌, refl, ◌∙◌, ap}
+use mathlib.Core.Path.{◌≡◌}
 use lib.ListN.{length}
 use Rattle.machine_nodes.specs.Nodes.{nodes_in}
-use Rattle.machine_nodes.proofs.Laws.Nodes.{length_nodes_in, node_put}
 use Rattle.words.specs.Regions.{over}
 use Rattle.machine_load.specs.Trees.{values_from, node_from}
-use Rattle.machine_load.proofs.Laws.Writing.{none_written, node_written}
 use Rattle.machine_load.proofs.load_terms.Given as goal
 
 abbrev pub invariant-loop-i : goal.invariant-loop-i

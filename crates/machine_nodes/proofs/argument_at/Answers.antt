@@ -1,7 +1,6 @@
 -- `machine_nodes::argument_at` meets its contract: the argument of node i is the number behind its kind. Assumes nothing.
 use native.Mathlib.Omega.{arith}
 use mathlib.Core.Path.{sym, ap, ◌∙◌}
-use borrow.Author.Rules.{rules}
 use Rattle.machine_terms.specs.Trees.{argument}
 use Rattle.machine_nodes.proofs.Laws.Nodes.{past_in, argument_number}
 use Rattle.machine_nodes.proofs.argument_at.Goals as goal

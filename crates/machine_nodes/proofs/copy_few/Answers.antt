@@ -1,9 +1,8 @@
 -- `machine_nodes::copy_few` meets its contract. The invariant: the first i nodes are copied. The measure is what is left of the
 -- count. Assumes nothing.
-use Prim.Native.Nat.{◌+◌, ◌*◌, ◌-◌, ◌≤◌}
+use Prim.Native.Nat.{◌+◌, ◌*◌}
 use native.Mathlib.Omega.{arith}
 use mathlib.Core.Path.{◌≡◌, refl, sym, ◌∙◌, ap, ap₂}
-use lib.ListN.{length}
 use Rattle.machine_nodes.specs.Copying.{copied}
 use Rattle.machine_nodes.proofs.Laws.Copies.{copied_on}
 use Rattle.machine_nodes.proofs.copy_few.Goals as goal

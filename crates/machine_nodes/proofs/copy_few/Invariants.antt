@@ -1,9 +1,7 @@
-use Prim.Native.Nat.{◌+◌, ◌*◌, ◌-◌, ◌≤◌}
-use native.Mathlib.Omega.{arith}
-use mathlib.Core.Path.{◌≡◌, refl, sym, ◌∙◌, ap, ap₂}
+use Prim.Native.Nat.{◌*◌, ◌-◌, ◌≤◌}
+use mathlib.Core.Path.{◌≡◌}
 use lib.ListN.{length}
 use Rattle.machine_nodes.specs.Copying.{copied}
-use Rattle.machine_nodes.proofs.Laws.Copies.{copied_on}
 use Rattle.machine_nodes.proofs.copy_few.Given as goal
 
 abbrev pub invariant-loop-i : goal.invariant-loop-i

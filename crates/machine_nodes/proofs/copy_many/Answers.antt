@@ -1,9 +1,9 @@
 -- `machine_nodes::copy_many` meets its contract. The invariant: the first i bytes are copied. The measure is what is left of
 -- them. Assumes nothing.
-use Prim.Native.Nat.{suc, ◌+◌, ◌*◌, ◌-◌, ◌≤◌}
+use Prim.Native.Nat.{suc, ◌+◌, ◌*◌}
 use native.Mathlib.Omega.{arith}
 use mathlib.Core.Path.{◌≡◌, refl, ◌∙◌, ap}
-use lib.ListN.{length, get_or, set, length-set}
+use lib.ListN.{get_or, set, length-set}
 use Rattle.machine_nodes.specs.Copying.{copied}
 use Rattle.machine_nodes.proofs.copy_many.Goals as goal
 

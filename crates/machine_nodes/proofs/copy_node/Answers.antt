@@ -2,7 +2,6 @@
 use native.Mathlib.Omega.{arith}
 use lib.ListN.{length-set}
 use Rattle.machine_nodes.proofs.Laws.Bytes.{copy_bytes}
-use borrow.Author.Rules.{rules}
 use Rattle.machine_nodes.proofs.copy_node.Goals as goal
 
 pub bounds-nodes-at-2 : goal.bounds-nodes-at-2

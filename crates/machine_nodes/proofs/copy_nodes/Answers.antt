@@ -1,7 +1,6 @@
 -- `machine_nodes::copy_nodes` meets its contract: few nodes or many, they are copied. Assumes nothing.
 use native.Mathlib.Omega.{arith}
 use mathlib.Core.Path.{sym, ◌∙◌}
-use borrow.Author.Rules.{rules}
 use Rattle.machine_nodes.proofs.Laws.Copies.{copy_within, copy_not_there, copy_no_room}
 use Rattle.machine_nodes.proofs.copy_nodes.Goals as goal
 

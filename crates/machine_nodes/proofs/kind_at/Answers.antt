@@ -1,7 +1,6 @@
 -- `machine_nodes::kind_at` meets its contract: the kind of node i is the number at its first byte. Assumes nothing.
 use native.Mathlib.Omega.{arith}
 use mathlib.Core.Path.{sym, ap, ◌∙◌}
-use borrow.Author.Rules.{rules}
 use Rattle.machine_terms.specs.Trees.{kind}
 use Rattle.machine_nodes.proofs.Laws.Nodes.{past_in, kind_number}
 use Rattle.machine_nodes.proofs.kind_at.Goals as goal

@@ -3,7 +3,6 @@
 use Rattle.machine_terms.proofs.Laws.Kinds.{parts_inside, parts_below, parts_above}
 use native.Mathlib.Omega.{arith}
 use mathlib.Core.Path.{sym, ◌∙◌, ap}
-use borrow.Author.Rules.{rules}
 use Rattle.rules.proofs.Laws.Parts.{at_most_two_lem}
 use Rattle.machine_terms.specs.Trees.{parts}
 use Rattle.machine_nodes.proofs.parts_of.Goals as goal

@@ -5,7 +5,6 @@ use mathlib.Core.List.{[], ◌∷◌}
 use lib.ListN.{length-set}
 use Rattle.words.proofs.Laws.Words.{put_past}
 use Rattle.machine_nodes.proofs.Laws.Nodes.{put_bytes}
-use borrow.Author.Rules.{rules}
 use Rattle.machine_nodes.proofs.put_node.Goals as goal
 
 pub returns-then-n-i : goal.returns-then-n-i

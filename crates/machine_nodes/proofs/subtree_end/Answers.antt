@@ -1,10 +1,10 @@
 -- `machine_nodes::subtree_end` meets its contract. The invariant: what is passed and what the parts waited for take is what
 -- the tree takes; at most three parts more are waited for with each node. The measure is what is left of the nodes.
 -- Assumes nothing.
-use Prim.Native.Nat.{◌+◌, ◌*◌, ◌-◌, ◌≤◌, ◌/◌}
+use Prim.Native.Nat.{◌+◌, ◌-◌}
 use native.Mathlib.Omega.{arith}
 use mathlib.Core.Path.{◌≡◌, refl, sym, ap, ◌∙◌}
-use lib.ListN.{length, drop}
+use lib.ListN.{drop}
 use Rattle.machine_terms.specs.Trees.{Node, kind, parts}
 use Rattle.machine_nodes.specs.Nodes.{nodes_in, node_at, no_node}
 use Rattle.machine_nodes.proofs.Laws.Nodes.{length_nodes_in}

@@ -1,12 +1,8 @@
 use Prim.Native.Nat.{◌+◌, ◌*◌, ◌-◌, ◌≤◌, ◌/◌}
-use native.Mathlib.Omega.{arith}
-use mathlib.Core.Path.{◌≡◌, refl, sym, ap, ◌∙◌}
+use mathlib.Core.Path.{◌≡◌}
 use lib.ListN.{length, drop}
-use Rattle.machine_terms.specs.Trees.{Node, kind, parts}
-use Rattle.machine_nodes.specs.Nodes.{nodes_in, node_at, no_node}
-use Rattle.machine_nodes.proofs.Laws.Nodes.{length_nodes_in}
-use Rattle.machine_nodes.specs.Spans.{asked, span}
-use Rattle.machine_nodes.proofs.Laws.Spans.{one_more, none_waiting, run_out}
+use Rattle.machine_nodes.specs.Nodes.{nodes_in}
+use Rattle.machine_nodes.specs.Spans.{span}
 use Rattle.machine_nodes.proofs.subtree_end.Given as goal
 
 abbrev pub invariant-loop-i : goal.invariant-loop-i

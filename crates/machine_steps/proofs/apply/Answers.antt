@@ -7,8 +7,6 @@ use Rattle.machine_nodes.specs.Nodes.{nodes_in, node_at}
 use Rattle.words.specs.Quadwords.{quadwords_in}
 use Rattle.machine_circuits.specs.Layout.{four_results}
 use Rattle.machine_steps.proofs.Laws.Stops.{apply_deep}
-use borrow.Author.Rules.{rules}
-use Rattle.machine_steps.proofs.apply.Lts as lts
 use Rattle.machine_steps.proofs.apply.Goals as goal
 
 pub returns-then-depth-eq0 : goal.returns-then-depth-eq0

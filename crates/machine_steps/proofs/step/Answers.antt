@@ -2,9 +2,7 @@
 use Rattle.words.specs.Words.{words}
 use Rattle.words.specs.Quadwords.{quadwords_in}
 use Rattle.machine_circuits.specs.Layout.{four_results}
-use borrow.Author.Rules.{rules}
 use Rattle.machine_steps.proofs.Laws.Stops.{end_no_step, variable_no_step}
-use Rattle.machine_steps.proofs.step.Lts as lts
 use Rattle.machine_steps.proofs.step.Goals as goal
 
 pub returns-in-AtApplication : goal.returns-in-AtApplication

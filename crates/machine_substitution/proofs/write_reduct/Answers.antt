@@ -1,16 +1,15 @@
 -- `machine_substitution::write_reduct` meets its contract. The invariant: what was written and what is still to be written make the
 -- reduct, which is written only as long as it is not too large. The measure is what is left of the body. Assumes nothing.
-use Prim.Native.Nat.{◌+◌, ◌-◌, ◌≤◌}
+use Prim.Native.Nat.{◌+◌, ◌≤◌}
 use native.Mathlib.Omega.{arith}
-use mathlib.Core.Path.{◌≡◌, refl, ◌∙◌}
+use mathlib.Core.Path.{refl, ◌∙◌}
 use lib.ListN.{length}
 use Rattle.words.specs.Words.{words}
 use Rattle.words.proofs.Laws.Words.{same_words, word_put}
 use Rattle.machine_nodes.specs.Nodes.{nodes_in}
 use Rattle.machine_nodes.proofs.Laws.Nodes.{length_nodes_in}
 use Rattle.machine_nodes.proofs.Laws.Bytes.{nodes_copied}
-use Rattle.machine_substitution.specs.Reducts.{Ready}
-use Rattle.machine_substitution.proofs.Laws.Reducts.{same_ready, Writing, writing_start, writing_next, writing_refused}
+use Rattle.machine_substitution.proofs.Laws.Reducts.{same_ready, writing_start, writing_next, writing_refused}
 use Rattle.machine_substitution.proofs.Laws.Reducts.{writing_end, nothing_waiting, nothing_left}
 use Rattle.machine_substitution.proofs.write_reduct.Goals as goal
 

@@ -1,6 +1,5 @@
 -- `machine_walk::head_of` meets its contract: one arm for each kind of value, then the number of parts. Assumes nothing.
 use mathlib.Core.Path.{sym, ap, ◌∙◌}
-use borrow.Author.Rules.{rules}
 use Rattle.machine_walk.specs.Heads.{head_with, head_of}
 use Rattle.machine_walk.proofs.Laws.Heads.{head_no_value}
 use Rattle.machine_walk.proofs.head_of.Goals as goal

@@ -1,5 +1,4 @@
 -- `machine_walk::return_first` meets its contract. Assumes nothing.
-use native.Mathlib.Omega.{arith}
 use Rattle.words.specs.Quadwords.{quadwords_in}
 use Rattle.words.proofs.Laws.Quadwords.{quadword_put}
 use Rattle.machine_walk.proofs.Laws.Functions.{let_moves, first_moves, first_falls}

@@ -1,5 +1,4 @@
 -- `machine_walk::return_second` meets its contract. Assumes nothing.
-use borrow.Author.Rules.{rules}
 use Rattle.machine_walk.proofs.Laws.Functions.{pair_moves, pair_falls, second_moves}
 use Rattle.machine_walk.proofs.return_second.Goals as goal
 

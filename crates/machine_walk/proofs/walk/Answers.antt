@@ -1,13 +1,11 @@
 -- `machine_walk::walk` meets its contract. The invariant: the memory holds a walk that ends where the first one does. The measure
 -- is the number of moves left. Assumes nothing.
-use mathlib.Core.Path.{◌≡◌, refl, ◌∙◌}
+use mathlib.Core.Path.{refl, ◌∙◌}
 use lib.ListN.{length}
-use borrow.Author.Rules.{rules}
 use Rattle.machine_nodes.specs.Nodes.{nodes_in}
 use Rattle.machine_nodes.proofs.Laws.Nodes.{same_nodes}
 use Rattle.words.specs.Quadwords.{quadwords_in}
-use Rattle.machine_walk.specs.Moving.{moves_from}
-use Rattle.machine_walk.proofs.Laws.Functions.{Reaches, reaches_none, reaches_more, reaches_stop, falls_on}
+use Rattle.machine_walk.proofs.Laws.Functions.{reaches_none, reaches_more, reaches_stop, falls_on}
 use Rattle.machine_walk.proofs.walk.Goals as goal
 
 pub loop-next-init : goal.loop-next-init

@@ -1,11 +1,9 @@
-use mathlib.Core.Path.{◌≡◌, refl, ◌∙◌}
+use mathlib.Core.Path.{◌≡◌}
 use lib.ListN.{length}
-use borrow.Author.Rules.{rules}
 use Rattle.machine_nodes.specs.Nodes.{nodes_in}
-use Rattle.machine_nodes.proofs.Laws.Nodes.{same_nodes}
 use Rattle.words.specs.Quadwords.{quadwords_in}
 use Rattle.machine_walk.specs.Moving.{moves_from}
-use Rattle.machine_walk.proofs.Laws.Functions.{Reaches, reaches_none, reaches_more, reaches_stop, falls_on}
+use Rattle.machine_walk.proofs.Laws.Functions.{Reaches}
 use Rattle.machine_walk.proofs.walk.Given as goal
 
 abbrev pub invariant-loop-next : goal.invariant-loop-next

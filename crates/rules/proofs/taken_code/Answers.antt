@@ -1,7 +1,6 @@
 -- `rules::taken_code` meets its contract: its table has the types of the wires that each gate takes, in one number, as antt computes it.
 -- Assumes nothing.
 use mathlib.Core.Path.{◌≡◌, refl, ◌∙◌}
-use borrow.Author.Rules.{rules}
 use Rattle.rules.specs.Gates.{gate_table, input_wires}
 use Rattle.rules.specs.GateCodes.{wires_code, taken_code}
 use Rattle.rules.proofs.GateTable.{of_no_gate, entry_at}

@@ -2,7 +2,6 @@
 -- Assumes nothing.
 use mathlib.Core.Path.{◌≡◌, refl, ◌∙◌}
 use lib.ListN.{length}
-use borrow.Author.Rules.{rules}
 use Rattle.rules.specs.Gates.{gate_table}
 use Rattle.rules.specs.GateCodes.{circ_codes, type_entries}
 use Rattle.rules.proofs.GateTable.{of_no_gate, entry_at}

@@ -2,7 +2,6 @@
 -- Assumes nothing.
 use mathlib.Core.Path.{◌≡◌, refl, ◌∙◌}
 use lib.ListN.{length}
-use borrow.Author.Rules.{rules}
 use Rattle.rules.specs.Gates.{gate_table, input_wires, wires_in}
 use Rattle.rules.proofs.GateTable.{of_no_gate, entry_at}
 use Rattle.rules.proofs.wires_in.Goals as goal

@@ -2,7 +2,6 @@
 -- Assumes nothing.
 use mathlib.Core.Path.{◌≡◌, refl, ◌∙◌}
 use lib.ListN.{length}
-use borrow.Author.Rules.{rules}
 use Rattle.rules.specs.Gates.{gate_table, output_wires, wires_out}
 use Rattle.rules.proofs.GateTable.{of_no_gate, entry_at}
 use Rattle.rules.proofs.wires_out.Goals as goal

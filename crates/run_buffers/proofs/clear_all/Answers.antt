@@ -1,8 +1,6 @@
 -- `run_buffers::clear_all` meets its contract: each buffer is cleared once. Assumes nothing.
 use mathlib.Core.Path.{ap, ap₂}
 use mathlib.Core.List.{[], ◌∷◌}
-use borrow.Author.Rules.{rules}
-use Rattle.run_buffers.proofs.clear_all.Lts as lts
 use Rattle.run_buffers.proofs.clear_all.Goals as goal
 
 pub returns : goal.returns

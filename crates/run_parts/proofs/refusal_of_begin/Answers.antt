@@ -1,8 +1,6 @@
 -- `run_parts::refusal_of_begin` meets its contract: both cases of the answer. Assumes nothing.
 use mathlib.Core.Path.{sym, ap}
 use Rattle.run_parts.specs.Parts.{refusal_of_begin}
-use borrow.Author.Rules.{rules}
-use Rattle.run_parts.proofs.refusal_of_begin.Lts as lts
 use Rattle.run_parts.proofs.refusal_of_begin.Goals as goal
 
 pub returns-in-Loaded : goal.returns-in-Loaded

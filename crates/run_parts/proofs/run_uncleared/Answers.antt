@@ -16,8 +16,6 @@ use Rattle.machine_circuits.specs.Layout.{four_results}
 use Rattle.machine_state.specs.Memory.{memory}
 use Rattle.run_answers.specs.Lengths.{run_lengths}
 use Rattle.run_parts.proofs.Laws.Running.{roomy_lent, loaded_run, says_short, says_refused, says_ended}
-use borrow.Author.Rules.{rules}
-use Rattle.run_parts.proofs.run_uncleared.Lts as lts
 use Rattle.run_parts.proofs.run_uncleared.Goals as goal
 
 pub returns-then-too_short : goal.returns-then-too_short

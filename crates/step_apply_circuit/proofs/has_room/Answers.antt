@@ -1,7 +1,6 @@
 -- `step_apply_circuit::has_room` meets its contract. Assumes nothing.
 use Prim.Native.Nat.{◌+◌, ◌-◌}
 use native.Mathlib.Omega.{arith}
-use borrow.Author.Rules.{rules}
 use Rattle.rules.specs.Sizes.{most_nodes}
 use Rattle.step_apply_circuit.specs.Redexes.{Room}
 use Rattle.step_apply_circuit.proofs.Laws.Tests.{refuses, admits, above, within_limit}

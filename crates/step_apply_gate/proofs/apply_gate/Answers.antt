@@ -3,7 +3,6 @@ use Prim.Native.Nat.{◌+◌, ◌≤◌, ◌<◌}
 use native.Mathlib.Omega.{arith}
 use mathlib.Core.Path.{sym, ◌∙◌, ap}
 use borrow.Author.Tests.{ltb-true, ltb-false}
-use borrow.Author.Rules.{rules}
 use Rattle.rules.specs.Sizes.{most_nodes}
 use Rattle.words.specs.Words.{words}
 use Rattle.machine_nodes.specs.Nodes.{nodes_in}

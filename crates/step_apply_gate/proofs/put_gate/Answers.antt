@@ -1,5 +1,4 @@
 -- `step_apply_gate::put_gate` meets its contract. Assumes nothing.
-use borrow.Author.Rules.{rules}
 use Rattle.words.specs.Words.{words}
 use Rattle.step_apply_gate.proofs.put_gate.Goals as goal
 

@@ -2,7 +2,6 @@
 use Prim.Native.Nat.{◌+◌, ◌≤◌}
 use native.Mathlib.Omega.{arith}
 use lib.ListN.{length}
-use borrow.Author.Rules.{rules}
 use Rattle.rules.specs.Types.{wires}
 use Rattle.machine_nodes.specs.Nodes.{nodes_in}
 use Rattle.words.specs.Quadwords.{quadwords_in}

@@ -3,7 +3,6 @@ use Prim.Native.Nat.{◌+◌}
 use native.Mathlib.Omega.{arith}
 use mathlib.Core.Path.{sym}
 use borrow.Author.Tests.{lt-ltb}
-use borrow.Author.Rules.{rules}
 use Rattle.step_apply_gate.proofs.Laws.Tests.{gates_test}
 use Rattle.step_apply_gate.proofs.too_many_gates.Goals as goal
 

@@ -4,7 +4,6 @@ use native.Mathlib.Omega.{arith}
 use mathlib.Core.Path.{refl}
 use lib.Dec.{leb}
 use Rattle.step_box_entry.proofs.Laws.Entry.{room_tested}
-use borrow.Author.Rules.{rules}
 use Rattle.rules.specs.Sizes.{most_nodes}
 use Rattle.step_box_entry.proofs.has_room.Goals as goal
 

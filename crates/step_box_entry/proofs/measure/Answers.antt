@@ -11,7 +11,6 @@ use Rattle.words.specs.Quadwords.{quadwords_in}
 use Rattle.rules.specs.Parts.{parts_of_kind}
 use Rattle.machine_nodes.proofs.Laws.Spans.{at_most_all}
 use Rattle.step_box_entry.proofs.Laws.Entry.{room_there, measured_fits, measured_exceeds}
-use borrow.Author.Rules.{rules}
 use Rattle.step_box_entry.proofs.measure.Goals as goal
 
 pub overflow_add-new-2 : goal.overflow_add-new-2

@@ -11,7 +11,6 @@ use Rattle.machine_state.specs.Outcomes.{Steps}
 use Rattle.machine_state.specs.declared.Stepped.TheVariants.{Taken, TooLarge}
 use Rattle.step_box_entry.proofs.Laws.Entry.{fits_known, exceeds_known}
 use Rattle.step_box_entry.proofs.Laws.Stepping.{no_frame, exceeded, taken}
-use borrow.Author.Rules.{rules}
 use Rattle.step_box_entry.proofs.open_box.Goals as goal
 
 pub returns-then-frames-counts : goal.returns-then-frames-counts

@@ -1,5 +1,4 @@
 -- `step_box_entry::put_frame` meets its contract. Assumes nothing.
-use borrow.Author.Rules.{rules}
 use Rattle.words.proofs.Laws.Quadwords.{quadword_put}
 use Rattle.step_box_entry.proofs.put_frame.Goals as goal
 

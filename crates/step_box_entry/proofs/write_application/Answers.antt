@@ -6,7 +6,6 @@ use Rattle.machine_nodes.proofs.Laws.Nodes.{length_nodes_in, node_put}
 use Rattle.machine_nodes.proofs.Laws.Bytes.{nodes_copied}
 use Rattle.machine_circuits.proofs.Laws.Tuples.{wires_few}
 use Rattle.step_box_entry.proofs.Laws.Entry.{application_written}
-use borrow.Author.Rules.{rules}
 use Rattle.step_box_entry.proofs.write_application.Goals as goal
 
 pub overflow_add-to : goal.overflow_add-to

@@ -1,6 +1,5 @@
 -- `step_box_exit::exit_at` meets its contract. Assumes nothing.
 use mathlib.Core.Path.{◌∙◌, ap}
-use borrow.Author.Rules.{rules}
 use Rattle.machine_walk.specs.Stack.{stack_node, stack_start}
 use Rattle.words.specs.Quadwords.{quadwords_in, quadword_at, word_in}
 use Rattle.step_box_exit.proofs.exit_at.Goals as goal

@@ -3,7 +3,6 @@ use Prim.Native.Nat.{◌+◌, ◌%◌}
 use native.Mathlib.Omega.{arith}
 use mathlib.Core.Path.{◌∙◌, ap}
 use lib.ListN.{set}
-use borrow.Author.Rules.{rules}
 use Rattle.words.specs.Quadwords.{quadword, quadwords_in}
 use Rattle.machine_circuits.specs.Layout.{closed_from}
 use Rattle.words.proofs.Laws.Quadwords.{same_quadwords, quadword_put as put-quadword}

@@ -3,7 +3,6 @@ use Rattle.rules.specs.Kinds.{constant_kind}
 use Prim.Native.Nat.{◌%◌}
 use mathlib.Core.Path.{◌∙◌, ap}
 use lib.ListN.{set}
-use borrow.Author.Rules.{rules}
 use Rattle.machine_terms.specs.Trees.{node}
 use Rattle.machine_nodes.specs.Nodes.{nodes_in}
 use Rattle.machine_nodes.proofs.Laws.Nodes.{node_put}

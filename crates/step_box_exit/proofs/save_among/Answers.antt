@@ -1,6 +1,5 @@
 -- `step_box_exit::save_among` meets its contract. Assumes nothing.
 use native.Mathlib.Omega.{arith}
-use borrow.Author.Rules.{rules}
 use Rattle.words.specs.Words.{words}
 use Rattle.machine_nodes.specs.Nodes.{nodes_in}
 use Rattle.machine_circuits.specs.Layout.{four_results}

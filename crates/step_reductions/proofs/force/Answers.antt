@@ -1,6 +1,5 @@
 -- `step_reductions::force` meets its contract. Assumes nothing.
 use mathlib.Core.Path.{◌∙◌, ap}
-use borrow.Author.Rules.{rules}
 use Rattle.machine_terms.specs.Walks.{at_force}
 use Rattle.machine_nodes.specs.Nodes.{nodes_in}
 use Rattle.machine_nodes.proofs.Laws.Bytes.{nodes_copied}

@@ -1,7 +1,6 @@
 -- `step_reductions::let_in` meets its contract. Assumes nothing.
 use mathlib.Core.Path.{refl, ◌∙◌, ap}
 use lib.ListN.{length}
-use borrow.Author.Rules.{rules}
 use Rattle.words.specs.Words.{words}
 use Rattle.machine_terms.specs.Walks.{at_let}
 use Rattle.machine_nodes.specs.Nodes.{nodes_in}

@@ -1,6 +1,5 @@
 -- `step_reductions::most_between` meets its contract. Assumes nothing.
 use native.Mathlib.Omega.{arith}
-use borrow.Author.Rules.{rules}
 use Rattle.machine_nodes.proofs.Laws.Nodes.{length_nodes_in}
 use Rattle.step_reductions.proofs.most_between.Goals as goal
 

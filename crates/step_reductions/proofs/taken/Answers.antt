@@ -1,5 +1,4 @@
 -- `step_reductions::taken` meets its contract. Assumes nothing.
-use borrow.Author.Rules.{rules}
 use Rattle.step_reductions.proofs.taken.Goals as goal
 
 pub returns : goal.returns

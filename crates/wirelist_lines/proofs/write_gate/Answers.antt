@@ -10,7 +10,6 @@ use Rattle.words.specs.Numbers.{words_at}
 use Rattle.listing.specs.Reading.{slots_from}
 use Rattle.text.proofs.Laws.Writing.{puts_same}
 use Rattle.wirelist_lines.proofs.Laws.Lines.{puts_gate}
-use borrow.Author.Rules.{rules}
 use Rattle.wirelist_lines.proofs.write_gate.Goals as goal
 
 pub put_numbers-numbered-requires : goal.put_numbers-numbered-requires

@@ -1,17 +1,13 @@
 -- `wirelist_lines::write_gates` meets its contract. The invariant: the lines of the gates passed are written, and the wires that they
 -- make are counted, at most three a gate; the measure is what is left of the gates. Assumes nothing.
-use Prim.Native.Nat.{◌+◌, ◌-◌, ◌*◌, ◌≤◌}
+use Prim.Native.Nat.{◌+◌}
 use native.Mathlib.Omega.{arith}
 use mathlib.Core.Path.{◌≡◌, refl, sym, ◌∙◌, ap, ap₂}
-use lib.ListN.{length}
-use borrow.Author.Rules.{rules}
 use Rattle.rules.specs.Gates.{wires_out}
-use Rattle.rules.specs.Slots.{gate_slots_lem}
 use Rattle.machine_circuits.proofs.Laws.Gates.{few_out}
 use Rattle.listing.specs.Pieces.{pieces}
 use Rattle.listing.specs.Reading.{gate_count, kind_at}
-use Rattle.wirelist_lines.specs.LinesAt.{made_before, gate_line_at}
-use Rattle.text.specs.Writing.{Puts}
+use Rattle.wirelist_lines.specs.LinesAt.{gate_line_at}
 use Rattle.text.proofs.Laws.Writing.{puts_same}
 use Rattle.wirelist_lines.proofs.Laws.Read.{made_next}
 use Rattle.wirelist_lines.proofs.Laws.Lines.{gate_line_at_lem, puts_piece, puts_no_piece}

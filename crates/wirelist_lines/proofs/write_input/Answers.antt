@@ -1,6 +1,5 @@
 -- `wirelist_lines::write_input` meets its contract. Assumes nothing.
 use mathlib.Core.Path.{sym, ◌∙◌}
-use borrow.Author.Rules.{rules}
 use Rattle.rules.specs.Types.{Bit, Qubit}
 use Rattle.text.proofs.Laws.Writing.{puts_same}
 use Rattle.wirelist_lines.proofs.Laws.Lines.{puts_input, bit_line, qubit_line}

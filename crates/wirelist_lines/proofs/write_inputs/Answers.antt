@@ -1,14 +1,10 @@
 -- `wirelist_lines::write_inputs` meets its contract. The invariant: the lines of the inputs passed are written; the measure is what is
 -- left of them. Assumes nothing.
-use Prim.Native.Nat.{◌-◌, ◌≤◌}
 use native.Mathlib.Omega.{arith}
 use mathlib.Core.Path.{◌≡◌, refl, ◌∙◌, ap}
-use lib.ListN.{length}
-use borrow.Author.Rules.{rules}
 use Rattle.listing.specs.Pieces.{pieces}
 use Rattle.listing.specs.Reading.{input_count}
 use Rattle.wirelist_lines.specs.LinesAt.{input_line_at}
-use Rattle.text.specs.Writing.{Puts}
 use Rattle.text.proofs.Laws.Writing.{puts_same}
 use Rattle.wirelist_lines.proofs.Laws.Lines.{puts_piece, puts_no_piece}
 use Rattle.wirelist_lines.proofs.write_inputs.Goals as goal

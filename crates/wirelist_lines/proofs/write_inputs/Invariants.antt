@@ -1,14 +1,9 @@
 use Prim.Native.Nat.{◌-◌, ◌≤◌}
-use native.Mathlib.Omega.{arith}
-use mathlib.Core.Path.{◌≡◌, refl, ◌∙◌, ap}
+use mathlib.Core.Path.{◌≡◌}
 use lib.ListN.{length}
-use borrow.Author.Rules.{rules}
 use Rattle.listing.specs.Pieces.{pieces}
-use Rattle.listing.specs.Reading.{input_count}
 use Rattle.wirelist_lines.specs.LinesAt.{input_line_at}
 use Rattle.text.specs.Writing.{Puts}
-use Rattle.text.proofs.Laws.Writing.{puts_same}
-use Rattle.wirelist_lines.proofs.Laws.Lines.{puts_piece, puts_no_piece}
 use Rattle.wirelist_lines.proofs.write_inputs.Given as goal
 
 abbrev pub invariant-loop-i : goal.invariant-loop-i

@@ -1,6 +1,5 @@
 -- `wirelist_lines::write_lines` meets its contract. Assumes nothing.
 use Rattle.wirelist_lines.proofs.Laws.Lines.{puts_text}
-use borrow.Author.Rules.{rules}
 use Rattle.wirelist_lines.proofs.write_lines.Goals as goal
 
 pub returns : goal.returns

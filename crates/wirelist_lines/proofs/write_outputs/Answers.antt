@@ -1,7 +1,6 @@
 -- `wirelist_lines::write_outputs` meets its contract. Assumes nothing.
 use mathlib.Core.Path.{ap₂}
 use mathlib.Core.List.{map}
-use borrow.Author.Rules.{rules}
 use Rattle.text.specs.Text.{ascii, decimal, spaced}
 use Rattle.words.specs.Numbers.{words_at}
 use Rattle.listing.specs.Reading.{outputs_from, output_count}

@@ -1,6 +1,5 @@
 -- `wirelist_lines::write_refusal` meets its contract. Assumes nothing.
 use mathlib.Core.List.{[], ◌∷◌}
-use borrow.Author.Rules.{rules}
 use Rattle.text.specs.Text.{ascii, decimal}
 use Rattle.text.proofs.Laws.Writing.{puts_first}
 use Rattle.wirelist_lines.proofs.Laws.Lines.{puts_line, puts_words}

@@ -1,6 +1,5 @@
 -- `wirelist_lines::write_steps` meets its contract. Assumes nothing.
 use mathlib.Core.List.{[], ◌∷◌}
-use borrow.Author.Rules.{rules}
 use Rattle.text.specs.Text.{ascii, decimal}
 use Rattle.wirelist_lines.proofs.Laws.Lines.{puts_line}
 use Rattle.wirelist_lines.proofs.write_steps.Goals as goal

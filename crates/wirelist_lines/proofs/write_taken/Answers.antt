@@ -2,7 +2,6 @@
 use native.Mathlib.Omega.{arith}
 use mathlib.Core.Path.{ap₂}
 use mathlib.Core.List.{map}
-use borrow.Author.Rules.{rules}
 use Rattle.rules.specs.Gates.{wires_in}
 use Rattle.machine_circuits.proofs.Laws.Gates.{few_in}
 use Rattle.text.specs.Text.{decimal, spaced}

@@ -1,6 +1,5 @@
 -- `words::byte_at` meets its contract. Past the end `get_or` gives 0.
 use mathlib.Core.Path.{sym}
-use borrow.Author.Rules.{rules}
 use Rattle.words.proofs.Laws.Numbers.{byte_past}
 use Rattle.words.proofs.byte_at.Goals as goal
 

@@ -1,6 +1,5 @@
 -- `words::clear` meets its contract. The invariant: the bytes passed are 0, the others are as at entry; the measure is what
 -- is left of the length. Assumes nothing.
-use Prim.Native.Nat.{◌≤◌, ◌-◌}
 use native.Mathlib.Omega.{arith}
 use mathlib.Core.Path.{◌≡◌, refl, ap, ◌∙◌}
 use mathlib.Core.List.{◌++◌, append-nil}

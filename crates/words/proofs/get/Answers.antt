@@ -1,6 +1,5 @@
 -- `words::get` meets its contract: word i is the number at byte 2 * i. Assumes nothing.
 use mathlib.Core.Path.{sym, ◌∙◌}
-use borrow.Author.Rules.{rules}
 use Rattle.words.proofs.Laws.Words.{word_past}
 use Rattle.words.proofs.Laws.Numbers.{number_word}
 use Rattle.words.proofs.get.Goals as goal

@@ -1,5 +1,4 @@
 -- `machine_circuits::gates::append_gate` meets its contract. Assumes nothing.
-use borrow.Author.Rules.{rules}
 use Rattle.rules.specs.Gates.{wires_in}
 use Rattle.words.specs.Words.{words}
 use Rattle.words.specs.Quadwords.{quadwords_in}

@@ -1,6 +1,5 @@
 -- `machine_circuits::gates::copy_gate` meets its contract. Assumes nothing.
 use mathlib.Core.Path.{◌∙◌, ap}
-use borrow.Author.Rules.{rules}
 use Rattle.rules.specs.Gates.{wires_in}
 use Rattle.words.specs.Words.{words}
 use Rattle.words.specs.Quadwords.{quadwords_in, quadword_at}

@@ -1,15 +1,14 @@
 -- `machine_circuits::gates::copy_gates` meets its contract. The invariant: the quadwords written so far are renamed copies of the
 -- closed circuit's, oldest first, and no other quadword has changed; the measure is what is left to copy. Assumes nothing.
-use Prim.Native.Nat.{ℕ, ◌+◌, ◌-◌, ◌/◌, ◌≤◌, ◌<◌}
+use Prim.Native.Nat.{◌+◌, ◌-◌, ◌/◌}
 use native.Mathlib.Omega.{arith}
 use mathlib.Core.Path.{◌≡◌, refl, ◌∙◌, subst}
 use lib.ListN.{length, take}
-use borrow.Author.Rules.{rules}
 use Rattle.words.specs.Words.{words}
 use Rattle.words.specs.Quadwords.{quadwords_in}
 use Rattle.words.proofs.Laws.Quadwords.{length_quadwords_in, same_quadwords, quadword_words_below}
 use Rattle.words.proofs.Laws.Ends.{past_end, not_past}
-use Rattle.machine_circuits.specs.Copies.{CopyFits, renamed_words}
+use Rattle.machine_circuits.specs.Copies.{renamed_words}
 use Rattle.machine_circuits.proofs.Laws.Copies.{GatesWritten, none_written, one_more_copied, all_copied, words_below}
 use Rattle.machine_circuits.proofs.gates.copy_gates.Goals as goal
 

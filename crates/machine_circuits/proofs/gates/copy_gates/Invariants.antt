@@ -1,14 +1,10 @@
 use Prim.Native.Nat.{ℕ, ◌+◌, ◌-◌, ◌/◌, ◌≤◌, ◌<◌}
-use native.Mathlib.Omega.{arith}
-use mathlib.Core.Path.{◌≡◌, refl, ◌∙◌, subst}
+use mathlib.Core.Path.{◌≡◌}
 use lib.ListN.{length, take}
-use borrow.Author.Rules.{rules}
 use Rattle.words.specs.Words.{words}
 use Rattle.words.specs.Quadwords.{quadwords_in}
-use Rattle.words.proofs.Laws.Quadwords.{length_quadwords_in, same_quadwords, quadword_words_below}
-use Rattle.words.proofs.Laws.Ends.{past_end, not_past}
 use Rattle.machine_circuits.specs.Copies.{CopyFits, renamed_words}
-use Rattle.machine_circuits.proofs.Laws.Copies.{GatesWritten, none_written, one_more_copied, all_copied, words_below}
+use Rattle.machine_circuits.proofs.Laws.Copies.{GatesWritten}
 use Rattle.machine_circuits.proofs.gates.copy_gates.Given as goal
 
 abbrev pub invariant-loop-left : goal.invariant-loop-left

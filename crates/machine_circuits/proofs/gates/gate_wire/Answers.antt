@@ -1,7 +1,6 @@
 -- `machine_circuits::gates::gate_wire` meets its contract. Assumes nothing.
 use native.Mathlib.Omega.{arith}
 use mathlib.Core.Path.{◌≡◌, sym, ◌∙◌, ap}
-use borrow.Author.Rules.{rules}
 use Rattle.rules.specs.Gates.{wires_in}
 use Rattle.words.specs.Quadwords.{word_in, quadwords_in, quadword_at}
 use Rattle.machine_circuits.proofs.Laws.Gates.{slot_used, slot_unused}

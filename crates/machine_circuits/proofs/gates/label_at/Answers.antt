@@ -1,7 +1,6 @@
 -- `machine_circuits::gates::label_at` meets its contract. Assumes nothing.
 use native.Mathlib.Omega.{arith}
 use mathlib.Core.Path.{sym, ◌∙◌}
-use borrow.Author.Rules.{rules}
 use Rattle.words.specs.Words.{words}
 use Rattle.words.proofs.Laws.Words.{length_words, word_below}
 use Rattle.machine_circuits.proofs.Laws.Gates.{label_within, label_past, label_ended}

@@ -1,5 +1,4 @@
 -- `machine_circuits::gates::move_gate` meets its contract. Assumes nothing.
-use borrow.Author.Rules.{rules}
 use Rattle.words.specs.Quadwords.{quadwords_in, quadword_at}
 use Rattle.words.proofs.Laws.Quadwords.{quadword_put}
 use Rattle.machine_circuits.proofs.Laws.Copies.{gate_moved}

@@ -1,10 +1,9 @@
 -- `machine_circuits::gates::move_gates` meets its contract. The invariant: the quadwords written so far are those of the open circuit,
 -- and no other quadword has changed; the measure is what is left to move. Assumes nothing.
-use Prim.Native.Nat.{◌+◌, ◌-◌, ◌/◌, ◌≤◌}
+use Prim.Native.Nat.{◌/◌}
 use native.Mathlib.Omega.{arith}
 use mathlib.Core.Path.{◌≡◌, refl, ◌∙◌, subst}
 use lib.ListN.{length}
-use borrow.Author.Rules.{rules}
 use Rattle.words.specs.Quadwords.{quadwords_in}
 use Rattle.words.proofs.Laws.Quadwords.{length_quadwords_in, same_quadwords}
 use Rattle.words.proofs.Laws.Ends.{past_end, not_past}

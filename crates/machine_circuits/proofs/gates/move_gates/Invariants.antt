@@ -1,12 +1,8 @@
 use Prim.Native.Nat.{◌+◌, ◌-◌, ◌/◌, ◌≤◌}
-use native.Mathlib.Omega.{arith}
-use mathlib.Core.Path.{◌≡◌, refl, ◌∙◌, subst}
+use mathlib.Core.Path.{◌≡◌}
 use lib.ListN.{length}
-use borrow.Author.Rules.{rules}
 use Rattle.words.specs.Quadwords.{quadwords_in}
-use Rattle.words.proofs.Laws.Quadwords.{length_quadwords_in, same_quadwords}
-use Rattle.words.proofs.Laws.Ends.{past_end, not_past}
-use Rattle.machine_circuits.proofs.Laws.Copies.{GatesWritten, none_written, one_more_moved, all_moved}
+use Rattle.machine_circuits.proofs.Laws.Copies.{GatesWritten}
 use Rattle.machine_circuits.proofs.gates.move_gates.Given as goal
 
 abbrev pub invariant-loop-i : goal.invariant-loop-i

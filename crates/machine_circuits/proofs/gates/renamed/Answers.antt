@@ -1,6 +1,5 @@
 -- `machine_circuits::gates::renamed` meets its contract: renaming goes by the place of a wire. Assumes nothing.
 use mathlib.Core.Path.{◌∙◌}
-use borrow.Author.Rules.{rules}
 use Rattle.words.specs.Words.{words}
 use Rattle.machine_circuits.proofs.Laws.Copies.{renamed_input, renamed_later}
 use Rattle.machine_circuits.proofs.gates.renamed.Goals as goal

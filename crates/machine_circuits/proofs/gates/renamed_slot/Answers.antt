@@ -2,7 +2,6 @@
 use native.Mathlib.Omega.{arith}
 use mathlib.Core.Path.{sym, ◌∙◌, ap}
 use lib.ListN.{take}
-use borrow.Author.Rules.{rules}
 use Rattle.rules.specs.Circuits.{rename}
 use Rattle.words.specs.Words.{words}
 use Rattle.words.specs.Quadwords.{quadwords_in, quadword_at}

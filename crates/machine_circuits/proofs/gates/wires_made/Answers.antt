@@ -1,10 +1,9 @@
 -- `machine_circuits::gates::wires_made` meets its contract. The invariant: so many wires are made by the gates passed; the measure
 -- is what is left of the quadwords. Assumes nothing.
-use Prim.Native.Nat.{◌+◌, ◌-◌, ◌*◌, ◌/◌, ◌≤◌}
+use Prim.Native.Nat.{◌+◌, ◌/◌}
 use native.Mathlib.Omega.{arith}
 use mathlib.Core.Path.{◌≡◌, refl, ◌∙◌, ap}
 use lib.ListN.{length}
-use borrow.Author.Rules.{rules}
 use Rattle.rules.specs.Gates.{wires_out}
 use Rattle.rules.specs.Circuits.{outputs}
 use Rattle.words.specs.Quadwords.{word_in, quadwords_in, quadword_at}

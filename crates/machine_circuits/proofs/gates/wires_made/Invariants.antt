@@ -1,15 +1,9 @@
 use Prim.Native.Nat.{◌+◌, ◌-◌, ◌*◌, ◌/◌, ◌≤◌}
-use native.Mathlib.Omega.{arith}
-use mathlib.Core.Path.{◌≡◌, refl, ◌∙◌, ap}
+use mathlib.Core.Path.{◌≡◌}
 use lib.ListN.{length}
-use borrow.Author.Rules.{rules}
-use Rattle.rules.specs.Gates.{wires_out}
 use Rattle.rules.specs.Circuits.{outputs}
-use Rattle.words.specs.Quadwords.{word_in, quadwords_in, quadword_at}
+use Rattle.words.specs.Quadwords.{quadwords_in}
 use Rattle.machine_circuits.specs.Layout.{gates_in}
-use Rattle.words.proofs.Laws.Quadwords.{length_quadwords_in}
-use Rattle.words.proofs.Laws.Ends.{past_end, not_past}
-use Rattle.machine_circuits.proofs.Laws.Gates.{few_out, gates_next, outputs_next}
 use Rattle.machine_circuits.proofs.gates.wires_made.Given as goal
 
 abbrev pub invariant-loop-i : goal.invariant-loop-i

@@ -1,7 +1,6 @@
 -- `machine_circuits::tuples::code_count` meets its contract. Assumes nothing.
 use mathlib.Core.Path.{sym, ◌∙◌, ap}
 use lib.ListN.{length}
-use borrow.Author.Rules.{rules}
 use Rattle.words.specs.Words.{words}
 use Rattle.words.proofs.Laws.Words.{length_words}
 use Rattle.machine_circuits.specs.Tuples.{codes_of}

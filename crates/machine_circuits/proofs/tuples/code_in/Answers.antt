@@ -2,7 +2,6 @@
 use native.Mathlib.Omega.{arith}
 use mathlib.Core.Path.{sym, ◌∙◌, ap}
 use lib.ListN.{length, get_or}
-use borrow.Author.Rules.{rules}
 use Rattle.words.specs.Words.{words}
 use Rattle.machine_circuits.specs.Tuples.{codes_of}
 use Rattle.machine_circuits.proofs.Laws.Outputs.{code_of}

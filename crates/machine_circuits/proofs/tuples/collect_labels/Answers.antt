@@ -1,11 +1,10 @@
 -- `machine_circuits::tuples::collect_labels` meets its contract. The invariant: the first words are the labels of the nodes passed;
 -- the measure is what is left of the nodes. Assumes nothing.
-use Prim.Native.Nat.{◌+◌, ◌-◌, ◌/◌, ◌≤◌, ◌<◌}
+use Prim.Native.Nat.{◌+◌, ◌/◌, ◌<◌}
 use native.Mathlib.Omega.{arith}
 use mathlib.Core.Path.{◌≡◌, refl, sym, ◌∙◌, ap}
 use mathlib.Core.List.{[], ◌∷◌, ◌++◌}
-use lib.ListN.{length, take, length-append}
-use borrow.Author.Rules.{rules}
+use lib.ListN.{length, length-append}
 use Rattle.words.specs.Words.{words}
 use Rattle.words.proofs.Laws.Words.{same_words, word_put}
 use Rattle.machine_nodes.specs.Nodes.{nodes_in, node_at}

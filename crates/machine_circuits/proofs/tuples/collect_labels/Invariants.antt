@@ -1,17 +1,9 @@
-use Prim.Native.Nat.{◌+◌, ◌-◌, ◌/◌, ◌≤◌, ◌<◌}
-use native.Mathlib.Omega.{arith}
-use mathlib.Core.Path.{◌≡◌, refl, sym, ◌∙◌, ap}
-use mathlib.Core.List.{[], ◌∷◌, ◌++◌}
-use lib.ListN.{length, take, length-append}
-use borrow.Author.Rules.{rules}
+use Prim.Native.Nat.{◌+◌, ◌-◌, ◌/◌, ◌≤◌}
+use mathlib.Core.Path.{◌≡◌}
+use lib.ListN.{length, take}
 use Rattle.words.specs.Words.{words}
-use Rattle.words.proofs.Laws.Words.{same_words, word_put}
-use Rattle.machine_nodes.specs.Nodes.{nodes_in, node_at}
-use Rattle.machine_nodes.proofs.Laws.Nodes.{length_nodes_in}
-use Rattle.words.proofs.Laws.Ends.{past_end, not_past}
+use Rattle.machine_nodes.specs.Nodes.{nodes_in}
 use Rattle.machine_circuits.specs.Tuples.{labels_passed}
-use Rattle.machine_circuits.proofs.Laws.Tuples.{label_passed, other_passed}
-use Rattle.machine_circuits.proofs.Laws.Writing.{collected_more, all_collected, tree_inside}
 use Rattle.machine_circuits.proofs.tuples.collect_labels.Given as goal
 
 abbrev pub invariant-loop-i : goal.invariant-loop-i

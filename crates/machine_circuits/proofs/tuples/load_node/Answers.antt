@@ -4,7 +4,6 @@ use Prim.Native.Nat.{◌%◌}
 use native.Mathlib.Omega.{arith}
 use mathlib.Core.Path.{sym, ◌∙◌, ap}
 use lib.ListN.{set, take}
-use borrow.Author.Rules.{rules}
 use Rattle.rules.specs.Circuits.{rename}
 use Rattle.machine_terms.specs.Trees.{node}
 use Rattle.words.specs.Words.{words}

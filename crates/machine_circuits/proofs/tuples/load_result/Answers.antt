@@ -1,11 +1,10 @@
 -- `machine_circuits::tuples::load_result` meets its contract. The invariant: the nodes of the words passed are written; the measure
 -- is what is left of the words. Assumes nothing.
-use Prim.Native.Nat.{◌+◌, ◌-◌, ◌/◌, ◌≤◌, ◌<◌}
+use Prim.Native.Nat.{◌+◌, ◌/◌}
 use native.Mathlib.Omega.{arith}
 use mathlib.Core.Path.{◌≡◌, refl, sym, ◌∙◌, ap}
 use mathlib.Core.List.{map}
 use lib.ListN.{length, take, drop}
-use borrow.Author.Rules.{rules}
 use Rattle.words.specs.Words.{words}
 use Rattle.words.proofs.Laws.Words.{length_words, word_below}
 use Rattle.machine_nodes.specs.Nodes.{nodes_in}

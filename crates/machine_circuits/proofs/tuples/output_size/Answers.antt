@@ -1,6 +1,5 @@
 -- `machine_circuits::tuples::output_size` meets its contract: behind Circ and the input's entries stand those of the output.
 -- Assumes nothing.
-use borrow.Author.Rules.{rules}
 use Rattle.machine_circuits.proofs.Laws.Outputs.{output_count_lem}
 use Rattle.machine_circuits.proofs.tuples.output_size.Goals as goal
 

@@ -2,7 +2,6 @@
 use Rattle.rules.specs.Kinds.{pair_kind, unit_value_kind}
 use native.Mathlib.Omega.{arith}
 use mathlib.Core.Path.{◌≡◌, sym, ◌∙◌}
-use borrow.Author.Rules.{rules}
 use Rattle.machine_terms.specs.Trees.{kind, argument}
 use Rattle.rules.specs.Slots.{no_wire}
 use Rattle.machine_nodes.specs.Nodes.{nodes_in, node_at}

@@ -1,11 +1,10 @@
 -- `machine_circuits::tuples::save_result` meets its contract. The invariant: the words of the nodes passed are written; the measure
 -- is what is left of the nodes. Assumes nothing.
-use Prim.Native.Nat.{◌+◌, ◌-◌, ◌/◌, ◌%◌, ◌≤◌}
+use Prim.Native.Nat.{◌/◌, ◌%◌}
 use native.Mathlib.Omega.{arith}
 use mathlib.Core.Path.{◌≡◌, refl, sym, ◌∙◌, ap}
 use mathlib.Core.List.{map}
 use lib.ListN.{length, take, drop}
-use borrow.Author.Rules.{rules}
 use Rattle.words.specs.Words.{words}
 use Rattle.words.proofs.Laws.Words.{length_words, word_put}
 use Rattle.machine_nodes.specs.Nodes.{nodes_in, no_node}

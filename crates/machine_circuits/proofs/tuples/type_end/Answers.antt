@@ -1,11 +1,10 @@
 -- `machine_circuits::tuples::type_end` meets its contract. The invariant: the type at hand and those that wait end where the whole type
 -- does; the measure is what is left of the codes. Assumes nothing.
-use Prim.Native.Nat.{ℕ, ◌+◌, ◌-◌, ◌^◌, ◌≤◌, ◌<◌}
+use Prim.Native.Nat.{ℕ, ◌+◌, ◌-◌, ◌<◌}
 use native.Mathlib.Omega.{arith}
 use mathlib.Core.Path.{◌≡◌, refl, sym, ◌∙◌, ap}
 use mathlib.Core.List.{List}
 use lib.ListN.{length, get_or, drop}
-use borrow.Author.Rules.{rules}
 use Rattle.words.specs.Words.{words}
 use Rattle.rules.specs.Parts.{parts_of_kind}
 use Rattle.rules.proofs.Laws.Parts.{at_most_two_lem}

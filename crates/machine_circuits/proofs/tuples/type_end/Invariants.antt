@@ -1,13 +1,7 @@
-use Prim.Native.Nat.{ℕ, ◌+◌, ◌-◌, ◌^◌, ◌≤◌, ◌<◌}
-use native.Mathlib.Omega.{arith}
-use mathlib.Core.Path.{◌≡◌, refl, sym, ◌∙◌, ap}
-use mathlib.Core.List.{List}
-use lib.ListN.{length, get_or, drop}
-use borrow.Author.Rules.{rules}
+use Prim.Native.Nat.{◌+◌, ◌-◌, ◌^◌, ◌≤◌, ◌<◌}
+use mathlib.Core.Path.{◌≡◌}
+use lib.ListN.{length, drop}
 use Rattle.words.specs.Words.{words}
-use Rattle.rules.specs.Parts.{parts_of_kind}
-use Rattle.rules.proofs.Laws.Parts.{at_most_two_lem}
-use Rattle.machine_nodes.proofs.Laws.Spans.{none_waiting, one_more, run_out}
 use Rattle.machine_circuits.specs.Tuples.{code_span, codes_of}
 use Rattle.machine_circuits.proofs.tuples.type_end.Given as goal
 

@@ -2,7 +2,6 @@
 use native.Mathlib.Omega.{arith}
 use Prim.Native.Nat.{◌+◌}
 use mathlib.Core.Path.{◌∙◌, ap}
-use borrow.Author.Rules.{rules}
 use Rattle.machine_circuits.proofs.Laws.Outputs.{entries_of_lem, output_wires_lem, input_span, output_stands, output_count_lem}
 use Rattle.machine_circuits.proofs.tuples.write_outputs.Goals as goal
 

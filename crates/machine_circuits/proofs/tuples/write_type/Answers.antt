@@ -1,10 +1,9 @@
 -- `machine_circuits::tuples::write_type` meets its contract. The invariant: the nodes of the entries passed are written, and so many
 -- labels are used; the measure is what is left of the entries. Assumes nothing.
-use Prim.Native.Nat.{◌+◌, ◌-◌, ◌/◌, ◌≤◌, ◌<◌}
+use Prim.Native.Nat.{◌+◌, ◌/◌, ◌<◌}
 use native.Mathlib.Omega.{arith}
 use mathlib.Core.Path.{◌≡◌, refl, sym, ◌∙◌, ap}
 use lib.ListN.{length, get_or, take, drop}
-use borrow.Author.Rules.{rules}
 use Rattle.words.specs.Words.{words}
 use Rattle.machine_nodes.specs.Nodes.{nodes_in}
 use Rattle.machine_nodes.proofs.Laws.Nodes.{length_nodes_in}

@@ -1,17 +1,11 @@
 use Prim.Native.Nat.{◌+◌, ◌-◌, ◌/◌, ◌≤◌, ◌<◌}
-use native.Mathlib.Omega.{arith}
-use mathlib.Core.Path.{◌≡◌, refl, sym, ◌∙◌, ap}
-use lib.ListN.{length, get_or, take, drop}
-use borrow.Author.Rules.{rules}
+use mathlib.Core.Path.{◌≡◌}
+use lib.ListN.{length, take, drop}
 use Rattle.words.specs.Words.{words}
 use Rattle.machine_nodes.specs.Nodes.{nodes_in}
-use Rattle.machine_nodes.proofs.Laws.Nodes.{length_nodes_in}
-use Rattle.words.proofs.Laws.Ends.{past_end, not_past}
 use Rattle.words.specs.Regions.{over}
-use Rattle.words.proofs.Laws.Regions.{over_nil}
-use Rattle.machine_circuits.specs.Tuples.{label_after, codes_of}
+use Rattle.machine_circuits.specs.Tuples.{codes_of}
 use Rattle.machine_circuits.proofs.Laws.Tuples.{label_behind, nodes_of_codes}
-use Rattle.machine_circuits.proofs.Laws.Writing.{after_bounds, behind_next, coded_next, all_written}
 use Rattle.machine_circuits.proofs.tuples.write_type.Given as goal
 
 abbrev pub invariant-loop-i : goal.invariant-loop-i

@@ -2,7 +2,6 @@
 -- Assumes nothing.
 use mathlib.Core.Path.{sym}
 use lib.ListN.{get_or-eq_default}
-use borrow.Author.Rules.{rules}
 use Rattle.rules.specs.PartsColumn.{parts_column, parts_at}
 use Rattle.rules.proofs.parts.parts_at.Goals as goal
 

@@ -2,7 +2,6 @@
 -- Assumes nothing.
 use native.Mathlib.Omega.{arith}
 use mathlib.Core.Path.{sym, ap, ◌∙◌}
-use borrow.Author.Rules.{rules}
 use Rattle.rules.specs.Parts.{or_zero, parts_of_kind}
 use Rattle.rules.proofs.Laws.Parts.{type_place, term_place, no_kind_between, no_kind_above}
 use Rattle.rules.proofs.parts.parts_of_kind.Goals as goal

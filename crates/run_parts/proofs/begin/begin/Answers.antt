@@ -5,8 +5,6 @@ use Rattle.check_types.specs.Rules.{SaysIsWireType}
 use Rattle.machine_nodes.specs.Nodes.{nodes_in}
 use Rattle.words.specs.Quadwords.{quadwords_in}
 use Rattle.run_parts.proofs.Laws.Begin.{program_type_says, begun_refused, begun_loaded, begun_no_wires}
-use borrow.Author.Rules.{rules}
-use Rattle.run_parts.proofs.begin.begin.Lts as lts
 use Rattle.run_parts.proofs.begin.begin.Goals as goal
 
 pub returns-in_default : goal.returns-in_default

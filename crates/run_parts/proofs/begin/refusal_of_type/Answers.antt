@@ -1,8 +1,6 @@
 -- `run_parts::begin::refusal_of_type` meets its contract: both cases of the answer. Assumes nothing.
 use mathlib.Core.Path.{sym, ap}
 use Rattle.run_parts.specs.Parts.{refusal_of_type}
-use borrow.Author.Rules.{rules}
-use Rattle.run_parts.proofs.begin.refusal_of_type.Lts as lts
 use Rattle.run_parts.proofs.begin.refusal_of_type.Goals as goal
 
 pub returns-in-Typed : goal.returns-in-Typed

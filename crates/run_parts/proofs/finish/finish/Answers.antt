@@ -6,7 +6,6 @@ use Rattle.words.specs.Quadwords.{quadwords_in}
 use Rattle.machine_state.specs.Memory.{memory}
 use Rattle.run_parts.proofs.Laws.Parts.{Writes}
 use Rattle.run_parts.proofs.Laws.Finish.{says_finished, says_running, says_too_large}
-use borrow.Author.Rules.{rules}
 use Rattle.run_parts.proofs.finish.finish.Goals as goal
 
 pub returns-in-Finished : goal.returns-in-Finished

@@ -1,6 +1,5 @@
 -- `wirelist_lines::names::name_cell` meets its contract: the constant table has the row of each gate's name, as antt computes it.
 -- Assumes nothing.
-use borrow.Author.Rules.{rules}
 use Rattle.wirelist_lines.proofs.Laws.Names.{name_row_lem}
 use Rattle.wirelist_lines.proofs.names.name_cell.Goals as goal
 

@@ -1,7 +1,6 @@
 -- `wirelist_lines::names::name_length` meets its contract. Assumes nothing.
 use mathlib.Core.Path.{sym, ap}
 use lib.ListN.{length}
-use borrow.Author.Rules.{rules}
 use Rattle.wirelist_lines.proofs.Laws.Names.{no_name}
 use Rattle.wirelist_lines.proofs.names.name_length.Goals as goal
 

@@ -1,14 +1,10 @@
 -- `wirelist_lines::names::put_name` meets its contract. The invariant: the letters passed are written; the measure is what is left of
 -- the letters. Assumes nothing.
-use Prim.Native.Nat.{◌-◌, ◌≤◌}
 use native.Mathlib.Omega.{arith}
-use mathlib.Core.Path.{◌≡◌, refl, ◌∙◌, ap}
+use mathlib.Core.Path.{refl, ◌∙◌, ap}
 use mathlib.Core.List.{[], ◌∷◌}
-use lib.ListN.{length, take}
-use borrow.Author.Rules.{rules}
 use Rattle.wirelist_lines.specs.Lines.{gate_name}
 use Rattle.wirelist_lines.proofs.Laws.Names.{name_short}
-use Rattle.text.specs.Writing.{Puts}
 use Rattle.text.proofs.Laws.Writing.{puts_none, puts_same}
 use Rattle.text.proofs.Laws.Words.{puts_next, puts_all}
 use Rattle.wirelist_lines.proofs.names.put_name.Goals as goal

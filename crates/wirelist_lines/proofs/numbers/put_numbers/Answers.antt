@@ -1,14 +1,10 @@
 -- `wirelist_lines::numbers::put_numbers` meets its contract. The invariant: the numbers passed are written; the measure is what is left of
 -- them. Assumes nothing.
-use Prim.Native.Nat.{◌-◌, ◌≤◌}
 use native.Mathlib.Omega.{arith}
 use mathlib.Core.Path.{◌≡◌, refl, ◌∙◌, ap}
 use mathlib.Core.List.{map}
-use lib.ListN.{length}
-use borrow.Author.Rules.{rules}
 use Rattle.rules.specs.Circuits.{numbers}
 use Rattle.text.specs.Text.{decimal, spaced}
-use Rattle.text.specs.Writing.{Puts}
 use Rattle.text.proofs.Laws.Writing.{puts_none, puts_same}
 use Rattle.wirelist_lines.proofs.Laws.Read.{puts_number}
 use Rattle.wirelist_lines.proofs.numbers.put_numbers.Goals as goal

@@ -1,14 +1,10 @@
 use Prim.Native.Nat.{◌-◌, ◌≤◌}
-use native.Mathlib.Omega.{arith}
-use mathlib.Core.Path.{◌≡◌, refl, ◌∙◌, ap}
-use mathlib.Core.List.{[], ◌∷◌, map}
+use mathlib.Core.Path.{◌≡◌}
+use mathlib.Core.List.{map}
 use lib.ListN.{length}
-use borrow.Author.Rules.{rules}
 use Rattle.text.specs.Text.{decimal, spaced}
 use Rattle.words.specs.Numbers.{words_at}
 use Rattle.text.specs.Writing.{Puts}
-use Rattle.text.proofs.Laws.Writing.{puts_none, puts_same}
-use Rattle.wirelist_lines.proofs.Laws.Read.{puts_read}
 use Rattle.wirelist_lines.proofs.numbers.put_words.Given as goal
 
 abbrev pub invariant-loop-i : goal.invariant-loop-i

@@ -2,7 +2,6 @@
 use native.Mathlib.Omega.{arith}
 use mathlib.Core.Path.{sym}
 use mathlib.Core.List.{[], ◌∷◌}
-use borrow.Author.Rules.{rules}
 use Rattle.words.proofs.Laws.Words.{put_past, put_first, put_more}
 use Rattle.words.proofs.quadwords.put_quadword.Goals as goal
 

@@ -2,7 +2,6 @@
 use Prim.Native.Nat.{◌+◌, ◌*◌}
 use native.Mathlib.Omega.{arith}
 use mathlib.Core.Path.{sym, ◌∙◌, ap}
-use borrow.Author.Rules.{rules}
 use Rattle.words.specs.Words.{words}
 use Rattle.words.proofs.Laws.Words.{length_words, word_below}
 use Rattle.words.specs.Quadwords.{word_in, quadwords_in, quadword_at}
