@@ -1,12 +1,12 @@
 -- What an operation leaves in the buffers that it was lent: the output buffer first, then its working memory (01, "When each
 -- operation says no").
 use Rattle.std.specs.Prelude.{ℕ, Bool, false, ◌||◌, cond, List, [], ◌∷◌, map, ltb, length, replicate}
-use Rattle.std.specs.Borrow.{Bor}
+use Rattle.std.specs.Borrow.{MutBor}
 use denote.Triple.Both.{Both}
 
 -- A lent buffer as a contract sees it: at the call and after it.
 abbrev pub Lent : Type 0
-Lent = Both (Bor (List ℕ)) (Bor (List ℕ))
+Lent = Both (MutBor (List ℕ)) (MutBor (List ℕ))
 
 -- The bytes of lent buffers at the call, and after it.
 abbrev pub first_bytes : List Lent → List (List ℕ)

@@ -41,8 +41,7 @@ struct Number {
     digits: usize,
 }
 
-// The text, and how far it has been read. The code of each function over it is walked by hand (proofs/Walks); callers use
-// read_item, with plain parameters.
+// The text, and how far it has been read. Callers use read_item, with plain parameters.
 #[derive(Drop)]
 pub struct Reader<'a> {
     pub text: &'a [u8],

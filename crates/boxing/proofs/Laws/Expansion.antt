@@ -147,11 +147,11 @@ module _ (D : Circuit) (W : Term) where
       (tuple_comes (returned C k (boxed T gs r)) (apply_constant⇓ k constant⇓ (tuple_evaluates k) form)))
       f
   step_comes (box_entry E T M) (program_has h _) f =
-      let no_label = holds_no_label (frame_boxing E T M (top_has h).1).2.Body_has in entry_comes E T M no_label f
+      let no_label = holds_no_label (frame_boxing E T M (top_has h).1).2.body_has in entry_comes E T M no_label f
   step_comes (box_exit r E T M) h f = box_comes r E T M (tuple_evaluates r) refl f
 
   -- Steps backwards, along a row.
-  row_comes : {allowance n : ℕ} {A : Ty} {c d : Configuration}
+  row_comes : {allowance : ℕ} {A : Ty} {c : Configuration} {n : ℕ} {d : Configuration}
       → Row allowance c n d
       → ProgramHas A c
       → Comes d

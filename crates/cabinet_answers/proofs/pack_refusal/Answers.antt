@@ -6,4 +6,4 @@ use Rattle.cabinet_answers.proofs.pack_refusal.Goals as goal
 
 pub returns : goal.returns
 unfolding packed_refusal
-returns c = ap₂ packed_refusal c.number_of_lem.ensures c.place_of.ensures
+returns c = ap₂ packed_refusal c.number_of.ensures c.place_of.ensures

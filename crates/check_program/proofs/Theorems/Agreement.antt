@@ -3,6 +3,7 @@
 -- included".
 use Rattle.std.specs.Prelude.{ℕ, zero, suc, ◌+◌, ◌≤◌, ◌<◌, ◌≡◌, refl, ◌↔◌, ◌≢◌, Bool, true, false, ◌&&◌, not, cond, List, [], ◌∷◌, T as IsTrue, eqb, ltb, length}
 use Rattle.std.proofs.Common.{sym, ◌∙◌, ap, ap₂, subst, arith, eqb→eq, ltb→lt, lt→ltb}
+use Rattle.std.proofs.Math.Path.{subst₂}
 use Rattle.std.proofs.Math.Option.{Option, none, some, map, some-ne-none}
 use Rattle.std.proofs.Math.Decide.{ℕ_discrete}
 use Rattle.std.proofs.Math.Dec.{eqb_refl, not_T}
@@ -412,6 +413,18 @@ lift_agrees Γ lifts f g v w i = (
       ),
 )
 
+-- The same of types that are those of the binders.
+lift_under : {P : Type 0} (Γ : List Binder) {Δ : List Ty} (lifts : ℕ) (f g : ℕ → ℕ) (v : Option ℕ)
+    → Δ ≡ types_of Γ → Within Γ lifts
+    → (P × NoneInside Γ (suc lifts) f g) ↔ (v ≡ none)
+    → ((((n : ℕ) (A : Ty) → nth Δ n ≡ some A → Linear A → f n ≡ 0) × ((ℓ : ℕ) → g ℓ ≡ 0) × P)
+    × NoneInside Γ lifts f g) ↔ (v ≡ none)
+lift_under {P} Γ lifts f g v same w i =
+    subst
+    (λ Δ. ((((n : ℕ) (A : Ty) → nth Δ n ≡ some A → Linear A → f n ≡ 0) × ((ℓ : ℕ) → g ℓ ≡ 0) × P)
+    × NoneInside Γ lifts f g) ↔ (v ≡ none))
+    (sym same) (lift_agrees Γ lifts f g v w i)
+
 one_same : (e : ℕ) (c : Checked) (rule : Ty → Option Ty) (B : Ty) (u v : Option ℕ)
     → followed c (λ A u₁ v₁. ruled e (rule A) u₁ v₁) ≡ typed B u v → (A : Ty) × (c ≡ typed A u v)
 one_same e c rule B u v h =
@@ -476,80 +489,87 @@ let_agrees A B k l e a b c r s h =
 
 -- In a term with a plain type, the place of 17 is none exactly if each linear variable that it binds is used once, and the
 -- place of 18 exactly if nothing linear is used under more lifts than its binder.
+agrees_in : (L : List Wire) (Γ : List Binder) (lifts e : ℕ) {Δ : List Ty} {wires : ℕ → Option Wire} {M : Term} {A : Ty}
+    → Within Γ lifts → (d : Plain Δ wires M A) → Δ ≡ types_of Γ → wires ≡ nth L → (B : Ty) (u v : Option ℕ)
+    → check_term L Γ lifts e M ≡ typed B u v
+    → (BoundOnce d ↔ (u ≡ none))
+    × ((NoneCrosses d × NoneInside Γ lifts (λ n. uses n M) (λ ℓ. label_uses ℓ M)) ↔ (v ≡ none))
+agrees_in L Γ lifts e w (plain_var {n = n} k) same labels B u v h =
+    let x = variable_agrees Γ lifts e n B u v h in
+    ((λ y. x.0, λ y. tt), (λ y. x.1.0 y.1, λ y. (tt, x.1.1 y)))
+agrees_in L Γ lifts e w (plain_label {ℓ = ℓ} k) same labels B u v h =
+    let x = label_agrees L Γ lifts e ℓ B u v h in
+    ((λ y. x.0, λ y. tt), (λ y. x.1.0 y.1, λ y. (tt, x.1.1 y)))
+agrees_in L Γ lifts e w (plain_gate {n = n} k) same labels B u v h =
+    let x = ruled_typed e (map gate_node_type (gate_type n)) B none none u v h in
+    ((λ y. sym x.0, λ y. tt), (λ y. sym x.1, λ y. (tt, (λ n A bound f l b. refl, λ p ℓ. refl))))
+agrees_in L Γ lifts e w plain_unit same labels B u v h =
+    let x = ruled_typed e (some unit) B none none u v h in
+    ((λ y. sym x.0, λ y. tt), (λ y. sym x.1, λ y. (tt, (λ n A bound f l b. refl, λ p ℓ. refl))))
+agrees_in L Γ lifts e w (plain_circ t b s d) same labels B u v h = let z : ◌≡◌ {A = ℕ} 0 1 = cc in absurd (omega arith)
+agrees_in L Γ lifts e w (plain_abs {A = A} {M = M} b d) same labels B u v h =
+    let wrong = if_so (used_wrongly A (uses 0 M)) e in
+    let c = check_term L (A under lifts ∷ Γ) lifts (suc e) M in
+    let o = one_typed e c (abstraction_type A) (earlier wrong) B u v h in
+    let x = agrees_in L (A under lifts ∷ Γ) lifts (suc e) (within_more Γ lifts A w) d (ap (λ Δ. A ∷ Δ) same) labels o.0 o.1 o.2 o.3 in (
+      both_none wrong o.1 u (once_or_place A (uses 0 M) e) x.0 o.4,
+      part_none o.2 v x.1 (none_inside_bound Γ lifts A (λ n. uses n M) (λ ℓ. label_uses ℓ M)) o.5,
+    )
+agrees_in L Γ lifts e w (plain_app {M = M} {N = N} d f) same labels B u v h =
+    let first = check_term L Γ lifts (suc e) M in
+    let second = check_term L Γ lifts (suc e + nodes M) N in
+    let t = two_typed e first second application_type B u v h in
+    let x = agrees_in L Γ lifts (suc e) w d same labels t.0 t.1 t.2 t.6 in
+    let y = agrees_in L Γ lifts (suc e + nodes M) w f same labels t.3 t.4 t.5 t.7 in (
+      both_none t.1 t.4 u x.0 y.0 t.8,
+      parts_none t.2 t.5 v x.1 y.1 (untouched_parts Γ lifts M N) t.9,
+    )
+agrees_in L Γ lifts e w (plain_tuple {M = M} {N = N} b d f) same labels B u v h =
+    let first = check_term L Γ lifts (suc e) M in
+    let second = check_term L Γ lifts (suc e + nodes M) N in
+    let t = two_typed e first second pair_type B u v h in
+    let x = agrees_in L Γ lifts (suc e) w d same labels t.0 t.1 t.2 t.6 in
+    let y = agrees_in L Γ lifts (suc e + nodes M) w f same labels t.3 t.4 t.5 t.7 in (
+      both_none t.1 t.4 u x.0 y.0 t.8,
+      parts_none t.2 t.5 v x.1 y.1 (untouched_parts Γ lifts M N) t.9,
+    )
+agrees_in L Γ lifts e w (plain_let {A = A} {B = A'} {M = M} {N = N} d f) same labels B u v h =
+    let inner = A' under lifts ∷ A under lifts ∷ Γ in
+    let second : Ty → Ty → Checked = λ C D. check_term L (D under lifts ∷ C under lifts ∷ Γ) lifts (suc e + nodes M) N in
+    let first = check_term L Γ lifts (suc e) M in
+    let t = let_typed e first second N A A' B u v (found_type L Γ lifts (suc e) M (A ⊗ A') (subst₂ (λ Δ wires. Plain Δ wires M (A ⊗ A')) same labels d)) h in
+    let x = agrees_in L Γ lifts (suc e) w d same labels (A ⊗ A') t.0 t.1 t.5 in
+    let w₂ = within_more (A under lifts ∷ Γ) lifts A' (within_more Γ lifts A w) in
+    let y = agrees_in L inner lifts (suc e + nodes M) w₂ f (ap (λ Δ. A' ∷ A ∷ Δ) same) labels t.2 t.3 t.4 t.6 in (
+      let_agrees A A' (uses 1 N) (uses 0 N) e t.0 t.3 u x.0 y.0 t.7,
+      parts_none t.1 t.4 v x.1 y.1 (untouched_let Γ lifts A A' M N) t.8,
+    )
+agrees_in L Γ lifts e w (plain_lift {M = M} b d) same labels B u v h =
+    let o = one_same e (check_term L Γ (suc lifts) (suc e) M) lift_type B u v h in
+    let x = agrees_in L Γ (suc lifts) (suc e) (within_lift Γ lifts w) d same labels o.0 u v o.1 in
+    (x.0, lift_under Γ lifts (λ n. uses n M) (λ ℓ. label_uses ℓ M) v same w x.1)
+agrees_in L Γ lifts e w (plain_force {M = M} d) same labels B u v h =
+    let o = one_same e (check_term L Γ lifts (suc e) M) as_reusable B u v h in
+    agrees_in L Γ lifts (suc e) w d same labels o.0 u v o.1
+agrees_in L Γ lifts e w (plain_box {T = T} {M = M} t c d) same labels B u v h =
+    let o = one_same e (check_term L Γ lifts (suc e) M) (box_type T) B u v h in
+    agrees_in L Γ lifts (suc e) w d same labels o.0 u v o.1
+agrees_in L Γ lifts e w (plain_apply {M = M} {N = N} d f) same labels B u v h =
+    let first = check_term L Γ lifts (suc e) M in
+    let second = check_term L Γ lifts (suc e + nodes M) N in
+    let t = two_typed e first second apply_type B u v h in
+    let x = agrees_in L Γ lifts (suc e) w d same labels t.0 t.1 t.2 t.6 in
+    let y = agrees_in L Γ lifts (suc e + nodes M) w f same labels t.3 t.4 t.5 t.7 in (
+      both_none t.1 t.4 u x.0 y.0 t.8,
+      parts_none t.2 t.5 v x.1 y.1 (untouched_parts Γ lifts M N) t.9,
+    )
+
 agrees : (L : List Wire) (Γ : List Binder) (lifts e : ℕ) {M : Term} {A : Ty}
     → Within Γ lifts → (d : Plain (types_of Γ) (nth L) M A) (B : Ty) (u v : Option ℕ)
     → check_term L Γ lifts e M ≡ typed B u v
     → (BoundOnce d ↔ (u ≡ none))
     × ((NoneCrosses d × NoneInside Γ lifts (λ n. uses n M) (λ ℓ. label_uses ℓ M)) ↔ (v ≡ none))
-agrees L Γ lifts e w (plain_var {n = n} k) B u v h =
-    let x = variable_agrees Γ lifts e n B u v h in
-    ((λ y. x.0, λ y. tt), (λ y. x.1.0 y.1, λ y. (tt, x.1.1 y)))
-agrees L Γ lifts e w (plain_label {ℓ = ℓ} k) B u v h =
-    let x = label_agrees L Γ lifts e ℓ B u v h in
-    ((λ y. x.0, λ y. tt), (λ y. x.1.0 y.1, λ y. (tt, x.1.1 y)))
-agrees L Γ lifts e w (plain_gate {n = n} k) B u v h =
-    let x = ruled_typed e (map gate_node_type (gate_type n)) B none none u v h in
-    ((λ y. sym x.0, λ y. tt), (λ y. sym x.1, λ y. (tt, (λ n A bound f l b. refl, λ p ℓ. refl))))
-agrees L Γ lifts e w plain_unit B u v h =
-    let x = ruled_typed e (some unit) B none none u v h in
-    ((λ y. sym x.0, λ y. tt), (λ y. sym x.1, λ y. (tt, (λ n A bound f l b. refl, λ p ℓ. refl))))
-agrees L Γ lifts e w (plain_circ t b s d) B u v h = let z : ◌≡◌ {A = ℕ} 0 1 = cc in absurd (omega arith)
-agrees L Γ lifts e w (plain_abs {A = A} {M = M} b d) B u v h =
-    let wrong = if_so (used_wrongly A (uses 0 M)) e in
-    let c = check_term L (A under lifts ∷ Γ) lifts (suc e) M in
-    let o = one_typed e c (abstraction_type A) (earlier wrong) B u v h in
-    let x = agrees L (A under lifts ∷ Γ) lifts (suc e) (within_more Γ lifts A w) d o.0 o.1 o.2 o.3 in (
-      both_none wrong o.1 u (once_or_place A (uses 0 M) e) x.0 o.4,
-      part_none o.2 v x.1 (none_inside_bound Γ lifts A (λ n. uses n M) (λ ℓ. label_uses ℓ M)) o.5,
-    )
-agrees L Γ lifts e w (plain_app {M = M} {N = N} d f) B u v h =
-    let first = check_term L Γ lifts (suc e) M in
-    let second = check_term L Γ lifts (suc e + nodes M) N in
-    let t = two_typed e first second application_type B u v h in
-    let x = agrees L Γ lifts (suc e) w d t.0 t.1 t.2 t.6 in
-    let y = agrees L Γ lifts (suc e + nodes M) w f t.3 t.4 t.5 t.7 in (
-      both_none t.1 t.4 u x.0 y.0 t.8,
-      parts_none t.2 t.5 v x.1 y.1 (untouched_parts Γ lifts M N) t.9,
-    )
-agrees L Γ lifts e w (plain_tuple {M = M} {N = N} b d f) B u v h =
-    let first = check_term L Γ lifts (suc e) M in
-    let second = check_term L Γ lifts (suc e + nodes M) N in
-    let t = two_typed e first second pair_type B u v h in
-    let x = agrees L Γ lifts (suc e) w d t.0 t.1 t.2 t.6 in
-    let y = agrees L Γ lifts (suc e + nodes M) w f t.3 t.4 t.5 t.7 in (
-      both_none t.1 t.4 u x.0 y.0 t.8,
-      parts_none t.2 t.5 v x.1 y.1 (untouched_parts Γ lifts M N) t.9,
-    )
-agrees L Γ lifts e w (plain_let {A = A} {B = A'} {M = M} {N = N} d f) B u v h =
-    let inner = A' under lifts ∷ A under lifts ∷ Γ in
-    let second : Ty → Ty → Checked = λ C D. check_term L (D under lifts ∷ C under lifts ∷ Γ) lifts (suc e + nodes M) N in
-    let first = check_term L Γ lifts (suc e) M in
-    let t = let_typed e first second N A A' B u v (found_type L Γ lifts (suc e) M (A ⊗ A') d) h in
-    let x = agrees L Γ lifts (suc e) w d (A ⊗ A') t.0 t.1 t.5 in
-    let w₂ = within_more (A under lifts ∷ Γ) lifts A' (within_more Γ lifts A w) in
-    let y = agrees L inner lifts (suc e + nodes M) w₂ f t.2 t.3 t.4 t.6 in (
-      let_agrees A A' (uses 1 N) (uses 0 N) e t.0 t.3 u x.0 y.0 t.7,
-      parts_none t.1 t.4 v x.1 y.1 (untouched_let Γ lifts A A' M N) t.8,
-    )
-agrees L Γ lifts e w (plain_lift {M = M} b d) B u v h =
-    let o = one_same e (check_term L Γ (suc lifts) (suc e) M) lift_type B u v h in
-    let x = agrees L Γ (suc lifts) (suc e) (within_lift Γ lifts w) d o.0 u v o.1 in
-    (x.0, lift_agrees Γ lifts (λ n. uses n M) (λ ℓ. label_uses ℓ M) v w x.1)
-agrees L Γ lifts e w (plain_force {M = M} d) B u v h =
-    let o = one_same e (check_term L Γ lifts (suc e) M) as_reusable B u v h in
-    agrees L Γ lifts (suc e) w d o.0 u v o.1
-agrees L Γ lifts e w (plain_box {T = T} {M = M} t c d) B u v h =
-    let o = one_same e (check_term L Γ lifts (suc e) M) (box_type T) B u v h in
-    agrees L Γ lifts (suc e) w d o.0 u v o.1
-agrees L Γ lifts e w (plain_apply {M = M} {N = N} d f) B u v h =
-    let first = check_term L Γ lifts (suc e) M in
-    let second = check_term L Γ lifts (suc e + nodes M) N in
-    let t = two_typed e first second apply_type B u v h in
-    let x = agrees L Γ lifts (suc e) w d t.0 t.1 t.2 t.6 in
-    let y = agrees L Γ lifts (suc e + nodes M) w f t.3 t.4 t.5 t.7 in (
-      both_none t.1 t.4 u x.0 y.0 t.8,
-      parts_none t.2 t.5 v x.1 y.1 (untouched_parts Γ lifts M N) t.9,
-    )
+agrees L Γ lifts e w d = agrees_in L Γ lifts e w d refl refl
 
 -- Among k labels from ℓ on, none is found exactly if each of them is used once.
 none_wrong→once : (M : Term) (ℓ k : ℕ) → wrong_label M ℓ k ≡ none

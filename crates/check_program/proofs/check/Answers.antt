@@ -1,34 +1,27 @@
 -- `check_program::check` meets its contract: on each way through it, the answer and the bytes of both buffers. Assumes nothing.
-use Prim.Native.Nat.{ℕ}
-use mathlib.Core.List.{List}
-use Rattle.check_program.specs.Demand2.{CheckMeans}
-use Rattle.check_program.specs.Safe.{AcceptedIsSafe}
 use Rattle.check_program.proofs.Laws.ProgramTypes.{checks_short_out, checks_short_work, checks_refused, checks_accepted}
 use Rattle.check_program.proofs.Theorems.Checked.{accepted_is_safe, check_means}
-use borrow.Author.Rules.{rules}
 use Rattle.check_program.proofs.check.Goals as goal
-
--- The last two clauses of the contract, which hold of every file, beside the other two.
-of-every-file : (f : List ℕ) {A B : Type 0} → A × B → A × (B × (AcceptedIsSafe f × CheckMeans f))
-of-every-file f p = (p.0, (p.1, (accepted_is_safe f, check_means f)))
 
 pub returns-then-out-lt-LEAST_OUT : goal.returns-then-out-lt-LEAST_OUT
 returns-then-out-lt-LEAST_OUT c =
     let s = c.args in
-    of-every-file s.file.now
-    (checks_short_out c.args.file.now c.args.out.now c.args.work.now c.if-out-lt-LEAST_OUT.true)
+    let told =
+    checks_short_out c.args.file.now c.args.out.now c.args.work.now c.if-out-lt-LEAST_OUT.true in
+    record { answer = told.0; bytes = told.1; safety = accepted_is_safe s.file.now; meaning = check_means s.file.now }
 
 pub returns-then-work-lt-LEAST_WORK : goal.returns-then-work-lt-LEAST_WORK
 returns-then-work-lt-LEAST_WORK c =
     let s = c.args in
-    of-every-file s.file.now
-    (checks_short_work c.args.file.now c.args.out.now c.args.work.now c.if-out-lt-LEAST_OUT.false c.if-work-lt-LEAST_WORK.true)
+    let told =
+    checks_short_work c.args.file.now c.args.out.now c.args.work.now c.if-out-lt-LEAST_OUT.false c.if-work-lt-LEAST_WORK.true in
+    record { answer = told.0; bytes = told.1; safety = accepted_is_safe s.file.now; meaning = check_means s.file.now }
 
 pub returns-in_default : goal.returns-in_default
 returns-in_default c =
     let s = c.args in
-    of-every-file s.file.now
-    (checks_refused s.file.now s.out.now s.work.now c.if-out-lt-LEAST_OUT.false c.if-work-lt-LEAST_WORK.false c.program_type-found.new.work c.program_type-found.result
+    let told =
+    checks_refused s.file.now s.out.now s.work.now c.if-out-lt-LEAST_OUT.false c.if-work-lt-LEAST_WORK.false c.program_type-found.new.work c.program_type-found.result
     c.program_type-found.ensures
     c.in_default.field-0
     c.refuse.new.work
@@ -36,13 +29,14 @@ returns-in_default c =
     c.in_default.is
     c.program_type-found.auto.work
     c.refuse.ensures.work_after
-    c.refuse.ensures.value)
+    c.refuse.ensures.value in
+    record { answer = told.0; bytes = told.1; safety = accepted_is_safe s.file.now; meaning = check_means s.file.now }
 
 pub returns : goal.returns
 returns c =
     let s = c.args in
-    of-every-file s.file.now
-    (checks_accepted s.file.now s.out.now s.work.now c.if-out-lt-LEAST_OUT.false c.if-work-lt-LEAST_WORK.false c.program_type-found.new.work c.program_type-found.result
+    let told =
+    checks_accepted s.file.now s.out.now s.work.now c.if-out-lt-LEAST_OUT.false c.if-work-lt-LEAST_WORK.false c.program_type-found.new.work c.program_type-found.result
     c.program_type-found.ensures
     c.in-Typed.cell
     c.write_type-length.result
@@ -51,4 +45,5 @@ returns c =
     c.in-Typed.is
     c.write_type-length.ensures.says_wrote
     c.program_type-found.auto.work
-    c.clear.ensures)
+    c.clear.ensures in
+    record { answer = told.0; bytes = told.1; safety = accepted_is_safe s.file.now; meaning = check_means s.file.now }

@@ -1,6 +1,5 @@
 -- `check_program::program_type` meets its contract: by the length of the memory, and by the answer of the reader. Assumes nothing.
 use Rattle.check_program.proofs.Laws.ProgramTypes.{program_type_short, program_type_refused, program_type_said, readable_of}
-use borrow.Author.Rules.{rules}
 use Rattle.check_program.proofs.program_type.Goals as goal
 
 pub returns-then-work-lt-LEAST_WORK : goal.returns-then-work-lt-LEAST_WORK
@@ -16,18 +15,16 @@ returns-in_default c =
 
 pub check_file-requires : goal.check_file-requires
 check_file-requires c =
-    let s = c.args in
-    let p = c.answer-1.given.0 in (
-      readable_of s.file.now p.0 p.1.0 p.1.1.0 c.read-answer.result c.read-answer.ensures c.in-Accepted.is,
+    let s = c.args in (
+      readable_of s.file.now c.in-Accepted.labels c.in-Accepted.types c.in-Accepted.terms c.read-answer.result c.read-answer.ensures c.in-Accepted.is,
       c.if-work-lt-LEAST_WORK.false,
     )
 
 pub returns : goal.returns
 returns c =
     let s = c.args in
-    let p = c.answer-1.given.0 in
     program_type_said s.file.now s.work.now c.check_file.new.work c.check_file.result c.read-answer.result c.read-answer.ensures
     c.if-work-lt-LEAST_WORK.false
-    p.0 p.1.0 p.1.1.0
+    c.in-Accepted.labels c.in-Accepted.types c.in-Accepted.terms
     c.in-Accepted.is
     c.check_file.ensures

@@ -1,6 +1,5 @@
 -- `check_program::refusal_of_read` meets its contract. Assumes nothing.
 use Rattle.check_program.proofs.Laws.ProgramTypes.{refusal_of_read_is}
-use borrow.Author.Rules.{rules}
 use Rattle.check_program.proofs.refusal_of_read.Goals as goal
 
 pub returns-in-Refused : goal.returns-in-Refused

@@ -1,6 +1,5 @@
 -- `check_types::abstraction_type` meets its contract: the function type of two parts. Assumes nothing.
 use Rattle.check_types.specs.Cells.{made_function}
-use borrow.Author.Rules.{rules}
 use Rattle.check_types.proofs.abstraction_type.Goals as goal
 
 pub returns : goal.returns

@@ -1,4 +1,5 @@
 -- `check_types::box_parts` meets its contract: one law for each test. Assumes nothing.
+use Rattle.rules.specs.Kinds.{function_kind}
 use mathlib.Core.Path.{◌≡◌, refl, sym, ◌∙◌, ap, subst, subst₂}
 use borrow.Author.Tests.{not-true, not-false}
 use Rattle.words.specs.Words.{words}
@@ -7,7 +8,6 @@ use Rattle.check_types.specs.Cells.{cell_kind, cell_first, cell_second}
 use Rattle.check_types.specs.Rules.{SaysSameType, SaysIsWireType, SaysBox}
 use Rattle.check_types.proofs.Laws.Rules.{box_no_reusable, box_no_function, box_other_input, box_no_wires}
 use Rattle.check_types.proofs.Laws.Rules.{box_no_result_wires, box_gives}
-use borrow.Author.Rules.{rules}
 use Rattle.check_types.proofs.box_parts.Goals as goal
 
 pub returns-then-cell_kind-ne-REUSABLE : goal.returns-then-cell_kind-ne-REUSABLE

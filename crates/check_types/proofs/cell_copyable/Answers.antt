@@ -2,7 +2,6 @@
 use mathlib.Core.Path.{ap}
 use lib.Dec.{leb}
 use Rattle.check_types.specs.Cells.{copyable_mark}
-use borrow.Author.Rules.{rules}
 use Rattle.check_types.proofs.cell_copyable.Goals as goal
 
 pub returns : goal.returns

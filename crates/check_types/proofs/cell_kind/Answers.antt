@@ -3,7 +3,6 @@ use native.Mathlib.Omega.{arith}
 use mathlib.Core.Path.{◌∙◌, ap}
 use lib.ListN.{get_or}
 use Rattle.words.specs.Words.{words}
-use borrow.Author.Rules.{rules}
 use Rattle.check_types.proofs.cell_kind.Goals as goal
 
 pub returns : goal.returns

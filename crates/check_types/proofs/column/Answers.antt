@@ -4,7 +4,6 @@ use Prim.Native.Nat.{◌+◌, ◌*◌, ◌<◌}
 use native.Mathlib.Omega.{arith}
 use mathlib.Core.Path.{sym, subst}
 use Rattle.words.proofs.Laws.Words.{word_past, word_below}
-use borrow.Author.Rules.{rules}
 use Rattle.check_types.proofs.column.Goals as goal
 
 pub returns-then-work-i : goal.returns-then-work-i

@@ -5,7 +5,6 @@ use borrow.Author.Tests.{not-true, not-false}
 use Rattle.words.specs.Words.{words}
 use Rattle.check_types.specs.Cells.{cell_copyable}
 use Rattle.check_types.proofs.Laws.Cells.{copyable_by_kind, copyable_by_halves}
-use borrow.Author.Rules.{rules}
 use Rattle.check_types.proofs.copyable_from.Goals as goal
 
 pub returns-then-kind-ne-PAIR_TYPE : goal.returns-then-kind-ne-PAIR_TYPE

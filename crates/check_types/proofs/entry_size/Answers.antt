@@ -5,7 +5,6 @@ use mathlib.Core.Path.{sym, ◌∙◌, ap, ap₂}
 use Rattle.words.specs.Words.{words}
 use Rattle.check_types.specs.Cells.{cell_size}
 use Rattle.check_types.proofs.Laws.Load.{size_of_leaf, size_of_one, size_of_two}
-use borrow.Author.Rules.{rules}
 use Rattle.check_types.proofs.entry_size.Goals as goal
 
 pub returns-then-parts-eq0 : goal.returns-then-parts-eq0

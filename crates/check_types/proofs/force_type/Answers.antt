@@ -5,7 +5,6 @@ use Rattle.rules.specs.Inference.{as_reusable}
 use Rattle.check_types.specs.declared.Ruled.TheVariants.{Gives}
 use Rattle.check_types.specs.Cells.{Given}
 use Rattle.check_types.proofs.Laws.Rules.{gives_part, no_part_given}
-use borrow.Author.Rules.{rules}
 use Rattle.check_types.proofs.force_type.Goals as goal
 
 pub returns-then-cell_kind-ne-REUSABLE : goal.returns-then-cell_kind-ne-REUSABLE

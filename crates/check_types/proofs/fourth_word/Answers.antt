@@ -1,7 +1,6 @@
 -- `check_types::fourth_word` meets its contract: the mark is added where the type may be copied. Assumes nothing.
 use mathlib.Core.Path.{sym, ◌∙◌, ap}
 use Rattle.check_types.specs.Cells.{marked}
-use borrow.Author.Rules.{rules}
 use Rattle.check_types.proofs.fourth_word.Goals as goal
 
 pub returns-then-copyable_from : goal.returns-then-copyable_from

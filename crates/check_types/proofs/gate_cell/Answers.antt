@@ -1,5 +1,5 @@
 -- `check_types::gate_cell` meets its contract: the invariant: n cells come before those of gate k. Assumes nothing.
-use Prim.Native.Nat.{◌+◌, ◌-◌, ◌≤◌}
+use Prim.Native.Nat.{◌+◌, ◌-◌}
 use native.Mathlib.Omega.{arith}
 use mathlib.Core.Path.{◌≡◌, sym, ◌∙◌, ap, ap₂}
 use borrow.Author.Tests.{not-true, not-false}

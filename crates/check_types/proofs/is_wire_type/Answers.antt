@@ -1,6 +1,5 @@
 -- `check_types::is_wire_type` meets its contract: a cell's type has at most 512 entries. Assumes nothing.
 use Rattle.check_types.proofs.Laws.Cells.{cell_of}
-use borrow.Author.Rules.{rules}
 use Rattle.check_types.proofs.is_wire_type.Goals as goal
 
 pub returns : goal.returns

@@ -4,7 +4,6 @@ use mathlib.Core.Path.{refl}
 use Rattle.words.specs.Words.{words}
 use Rattle.check_types.proofs.Laws.NewCell.{cell_put}
 use Rattle.check_types.proofs.Laws.Rules.{too_large_lift, makes_lift}
-use borrow.Author.Rules.{rules}
 use Rattle.check_types.proofs.lift_type.Goals as goal
 
 pub returns-then-size-gt-MOST_ENTRIES : goal.returns-then-size-gt-MOST_ENTRIES

@@ -2,7 +2,6 @@
 use Rattle.words.specs.Words.{words}
 use Rattle.check_types.proofs.Laws.NewCell.{cell_put}
 use Rattle.check_types.proofs.Laws.Load.{entry_loaded}
-use borrow.Author.Rules.{rules}
 use Rattle.check_types.proofs.load_entry.Goals as goal
 
 pub returns : goal.returns

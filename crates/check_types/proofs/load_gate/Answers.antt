@@ -1,11 +1,10 @@
 -- `check_types::load_gate` meets its contract: the invariant: the last k entries of the gate's type are loaded.
 -- Assumes nothing.
-use Prim.Native.Nat.{◌+◌, ◌-◌, ◌≤◌}
+use Prim.Native.Nat.{◌+◌, ◌-◌}
 use native.Mathlib.Omega.{arith}
 use mathlib.Core.Path.{◌≡◌, refl, ◌∙◌, ap, ap₂}
-use lib.ListN.{length}
 use Rattle.words.specs.Words.{words}
-use Rattle.rules.specs.GateCodes.{type_entries, type_code}
+use Rattle.rules.specs.GateCodes.{type_code}
 use Rattle.check_types.specs.Load.{load_entry, load_codes}
 use Rattle.check_types.proofs.Laws.Load.{load_none, load_next, load_all}
 use Rattle.check_types.proofs.Laws.GateCells.{few_entries}
@@ -62,12 +61,11 @@ returns c =
     let l = c.loop-k in
     let P = c.type_entries-count.result in
     let w = words s.work.now in
-    let done : l.k ≡ P = omega (arith, l.invariant.0, c.loop-k-test.false) in (
-      ap (λ x. s.n + x) l.invariant.1,
-      (
-        l.invariant.2
-            ∙ load_all w s.n (type_code s.g) P l.k done
-            ∙ ap (λ x. load_codes w s.n (type_code s.g) 0 x) l.invariant.1,
-        l.invariant.3,
-      ),
-    )
+    let done : l.k ≡ P = omega (arith, l.invariant.0, c.loop-k-test.false) in record {
+      value = ap (λ x. s.n + x) l.invariant.1;
+      work_after =
+          l.invariant.2
+          ∙ load_all w s.n (type_code s.g) P l.k done
+          ∙ ap (λ x. load_codes w s.n (type_code s.g) 0 x) l.invariant.1;
+      work_len_unchanged = l.invariant.3;
+    }

@@ -1,12 +1,9 @@
-use Prim.Native.Nat.{◌+◌, ◌-◌, ◌≤◌}
-use native.Mathlib.Omega.{arith}
-use mathlib.Core.Path.{◌≡◌, refl, ◌∙◌, ap, ap₂}
+use Prim.Native.Nat.{◌-◌, ◌≤◌}
+use mathlib.Core.Path.{◌≡◌}
 use lib.ListN.{length}
 use Rattle.words.specs.Words.{words}
 use Rattle.rules.specs.GateCodes.{type_entries, type_code}
-use Rattle.check_types.specs.Load.{load_entry, load_codes}
-use Rattle.check_types.proofs.Laws.Load.{load_none, load_next, load_all}
-use Rattle.check_types.proofs.Laws.GateCells.{few_entries}
+use Rattle.check_types.specs.Load.{load_codes}
 use Rattle.check_types.proofs.load_gate.Given as goal
 
 abbrev pub invariant-loop-k : goal.invariant-loop-k

@@ -1,8 +1,8 @@
 -- `check_types::load_gates` meets its contract: the invariant: the types of the gates below g are loaded. Assumes nothing.
-use Prim.Native.Nat.{◌+◌, ◌-◌, ◌≤◌, ℕ}
+use Rattle.rules.specs.Kinds.{qubit_kind, unit_kind}
+use Prim.Native.Nat.{◌+◌}
 use native.Mathlib.Omega.{arith}
 use mathlib.Core.Path.{◌≡◌, refl, ◌∙◌, ap, ap₂}
-use mathlib.Core.List.{List}
 use lib.ListN.{length}
 use Rattle.words.specs.Words.{words}
 use Rattle.rules.specs.Gates.{gate_table}
@@ -33,12 +33,12 @@ loop-g-preserved c =
     let r = c.load_gate-n.ensures in
     let t = c.loop-g-test.true in (
       omega arith,
-      r.0 ∙ ap (λ x. x + type_entries l.g) l.invariant.1 ∙ start_of_next l.g,
+      r.value ∙ ap (λ x. x + type_entries l.g) l.invariant.1 ∙ start_of_next l.g,
       λ w e.
-          r.1.0
+          r.work_after
           ∙ ap₂ (λ v x. load_codes v x (type_code l.g) 0 (type_entries l.g)) (l.invariant.2 w e) l.invariant.1
           ∙ load_next_gate w l.g,
-      r.1.1 ∙ l.invariant.3,
+      r.work_len_unchanged ∙ l.invariant.3,
     )
 
 pub shape_of-work : goal.shape_of-work
@@ -53,10 +53,12 @@ returns c =
     let qubit = c.load_entry-2.ensures in
     let unit_type = c.load_entry-3.ensures in
     let begun =
-    unit_type.0
-    ∙ ap (λ v. load_entry v cell_of_unit unit_kind) (qubit.0 ∙ ap (λ v. load_entry v 1 qubit_kind) bit.0)
+    unit_type.work_after
+    ∙ ap (λ v. load_entry v cell_of_unit unit_kind) (qubit.work_after ∙ ap (λ v. load_entry v 1 qubit_kind) bit.work_after)
     ∙ load_leaves w in
-    let all : l.g ≡ length gate_table = omega (arith, l.invariant.0, c.loop-g-test.false) in (
-      l.invariant.1 ∙ ap gate_start all,
-      (l.invariant.2 w begun ∙ ap (λ i. load_gates w i) all, l.invariant.3 ∙ unit_type.1 ∙ qubit.1 ∙ bit.1),
-    )
+    let all : l.g ≡ length gate_table = omega (arith, l.invariant.0, c.loop-g-test.false) in record {
+      value = l.invariant.1 ∙ ap gate_start all;
+      work_after = l.invariant.2 w begun ∙ ap (λ i. load_gates w i) all;
+      work_len_unchanged =
+          l.invariant.3 ∙ unit_type.work_len_unchanged ∙ qubit.work_len_unchanged ∙ bit.work_len_unchanged;
+    }

@@ -1,15 +1,10 @@
-use Prim.Native.Nat.{◌+◌, ◌-◌, ◌≤◌, ℕ}
-use native.Mathlib.Omega.{arith}
-use mathlib.Core.Path.{◌≡◌, refl, ◌∙◌, ap, ap₂}
+use Prim.Native.Nat.{◌-◌, ◌≤◌, ℕ}
+use mathlib.Core.Path.{◌≡◌}
 use mathlib.Core.List.{List}
 use lib.ListN.{length}
 use Rattle.words.specs.Words.{words}
 use Rattle.rules.specs.Gates.{gate_table}
-use Rattle.rules.specs.GateCodes.{type_entries, type_code}
-use Rattle.check_types.specs.Load.{load_entry, load_codes}
-use Rattle.check_types.specs.GateCells.{cell_of_unit, gate_start, gate_cells, load_gates}
-use Rattle.check_types.proofs.Laws.GateCells.{gate_start_small, start_of_first, start_of_next, load_leaves}
-use Rattle.check_types.proofs.Laws.GateCells.{load_next_gate}
+use Rattle.check_types.specs.GateCells.{gate_start, load_gates}
 use Rattle.check_types.proofs.load_gates.Given as goal
 
 abbrev pub invariant-loop-g : goal.invariant-loop-g

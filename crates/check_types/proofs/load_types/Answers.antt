@@ -1,10 +1,10 @@
 -- `check_types::load_types` meets its contract: the invariant: the last k codes are loaded. Assumes nothing.
-use Prim.Native.Nat.{◌+◌, ◌-◌, ◌≤◌}
+use Prim.Native.Nat.{◌+◌, ◌-◌}
 use native.Mathlib.Omega.{arith}
 use mathlib.Core.Path.{◌≡◌, refl, ◌∙◌, ap₂}
 use lib.ListN.{length}
 use Rattle.words.specs.Words.{words}
-use Rattle.check_types.specs.Load.{codes_of, load_entry, load_codes}
+use Rattle.check_types.specs.Load.{codes_of, load_entry}
 use Rattle.check_types.proofs.Laws.Load.{load_none, load_next, load_all}
 use Rattle.check_types.proofs.load_types.Goals as goal
 

@@ -1,10 +1,8 @@
-use Prim.Native.Nat.{◌+◌, ◌-◌, ◌≤◌}
-use native.Mathlib.Omega.{arith}
-use mathlib.Core.Path.{◌≡◌, refl, ◌∙◌, ap₂}
+use Prim.Native.Nat.{◌-◌, ◌≤◌}
+use mathlib.Core.Path.{◌≡◌}
 use lib.ListN.{length}
 use Rattle.words.specs.Words.{words}
-use Rattle.check_types.specs.Load.{codes_of, load_entry, load_codes}
-use Rattle.check_types.proofs.Laws.Load.{load_none, load_next, load_all}
+use Rattle.check_types.specs.Load.{codes_of, load_codes}
 use Rattle.check_types.proofs.load_types.Given as goal
 
 abbrev pub invariant-loop-k : goal.invariant-loop-k

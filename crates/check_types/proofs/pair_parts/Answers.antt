@@ -5,7 +5,6 @@ use Rattle.rules.specs.Inference.{as_pair}
 use Rattle.check_types.specs.declared.Parts.TheVariants.{Both}
 use Rattle.check_types.specs.Cells.{PartsGiven}
 use Rattle.check_types.proofs.Laws.Rules.{pair_parts_found, no_pair_parts}
-use borrow.Author.Rules.{rules}
 use Rattle.check_types.proofs.pair_parts.Goals as goal
 
 pub returns-then-cell_kind-ne-PAIR_TYPE : goal.returns-then-cell_kind-ne-PAIR_TYPE

@@ -1,6 +1,5 @@
 -- `check_types::pair_type` meets its contract: the pair type of two parts. Assumes nothing.
 use Rattle.check_types.specs.Cells.{made_pair}
-use borrow.Author.Rules.{rules}
 use Rattle.check_types.proofs.pair_type.Goals as goal
 
 pub returns : goal.returns

@@ -6,7 +6,6 @@ use Rattle.check_types.specs.declared.Ruled.TheVariants.{Gives}
 use Rattle.check_types.specs.Cells.{MeetsTwo}
 use Rattle.check_types.specs.Rules.{SaysSameType, result_type}
 use Rattle.check_types.proofs.Laws.Rules.{no_result, other_argument, gives_result}
-use borrow.Author.Rules.{rules}
 use Rattle.check_types.proofs.result_type.Goals as goal
 
 pub returns-then-cell_kind-kind : goal.returns-then-cell_kind-kind

@@ -1,6 +1,5 @@
 -- `check_types::share` meets its contract: the size that the quadword says, or all that are left where that is less. Assumes nothing.
 use native.Mathlib.Omega.{arith}
-use borrow.Author.Rules.{rules}
 use Rattle.check_types.proofs.share.Goals as goal
 
 pub returns-then-size-left : goal.returns-then-size-left

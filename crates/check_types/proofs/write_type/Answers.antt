@@ -2,7 +2,6 @@
 use Rattle.words.specs.Words.{words}
 use Rattle.check_types.proofs.Laws.Cells.{cell_of}
 use Rattle.check_types.proofs.Laws.Write.{wrote_all}
-use borrow.Author.Rules.{rules}
 use Rattle.rules.specs.Types.{most_entries}
 use Rattle.check_types.proofs.write_type.Goals as goal
 

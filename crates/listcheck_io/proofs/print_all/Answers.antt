@@ -11,4 +11,4 @@ pub returns : goal.returns
 returns c =
     let w = c.print_line.ensures in
     let room : refusal_bytes ≤ length c.args.text.now = omega (arith, c.print_line-arg-1.given) in
-    record { text_after = all_written w.0 (omega arith); upper_bound = omega (arith, w.0.place, c.print_line.auto.text) }
+    record { text_after = all_written w.written (omega arith); upper_bound = omega (arith, w.written.place, c.print_line.auto.text) }

@@ -8,4 +8,4 @@ pub returns-in-Accepted : goal.returns-in-Accepted
 returns-in-Accepted c = line_accepted c.in-Accepted.is (puts_first c.put_bytes.ensures)
 
 pub returns-in-Refused : goal.returns-in-Refused
-returns-in-Refused c = line_refused c.in-Refused.is c.number_of_lem.ensures c.place_of-place.ensures c.write_refusal.ensures.written record { written = c.write_refusal.ensures.place_len_bound.0; answer_len_bound = c.write_refusal.ensures.place_len_bound.1 }
+returns-in-Refused c = line_refused c.in-Refused.is c.number_of.ensures c.place_of-place.ensures c.write_refusal.ensures.written record { written = c.write_refusal.ensures.place_len_bound.0; answer_len_bound = c.write_refusal.ensures.place_len_bound.1 }

@@ -2,7 +2,6 @@
 use Prim.Native.Nat.{◌+◌}
 use native.Mathlib.Omega.{arith}
 use mathlib.Core.Path.{sym}
-use borrow.Author.Rules.{rules}
 use Rattle.words.proofs.Laws.Numbers.{byte_past}
 use Rattle.listing.specs.Reading.{kind_at}
 use Rattle.listing.proofs.kind_at.Goals as goal

@@ -3,7 +3,6 @@ use native.Mathlib.Omega.{arith}
 use mathlib.Core.Path.{sym, ◌∙◌}
 use lib.ListN.{length}
 use Rattle.listing_check.proofs.Laws.Answering.{cleared_table, sizes_fit_lem, short_answered, sizes_answered, entry_answered, wires_answered}
-use borrow.Author.Rules.{rules}
 use Rattle.listing_check.proofs.check_uncleared.Goals as goal
 
 pub returns-then-work-lt-LEAST_WORK : goal.returns-then-work-lt-LEAST_WORK

@@ -17,7 +17,7 @@ abbrev pub invariant-loop-slot : goal.invariant-loop-slot
 invariant-loop-slot l =
     (l.slot ≤ entry_slots)
     × (length l.out ≡ length l.initial.out)
-    × (l.out ≡ over l.initial.out l.at (pieces (slot_piece (quadword_at (quadwords_in l.gates) l.row)) l.slot))
+    × (l.out ≡ over l.initial.out l.at (pieces (slot_piece (quadword_at (quadwords_in l.gates) l.i)) l.slot))
 
 abbrev pub decreases-loop-slot : goal.decreases-loop-slot
 decreases-loop-slot l = entry_slots - l.slot

@@ -7,7 +7,7 @@ use Rattle.machine_nodes.specs.Nodes.{nodes_in}
 use Rattle.machine_nodes.proofs.Laws.Nodes.{length_nodes_in, same_nodes}
 use Rattle.words.specs.Quadwords.{quadwords_in}
 use Rattle.words.proofs.Laws.Quadwords.{quadword_put}
-use Rattle.machine_load.proofs.Laws.Loading.{too_short, loaded}
+use Rattle.machine_load.proofs.Laws.Loading.{too_short_lem, loaded}
 use borrow.Author.Rules.{rules}
 use Rattle.machine_load.proofs.load.Goals as goal
 
@@ -15,7 +15,7 @@ pub returns-then-n-terms : goal.returns-then-n-terms
 returns-then-n-terms c =
     let s = c.args in
     let terms = c.word_at-terms in
-    too_short s.file.now (nodes_in s.nodes.now) (words s.types.now) (quadwords_in s.frames.now)
+    too_short_lem s.file.now (nodes_in s.nodes.now) (words s.types.now) (quadwords_in s.frames.now)
     c.numbers_at.result
     terms.result
     terms.ensures.value

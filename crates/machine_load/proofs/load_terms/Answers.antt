@@ -23,7 +23,6 @@ overflow_add-to c =
 
 pub loop-i-preserved : goal.loop-i-preserved
 loop-i-preserved c =
-    let start = c in
     let s = c.args in
     let l = c.loop-i in
     let kind = c.kind_at-kind in

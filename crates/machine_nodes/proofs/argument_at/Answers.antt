@@ -15,4 +15,4 @@ pub returns : goal.returns
 returns c =
     let s = c.args in
     let number = c.word_of.ensures in
-    record { value = number.0 ∙ argument_number s.nodes.now s.i c.if-n-i.false; upper_bound = number.1 }
+    record { value = number.value ∙ argument_number s.nodes.now s.i c.if-n-i.false; upper_bound = number.upper_bound }

@@ -17,12 +17,12 @@ use Rattle.machine_substitution.proofs.write_reduct.Goals as goal
 pub returns-then-n-start : goal.returns-then-n-start
 returns-then-n-start c =
     λ ready.
-    absurd (omega (arith, ready.source-outside.0, length_nodes_in c.args.nodes.now))
+    absurd (omega (arith, ready.source_outside.0, length_nodes_in c.args.nodes.now))
 
 pub returns-then-n-start-2 : goal.returns-then-n-start-2
 returns-then-n-start-2 c =
     λ ready.
-    absurd (omega (arith, ready.source-outside.0, length_nodes_in c.args.nodes.now))
+    absurd (omega (arith, ready.source_outside.0, length_nodes_in c.args.nodes.now))
 
 pub returns-then-n-to : goal.returns-then-n-to
 returns-then-n-to c =
@@ -51,7 +51,7 @@ loop-i-init c =
           a.values
           a.to
           (word_put _ _ _ _ c.put.ensures)
-          (omega (arith, ready.words-enough)),
+          (omega (arith, ready.words_enough)),
     )
 
 pub shape_of-nodes-then-depth-eq0 : goal.shape_of-nodes-then-depth-eq0

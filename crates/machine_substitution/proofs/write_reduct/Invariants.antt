@@ -19,8 +19,8 @@ invariant-loop-i l =
     × (l.size ≤ l.most)
     × (length l.nodes ≡ length l.initial.nodes)
     × (length l.waiting ≡ length l.initial.waiting)
-    × (Ready (nodes_in l.initial.nodes) (length (words l.initial.waiting)) l.to l.most (record { l.start = l.start; length = l.count }) l.values
-    → Writing (nodes_in l.initial.nodes) (nodes_in l.nodes) (words l.waiting) (record { l.start = l.start; length = l.count }) l.values l.to l.i l.depth l.size)
+    × (Ready (nodes_in l.initial.nodes) (length (words l.initial.waiting)) l.to l.most (record { start = l.start; length = l.count }) l.values
+    → Writing (nodes_in l.initial.nodes) (nodes_in l.nodes) (words l.waiting) (record { start = l.start; length = l.count }) l.values l.to l.i l.depth l.size)
 
 abbrev pub decreases-loop-i : goal.decreases-loop-i
 decreases-loop-i l = l.count - l.i

@@ -192,7 +192,7 @@ repeated_last {A} f (suc n) a = later (f a) (repeated_last f n)
     later (some b) more = more b
 
 -- A row of rule steps is a row of the machine's steps, to a state that stands for its end.
-pub row_by_steps : {allowance : ℕ} {n : ℕ} {c d : Configuration} (types : ℕ → Ty) (positions : ℕ) (s : State)
+pub row_by_steps : {allowance : ℕ} {c : Configuration} {n : ℕ} {d : Configuration} (types : ℕ → Ty) (positions : ℕ) (s : State)
     → StateFits positions s
     → decode types s ≡ c
     → Row allowance c n d

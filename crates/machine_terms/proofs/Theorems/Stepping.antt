@@ -232,9 +232,10 @@ module _ (types : ℕ → Ty) (positions : ℕ) (C : Circuit) (Cs : List Circuit
       → one_kind (kind n) ≡ a_box
       → step_box C outer below closed (types (argument n)) (view (meaning here v))
       ≡ decoded (contract_box types C Cs closed n v hs)
-  box_contract n (leaf m) p = leaf_box (leaf_kind (kind m)) _ _ _
+  box_contract n (leaf m) p = leaf_box (leaf_kind (kind m)) (argument m) (here.closed_at (argument m)) (types (argument n))
   box_contract n (one m t) p = one_box n m t (one_kind (kind m)) p refl
-  box_contract n (two m t u) p = two_box (two_kind (kind m)) _ _ _
+  box_contract n (two m t u) p =
+      two_box (two_kind (kind m)) (meaning here t) (meaning here u) (types (argument n))
 
   -- Apply.
   append_contract : (b : Boxed) (k : Option Tuple)

@@ -31,7 +31,7 @@ returns-in-32 c = sym (ap head_of c.in-32.is)
 
 pub returns-in_default : goal.returns-in_default
 returns-in_default c =
-    let r = c.in_default.rest in
+    let r = c.in_default.in_default-own.rest in
     c.head_with.ensures
     ∙ ap head_with c.parts_of.ensures.value
     ∙ sym

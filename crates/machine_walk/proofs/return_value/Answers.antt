@@ -38,7 +38,7 @@ pub returns-then-tag-eq-FIRST : goal.returns-then-tag-eq-FIRST
 returns-then-tag-eq-FIRST c =
     let ns = nodes_in c.args.nodes.now in
     let r = c.return_first.ensures in
-    record { moves = r.0 ns c.kind_at-kind.ensures.value; falls = r.1 (length ns) }
+    record { moves = r.moves_stack ns c.kind_at-kind.ensures.value; falls = r.by_index (length ns) }
 
 pub return_second-requires : goal.return_second-requires
 return_second-requires c = (c.requires, omega (arith, c.if-depth-eq0.false))
@@ -52,7 +52,7 @@ returns-then-tag-eq-SECOND c =
     c.stack_tag-tag.ensures.value
     c.if-tag-eq-SECOND.true
     c.stack_node-at.ensures.value in
-    record { moves = r.0 (quadwords_in a.stack.now) c.stack_node-at.result e ns c.kind_at-kind.ensures.value; falls = r.1 (length ns) }
+    record { moves = r.moves_stack (quadwords_in a.stack.now) c.stack_node-at.result e ns c.kind_at-kind.ensures.value; falls = r.by_index (length ns) }
 
 pub returns : goal.returns
 returns c =

@@ -15,5 +15,5 @@ returns-in-21 c = sym (ap (λ k. stop_two (two_kind k)) c.in-21.is)
 
 pub returns-in_default : goal.returns-in_default
 returns-in_default c =
-    let rest = c.in_default.rest in
+    let rest = c.in_default.in_default-own.rest in
     sym (apply_stops c.args.kind rest.0.1 c.requires rest.1)

@@ -1,5 +1,5 @@
 -- Laws of specs/Layout.antt: a line by its parts.
-use Rattle.std.specs.Prelude.{ℕ, zero, suc, ◌+◌, ◌≤◌, ◌<◌, ◌≡◌, refl, not, ◌&&◌, List, [], ◌∷◌, ◌++◌, eqb, get_or}
+use Rattle.std.specs.Prelude.{ℕ, zero, suc, ◌≤◌, ◌<◌, ◌≡◌, refl, not, ◌&&◌, List, [], ◌∷◌, ◌++◌, eqb, get_or}
 use Rattle.std.proofs.Common.{arith, sym, ◌∙◌, ap, ap₂, append_assoc, append-nil, ne_eqb}
 use Rattle.rules.specs.Types.{Wire, Qubit}
 use Rattle.rules.specs.Gates.{Init, Discard, CCX}

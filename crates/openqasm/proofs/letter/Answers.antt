@@ -3,7 +3,6 @@ use mathlib.Core.Path.{sym}
 use native.Mathlib.Omega.{arith}
 use lib.ListN.{get_or-eq_default}
 use Rattle.openqasm.specs.Lines.{letters}
-use borrow.Author.Rules.{rules}
 use Rattle.openqasm.proofs.letter.Goals as goal
 
 pub returns-else-gate-lt5 : goal.returns-else-gate-lt5

@@ -1,6 +1,5 @@
 -- `openqasm::put_named` meets its contract. Assumes nothing.
 use Rattle.text.proofs.Laws.Writing.{puts_both}
-use borrow.Author.Rules.{rules}
 use Rattle.openqasm.proofs.put_named.Goals as goal
 
 pub returns : goal.returns

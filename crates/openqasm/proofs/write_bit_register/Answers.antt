@@ -1,6 +1,5 @@
 -- `openqasm::write_bit_register` meets its contract. Assumes nothing.
 use Rattle.text.proofs.Laws.Writing.{puts_both}
-use borrow.Author.Rules.{rules}
 use Rattle.openqasm.proofs.write_bit_register.Goals as goal
 
 pub returns : goal.returns

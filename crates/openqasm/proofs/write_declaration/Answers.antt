@@ -4,7 +4,6 @@ use mathlib.Core.Bool.{cond}
 use borrow.Author.Tests.{eq-eqb, ne_eqb}
 use Rattle.rules.specs.Types.{Bit, Qubit}
 use Rattle.openqasm.proofs.Laws.Lines.{puts_qubit, puts_declared}
-use borrow.Author.Rules.{rules}
 use Rattle.openqasm.proofs.write_declaration.Goals as goal
 
 pub returns-then-kind-eq-BIT_INPUT : goal.returns-then-kind-eq-BIT_INPUT

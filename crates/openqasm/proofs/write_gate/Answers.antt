@@ -6,7 +6,6 @@ use Rattle.text.proofs.Laws.Writing.{puts_none, puts_same}
 use Rattle.openqasm.specs.Layout.{gate_line}
 use Rattle.openqasm.specs.Lines.{one_line}
 use Rattle.openqasm.proofs.Laws.Lines.{gate_on_one, gate_cnot, gate_measured, gate_ccx, no_line}
-use borrow.Author.Rules.{rules}
 use Rattle.openqasm.proofs.write_gate.Goals as goal
 
 pub returns-then-gate-lt5 : goal.returns-then-gate-lt5

@@ -1,6 +1,5 @@
 -- `openqasm::write_one` meets its contract. Assumes nothing.
 use Rattle.text.proofs.Laws.Writing.{puts_both}
-use borrow.Author.Rules.{rules}
 use Rattle.openqasm.proofs.write_one.Goals as goal
 
 pub returns : goal.returns

@@ -6,7 +6,6 @@ use Rattle.rules.specs.Types.{Bit, Qubit}
 use Rattle.text.specs.Text.{decimal, spaced}
 use Rattle.text.proofs.Laws.Writing.{puts_same}
 use Rattle.openqasm.specs.Layout.{register_name}
-use borrow.Author.Rules.{rules}
 use Rattle.openqasm.proofs.write_output.Goals as goal
 
 pub returns-then-qubit : goal.returns-then-qubit

@@ -6,7 +6,6 @@ use Rattle.text.specs.Text.{ascii}
 use Rattle.text.proofs.Laws.Writing.{puts_same}
 use Rattle.openqasm.specs.Layout.{gate_line}
 use Rattle.openqasm.proofs.Laws.Lines.{gate_bx, gate_bz, puts_two}
-use borrow.Author.Rules.{rules}
 use Rattle.openqasm.proofs.write_under_bit.Goals as goal
 
 pub returns-then-gate-eq7 : goal.returns-then-gate-eq7

@@ -40,7 +40,7 @@ pub place_at-third-requires : goal.place_at-third-requires
 place_at-third-requires c = (omega (arith, c.loop-i.invariant.3, c.loop-i-test.true, c.input_count-inputs.ensures, c.gate_count-gates.ensures), omega arith)
 
 pub keep_places-made-requires : goal.keep_places-made-requires
-keep_places-made-requires c = (c.place_at-first.ensures.upper_bound, c.place_at-second.ensures.upper_bound, c.place_at-third.ensures.upper_bound, omega (arith, c.loop-i.invariant.4.made-is, few_made c.args.listing.now c.loop-i.i, c.loop-i-test.true, c.input_count-inputs.ensures, c.gate_count-gates.ensures))
+keep_places-made-requires c = (c.place_at-first.ensures.upper_bound, c.place_at-second.ensures.upper_bound, c.place_at-third.ensures.upper_bound, omega (arith, c.loop-i.invariant.4.made_is, few_made c.args.listing.now c.loop-i.i, c.loop-i-test.true, c.input_count-inputs.ensures, c.gate_count-gates.ensures))
 
 pub overflow_add-from : goal.overflow_add-from
 overflow_add-from c = search (rules, c.loop-i.invariant.3, c.loop-i-test.true, c.input_count-inputs.ensures, c.gate_count-gates.ensures)
@@ -61,7 +61,7 @@ loop-i-preserved c =
     let kind : c.kind_at-gate.result ≡ kind_at b (input_count b + s.i) = c.kind_at-gate.ensures.value ∙ ap (λ n. kind_at b (n + s.i)) c.input_count-inputs.ensures.value in
     let below : s.i < gate_count b = omega (arith, c.loop-i-test.true, c.gate_count-gates.ensures.value) in
     let few = few_made b s.i in
-    let room : s.made + entry_slots ≤ length s.table = omega (arith, few, w.made-is, s.invariant.1, p.room, p.few-inputs, p.few-gates, below) in
+    let room : s.made + entry_slots ≤ length s.table = omega (arith, few, w.made_is, s.invariant.1, p.room, p.few_inputs, p.few_gates, below) in
     let counted = c.wires_in-count.ensures ∙ ap wires_in kind in
     let slot : (k : ℕ) → _ = λ k. ap₂ (λ from n. get_or (map (λ v. get_or s.table v 0) (words_at b from n)) k 0) s.invariant.3 counted in
     let first = c.place_at-first.result in

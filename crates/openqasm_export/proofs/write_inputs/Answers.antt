@@ -18,7 +18,7 @@ pub loop-i-init : goal.loop-i-init
 loop-i-init c = let a = c.args in (omega arith, refl, refl, inputs_start a.listing.now a.text.now a.at c.requires.0)
 
 pub input_place-requires : goal.input_place-requires
-input_place-requires c = omega (arith, c.loop-i-test.true, c.input_count-count.ensures.value, c.requires.1.few-inputs)
+input_place-requires c = omega (arith, c.loop-i-test.true, c.input_count-count.ensures.value, c.requires.1.few_inputs)
 
 pub overflow_add-i : goal.overflow_add-i
 overflow_add-i c = search (rules, c.loop-i-test.true)
@@ -43,7 +43,7 @@ loop-i-preserved c =
           (λ bytes here begun.
           subst (λ m. Begins m (bytes ++ ((2 * s.i + wire_code (input_type (kind_at b s.i))) ∷ [])))
           (sym (c.make_wire.ensures ∙ ap (set s.table s.i) byte))
-          (begins_more s.i _ here (omega (arith, below, s.invariant.1, c.requires.1.room, c.requires.1.few-inputs)) begun)),
+          (begins_more s.i _ here (omega (arith, below, s.invariant.1, c.requires.1.room, c.requires.1.few_inputs)) begun)),
     )
 
 pub shape_of-table : goal.shape_of-table

@@ -11,5 +11,5 @@ pub returns-in-Refused : goal.returns-in-Refused
 returns-in-Refused c =
     let w = c.write_refusal.ensures in
     ends_refused c.in-Refused.is
-    c.number_of_lem.ensures
-    c.place_of-place.ensures w.0 w.1
+    c.number_of.ensures
+    c.place_of-place.ensures w.written w.place_len_bound

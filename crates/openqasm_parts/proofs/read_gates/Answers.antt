@@ -33,22 +33,22 @@ returns-then-not-is_gate c = (
 )
 
 pub overflow_add-inputs : goal.overflow_add-inputs
-overflow_add-inputs c = search (rules, c.loop-i-test.true, c.loop-i.invariant.4.few-inputs)
+overflow_add-inputs c = search (rules, c.loop-i-test.true, c.loop-i.invariant.4.few_inputs)
 
 pub put_entry-requires : goal.put_entry-requires
 put_entry-requires c =
     let s = c.loop-i.invariant in
     let p = c.requires in record {
       bound = (
-        omega (arith, c.loop-i-test.true, s.4.few-inputs),
-        c.read_item-item.ensures.1.kind-small,
+        omega (arith, c.loop-i-test.true, s.4.few_inputs),
+        c.read_item-item.ensures.1.kind_small,
         c.slot_wire-first.ensures.upper_bound,
         c.slot_wire-second.ensures.upper_bound,
         c.slot_wire-third.ensures.upper_bound,
       );
       in_bounds = (
-        omega (arith, c.loop-i-test.true, s.4.few-inputs, s.2, p.0),
-        omega (arith, c.loop-i-test.true, s.4.few-inputs, s.3, p.1),
+        omega (arith, c.loop-i-test.true, s.4.few_inputs, s.2, p.0),
+        omega (arith, c.loop-i-test.true, s.4.few_inputs, s.3, p.1),
       );
     }
 
@@ -60,13 +60,13 @@ hold_wires-made-requires c =
     let takes = wires_taken_lem c.read_item-item.result _ c.read_item-item.ensures.0 known in (
       omega (arith, counted, takes.0),
       omega (arith, counted, takes.1),
-      omega (arith, c.loop-i-test.true, s.few-inputs, s.few-made),
+      omega (arith, c.loop-i-test.true, s.few_inputs, s.few_made),
     )
 
 pub overflow_add-here : goal.overflow_add-here
 overflow_add-here c =
     let s = c.loop-i.invariant.4 in
-    search (rules, s.near, s.few-inputs, c.read_item-item.ensures.1.length-small, c.loop-i-test.true)
+    search (rules, s.near, s.few_inputs, c.read_item-item.ensures.1.length_small, c.loop-i-test.true)
 
 pub overflow_add-i : goal.overflow_add-i
 overflow_add-i c = search (rules, c.loop-i-test.true)
@@ -80,7 +80,7 @@ loop-i-preserved c =
     let r = c.read_item-item.ensures in
     let below = c.loop-i-test.true in
     let known = sym c.is_gate.ensures ∙ not-false c.is_gate.result c.if-not-is_gate.false-raw in
-    let few = s.invariant.4.few-inputs in
+    let few = s.invariant.4.few_inputs in
     let p = c.requires in
     let put = c.put_entry in
     let h = c.hold_wires-made in (
@@ -88,7 +88,7 @@ loop-i-preserved c =
       h.auto.held ∙ s.invariant.1,
       put.auto.kinds ∙ s.invariant.2,
       put.auto.slots ∙ s.invariant.3,
-      gate_next c.read_item-item.result s.invariant.4 (omega (arith, below)) r.0 known r.1.length-small
+      gate_next c.read_item-item.result s.invariant.4 (omega (arith, below)) r.0 known r.1.length_small
           (omega (arith, below, few, s.invariant.2, p.0))
           (omega (arith, below, few, s.invariant.3, p.1))
           c.wires_in-count.ensures

@@ -33,14 +33,14 @@ returns-then-not-is_input c =
     c.if-not-is_input.true-raw)
 
 pub put_entry-requires : goal.put_entry-requires
-put_entry-requires c = record { bound = (omega (arith, c.loop-i-test.true), c.read_item-item.ensures.1.kind-small, omega arith, omega arith, omega arith); in_bounds = (omega (arith, c.loop-i-test.true, c.loop-i.invariant.1, c.requires.0), omega (arith, c.loop-i-test.true, c.loop-i.invariant.2, c.requires.1)) }
+put_entry-requires c = record { bound = (omega (arith, c.loop-i-test.true), c.read_item-item.ensures.1.kind_small, omega arith, omega arith, omega arith); in_bounds = (omega (arith, c.loop-i-test.true, c.loop-i.invariant.1, c.requires.0), omega (arith, c.loop-i-test.true, c.loop-i.invariant.2, c.requires.1)) }
 
 pub overflow_add-at : goal.overflow_add-at
 overflow_add-at c =
     search (
       rules,
       c.loop-i.invariant.3.near,
-      c.read_item-item.ensures.1.length-small,
+      c.read_item-item.ensures.1.length_small,
       c.loop-i-test.true,
     )
 
@@ -64,7 +64,7 @@ loop-i-preserved c =
           (omega (arith, below)) r.0 (sym
           c.is_input.ensures ∙ not-false
           c.is_input.result
-          c.if-not-is_input.false-raw) r.1.length-small
+          c.if-not-is_input.false-raw) r.1.length_small
           (omega (
             arith,
             below,

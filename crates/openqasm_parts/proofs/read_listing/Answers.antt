@@ -59,8 +59,8 @@ assemble-requires c =
     let g = c.read_gates-gates in
     let o = c.read_outputs-outputs in
     let w = (o.ensures _ g.ensures.0 g.ensures.1).1 in (
-      w.few-inputs,
-      w.few-gates,
+      w.few_inputs,
+      w.few_gates,
       omega (arith, w.few),
       omega (
         arith,

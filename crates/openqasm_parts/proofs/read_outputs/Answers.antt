@@ -14,13 +14,13 @@ use Rattle.openqasm_parts.proofs.Laws.Stored.{puts_word, outputs_start, output_n
 use Rattle.openqasm_parts.proofs.read_outputs.Goals as goal
 
 pub overflow_add-from : goal.overflow_add-from
-overflow_add-from c = let g = c.requires.1.2 in search (rules, g.few-inputs, g.few)
+overflow_add-from c = let g = c.requires.1.2 in search (rules, g.few_inputs, g.few)
 
 pub overflow_mul-from-2 : goal.overflow_mul-from-2
-overflow_mul-from-2 c = let g = c.requires.1.2 in search (rules, g.few-inputs, g.few)
+overflow_mul-from-2 c = let g = c.requires.1.2 in search (rules, g.few_inputs, g.few)
 
 pub overflow_add-here : goal.overflow_add-here
-overflow_add-here c = let g = c.requires.1.2 in search (rules, g.near, g.few-inputs, g.few)
+overflow_add-here c = let g = c.requires.1.2 in search (rules, g.near, g.few_inputs, g.few)
 
 pub loop-i-init : goal.loop-i-init
 loop-i-init c = (omega arith, refl, λ kinds made g. outputs_start most_outputs g)
@@ -44,7 +44,7 @@ pub overflow_add-from-in-loop-i : goal.overflow_add-from-in-loop-i
 overflow_add-from-in-loop-i c =
     let g = c.requires.1 in
     let w = c.loop-i.invariant.2 g.0 g.1 g.2 in
-    search (rules, c.loop-i-test.true, w.few-inputs, w.few-gates)
+    search (rules, c.loop-i-test.true, w.few_inputs, w.few_gates)
 
 pub put_word-requires : goal.put_word-requires
 put_word-requires c = c.wire_in.ensures.upper_bound
@@ -57,9 +57,9 @@ overflow_add-here-in-loop-i c =
     search (
       rules,
       w.near,
-      w.few-inputs,
-      w.few-gates,
-      c.read_item-item.ensures.1.length-small,
+      w.few_inputs,
+      w.few_gates,
+      c.read_item-item.ensures.1.length_small,
       c.loop-i-test.true,
     )
 
@@ -82,12 +82,12 @@ loop-i-preserved c =
             arith,
             below,
           )) r.0 (ap (λ k. eqb k 130) c.if-item-ne-OUTPUT_ITEM.false)
-          r.1.length-small
+          r.1.length_small
           (omega (
             arith,
             below,
-            w.few-inputs,
-            w.few-gates,
+            w.few_inputs,
+            w.few_gates,
             s.invariant.1,
             c.requires.0,
           ))

@@ -15,7 +15,7 @@ unfolding kind_of between
 returns-then-byte_at-eq120 c =
     let start = c in
     let a = c.args in
-    let digits = c.number_at-bit.ensures.digits.0 in
+    let digits = c.number_at-bit.ensures.digits in
     let name = name_here a.text.now a.at _ _ digits c.byte_at.ensures in
     let named = eq-eqb _ 120 (sym name ∙ c.if-byte_at-eq120.true) in
     item_two a.text.now a.at 105 7 (sym c.requires.1) (ap (λ b. cond b 7 8) named) _ refl refl refl c.two_numbers.ensures
@@ -29,7 +29,7 @@ unfolding kind_of between
 returns c =
     let start = c in
     let a = c.args in
-    let digits = c.number_at-bit.ensures.digits.0 in
+    let digits = c.number_at-bit.ensures.digits in
     let name = name_here a.text.now a.at _ _ digits c.byte_at.ensures in
     let named = ne_eqb _ 120 (λ e. c.if-byte_at-eq120.false (name ∙ e)) in
     item_two a.text.now a.at 105 8 (sym c.requires.1) (ap (λ b. cond b 7 8) named) _ refl refl refl c.two_numbers-2.ensures

@@ -8,4 +8,4 @@ returns c =
     let a = c.args in
     let number = c.number_at-number.ensures in
     let known = c.requires.prefix_value in
-    (one_here a.text.now a.at a.kind _ _ _ _ known.0 number.0 number.1.0 known.1, search rules)
+    (one_here a.text.now a.at a.kind _ _ _ _ known.0 number.value number.digits known.1, search rules)

@@ -13,6 +13,6 @@ returns c =
     let second = c.number_at-second.ensures in
     let third = c.number_at-third.ensures in (
       three_here a.text.now a.at 11 5 5 _ _ _ _ _ _ 5
-          refl refl first.0 first.1.0 second.0 second.1.0 third.0 third.1.0 refl,
+          refl refl first.value first.digits second.value second.digits third.value third.digits refl,
       search rules,
     )

@@ -10,6 +10,6 @@ returns c =
     let second = c.number_at-second.ensures in
     let known = c.requires.prefix_value in (
       two_here a.text.now a.at a.kind _ _ _ _ _ _ _
-          known.0 known.1 first.0 first.1.0 second.0 second.1.0 known.2,
+          known.0 known.1 first.value first.digits second.value second.digits known.2,
       search rules,
     )

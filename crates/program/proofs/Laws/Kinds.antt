@@ -1,5 +1,5 @@
 -- What the kind of an entry says: which numbers are kinds of a section, and the shape that they give an entry.
-use Rattle.std.specs.Prelude.{ℕ, ◌-◌, ◌≤◌, ◌<◌, ◌≡◌, refl, Bool, true, false, cond, not, List, T as IsTrue, eqb, leb}
+use Rattle.std.specs.Prelude.{ℕ, ◌≤◌, ◌<◌, ◌≡◌, refl, Bool, true, false, cond, not, List, T as IsTrue, eqb, leb}
 use Rattle.std.proofs.Common.{sym, ap, subst, arith, lt-ltb, le-ltb, le-leb, leb-true}
 use Rattle.std.proofs.Math.Decide.{dec_le}
 use Rattle.rules.specs.Kinds.{pair_type_kind, function_kind, reusable_kind, circuit_kind, unit_kind, variable_kind, label_kind}

@@ -14,7 +14,7 @@ use Rattle.step_apply_circuit.proofs.Laws.Outcomes.{constant_taken}
 use Rattle.step_apply_circuit.proofs.append_constant.Goals as goal
 
 pub overflow_sub-place : goal.overflow_sub-place
-overflow_sub-place c = c.requires.argument-before
+overflow_sub-place c = c.requires.argument_before
 
 pub overflow_sub-place-2 : goal.overflow_sub-place-2
 overflow_sub-place-2 c = c.requires.gap
@@ -23,7 +23,7 @@ pub overflow_sub-counts : goal.overflow_sub-counts
 overflow_sub-counts c = c.requires.framed
 
 pub overflow_add-redex : goal.overflow_add-redex
-overflow_add-redex c = omega (arith, c.requires.wires-within)
+overflow_add-redex c = omega (arith, c.requires.wires_within)
 
 pub numbers_after-requires : goal.numbers_after-requires
 numbers_after-requires c = c.requires

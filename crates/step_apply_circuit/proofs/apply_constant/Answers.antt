@@ -45,10 +45,10 @@ append_constant-requires c =
     record {
       deep = ne_zero a.numbers.place.depth c.if-place-eq0.false;
       framed = ne_zero a.numbers.counts.frames c.if-counts-eq0.false;
-      argument_before = room.argument-before;
+      argument_before = room.argument_before;
       gap = room.gap;
-      wires_within = omega (arith, c.read_redex-redex.ensures.next_low, room.few-made);
-      gates_within = omega (arith, room.gates-fit, c.ranges.allowance);
+      wires_within = omega (arith, c.read_redex-redex.ensures.next_low, room.few_made);
+      gates_within = omega (arith, room.gates_fit, c.ranges.allowance);
     }
 
 pub returns-then-has_room : goal.returns-then-has_room

@@ -19,7 +19,6 @@ overflow_add-at c = omega (arith, c.stack_node-at.ensures.upper_bound)
 
 pub returns-then-too_many_nodes : goal.returns-then-too_many_nodes
 returns-then-too_many_nodes c = λ room cs ws results e.
-    let read = c in
     let a = c.args in
     let r = a.numbers in
     let ns = nodes_in a.nodes.now in
@@ -32,7 +31,7 @@ returns-then-too_many_nodes c = λ room cs ws results e.
     = ltb-true most_nodes (at.result + size.result + rest.result)
     (sym c.too_many_nodes.ensures ∙ c.if-too_many_nodes.true) in
     nodes_refused m r a.allowance at.result c.argument_at-number.result size.result e
-    (at.ensures.0 ∙ ap (λ d. stack_node (quadword_at rs d)) c.saturating_sub-depth.ensures)
+    (at.ensures.value ∙ ap (λ d. stack_node (quadword_at rs d)) c.saturating_sub-depth.ensures)
     c.argument_at-number.ensures.value
     size.ensures
     (omega (arith, many, rest.ensures, length_nodes_in a.nodes.now))
@@ -50,42 +49,36 @@ returns-then-too_many_gates c = λ room cs ws results e.
 
 pub overflow_add-result : goal.overflow_add-result
 overflow_add-result c =
-    let tested = c in
-    let start = c in
-    let a = start.args in
+    let a = c.args in
     let r = a.numbers in
     let below : r.counts.gates + r.counts.kept + 1 ≤ a.allowance
     = ltb-false a.allowance (r.counts.gates + r.counts.kept + 1)
     (sym c.too_many_gates.ensures ∙ c.if-too_many_gates.false) in
-    omega (arith, below, start.ranges)
+    omega (arith, below, c.ranges)
 
 pub returns : goal.returns
 returns c = λ room cs ws results e.
-    let o = c in
-    let p = c in
-    let tested = p.before.before.before.before.before.before in
-    let read = tested.before.before.before.before in
-    let a = read.before.before.before.before.before.before.before.before.before.before.before.before.before.args in
+    let a = c.args in
     let r = a.numbers in
     let ns = nodes_in a.nodes.now in
     let rs = quadwords_in a.stack.now in
     let m = memory ns rs (quadwords_in a.gates.now) cs (quadwords_in a.frames.now) ws results in
-    let at = read.before.before.before.before.stack-node in
-    let start = p.before.before.before.before.before.stack-start in
-    let number = read.before.before.argument-at in
-    let size = read.before.output-size in
-    let rest = read.saturating-sub2 in
-    let deep = read.before.before.before.before.before.saturating-sub in
-    let count = p.before.before.before.before.saturating-sub3 in
+    let at = c.stack_node-at in
+    let start = c.stack_start-start in
+    let number = c.argument_at-number in
+    let size = c.output_size-size in
+    let rest = c.saturating_sub-rest in
+    let deep = c.saturating_sub-depth in
+    let count = c.saturating_sub-count in
     let right = c.saturating_sub-right in
     let frame = c.saturating_sub-frame in
     let few : at.result + size.result + rest.result ≤ most_nodes
     = ltb-false most_nodes (at.result + size.result + rest.result)
-    (sym tested.before.before.before.too-many-nodes.ensures ∙ tested.before.before.if1.false) in
+    (sym c.too_many_nodes.ensures ∙ c.if-too_many_nodes.false) in
     let below : r.counts.gates + r.counts.kept + 1 ≤ a.allowance
     = ltb-false a.allowance (r.counts.gates + r.counts.kept + 1)
-    (sym tested.before.too-many-gates.ensures ∙ tested.if2.false) in
-    gate_taken m r a.allowance (nodes_in c.put_outputs.new.nodes) (quadwords_in p.put-gate.new.1.1.1.1.0)
+    (sym c.too_many_gates.ensures ∙ c.if-too_many_gates.false) in
+    gate_taken m r a.allowance (nodes_in c.put_outputs.new.nodes) (quadwords_in c.put_gate.new.gates)
     (quadwords_in c.put_outputs.new.frames)
     (words a.labels.now)
     at.result
@@ -98,9 +91,9 @@ returns c = λ room cs ws results e.
     frame.result
     e
     record {
-      at_is = at.ensures.0 ∙ ap (λ d. stack_node (quadword_at rs d)) deep.ensures;
-      start_is = start.ensures.0 ∙ ap (λ d. stack_start (quadword_at rs d)) deep.ensures;
-      number_is = number.ensures.0;
+      at_is = at.ensures.value ∙ ap (λ d. stack_node (quadword_at rs d)) deep.ensures;
+      start_is = start.ensures.value ∙ ap (λ d. stack_start (quadword_at rs d)) deep.ensures;
+      number_is = number.ensures.value;
       wide_is = size.ensures;
       from_is = right.ensures;
       count_is = count.ensures;
@@ -110,5 +103,5 @@ returns c = λ room cs ws results e.
     room
     (omega (arith, few, rest.ensures, length_nodes_in a.nodes.now))
     below
-    p.put-gate.ensures
+    c.put_gate.ensures
     c.put_outputs.ensures

@@ -26,9 +26,9 @@ returns c = λ T U e room few.
     c.word_in-inputs.result
     w.result.nodes
     w.result.labels
-    c.word_in-base.ensures
+    (c.word_in-base.ensures.value, c.word_in-base.ensures.upper_bound)
     c.word_in-next.ensures.value
-    c.word_in-inputs.ensures
+    (c.word_in-inputs.ensures.value, c.word_in-inputs.ensures.upper_bound)
     few'
     (w.ensures T U e room few')
     (quadword_put _ _ _ _ _ _ _ c.put_quadword.ensures)

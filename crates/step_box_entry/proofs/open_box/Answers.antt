@@ -36,23 +36,23 @@ returns-in_default c = λ gs cs results allowance.
 pub write_application-wires-requires : goal.write_application-wires-requires
 write_application-wires-requires c =
     let a = c.args in
-    let e = c.decreases.given.0.0 in
+    let e = c.in-Fits.entry in
     let h =
     fits_known (nodes_in a.nodes.now) (quadwords_in a.stack.now) (words a.types.now) a.numbers.place
-    c.measure-measured.result e c.measure-measured.ensures c.decreases.given.1 in
-    (omega (arith, h.body-ends, h.apart), omega (arith, h.new-end, h.inside))
+    c.measure-measured.result e c.measure-measured.ensures c.in-Fits.is in
+    (omega (arith, h.body_ends, h.apart), omega (arith, h.new_end, h.inside))
 
 pub put_frame-requires : goal.put_frame-requires
 put_frame-requires c =
     let a = c.args in
-    let e = c.decreases.given.0.0 in
+    let e = c.in-Fits.entry in
     let h =
     fits_known (nodes_in a.nodes.now) (quadwords_in a.stack.now) (words a.types.now) a.numbers.place
-    c.measure-measured.result e c.measure-measured.ensures c.decreases.given.1 in
+    c.measure-measured.result e c.measure-measured.ensures c.in-Fits.is in
     h.deep
 
 pub numbers_after-requires : goal.numbers_after-requires
-numbers_after-requires c = omega (arith, c.if-frames-counts.false, c.well-formed.1.1.1.0)
+numbers_after-requires c = omega (arith, c.if-frames-counts.false, c.well_formed.1.1.1.0)
 
 pub returns : goal.returns
 returns c = λ gs cs results allowance.
@@ -61,9 +61,9 @@ returns c = λ gs cs results allowance.
     let rs = quadwords_in a.stack.now in
     let fs = quadwords_in a.frames.now in
     let ws = words a.types.now in
-    let e = c.decreases.given.0.0 in
+    let e = c.in-Fits.entry in
     let h =
-    fits_known ns rs ws a.numbers.place c.measure-measured.result e c.measure-measured.ensures c.decreases.given.1 in
+    fits_known ns rs ws a.numbers.place c.measure-measured.result e c.measure-measured.ensures c.in-Fits.is in
     let ns' = nodes_in c.write_application-wires.new.nodes in
     let rs' = quadwords_in c.put_frame.new.stack in
     let fs' = quadwords_in c.put_frame.new.frames in

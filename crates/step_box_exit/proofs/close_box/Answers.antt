@@ -50,4 +50,8 @@ leave-requires c =
     let boxes = c.if-counts-ge-MOST_BOXES.false in
     let gates = c.if-counts-gt-MOST_GATES.false in
     let closed = c.if-counts-gt-MOST_GATES-2.false in
-    (omega (arith, boxes), (omega (arith, gates), omega (arith, closed)))
+    record {
+      boxes_lt_most_boxes = omega (arith, boxes);
+      gates_le_most_gates = omega (arith, gates);
+      kept_le_most_gates = omega (arith, closed);
+    }

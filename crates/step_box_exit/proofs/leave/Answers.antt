@@ -11,12 +11,14 @@ use Rattle.step_box_exit.proofs.leave.Goals as goal
 pub put_constant-requires : goal.put_constant-requires
 put_constant-requires c =
     let exit = c.exit_at-exit.ensures in
-    let start = c in
-    (search rules, (search rules, omega (arith, exit.gates-are, c.requires)))
+    record {
+      boxes_lt_most_boxes = search rules;
+      kept_le_most_gates = search rules;
+      gates_le_most_gates = omega (arith, exit.gates_are, c.requires);
+    }
 
 pub returns : goal.returns
 returns c =
-    let start = c in
     let a = c.args in
     let exit = c.exit_at-exit in
     let saved = c.save_among in

@@ -22,6 +22,6 @@ returns c =
           ∙ ap
           (λ p. set (quadwords_in a.circuits.now) a.counts.boxes
           (quadword (p % 65536) ((closed_from + a.counts.kept) % 65536) (a.exit.gates % 65536) (a.exit.nodes % 65536)))
-          position.0;
-      low_position = omega (arith, position.0, position.1);
+          position.value;
+      low_position = omega (arith, position.value, position.upper_bound);
     }

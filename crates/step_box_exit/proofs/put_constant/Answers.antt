@@ -1,4 +1,5 @@
 -- `step_box_exit::put_constant` meets its contract. Assumes nothing.
+use Rattle.rules.specs.Kinds.{constant_kind}
 use Prim.Native.Nat.{◌%◌}
 use mathlib.Core.Path.{◌∙◌, ap}
 use lib.ListN.{set}

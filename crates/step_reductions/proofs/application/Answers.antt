@@ -50,9 +50,8 @@ returns c =
     let source_is : source ≡ application_body at second = cc c.saturating_sub.ensures in
     let ns' = nodes_in c.copy_nodes.new.nodes in
     let to = c.saturating_sub-to.result in
-    let fits = c.size-1.given in
     λ enough.
     steps_answered at_application ns ns' rs r c.taken.result (taken_to r at to) c.taken.ensures
     (application_taken ns ns₁ rs r at second source c.applied_to-values.result c.most_between-most.result at_is second_is source_is
     c.applied_to-values.ensures c.most_between-most.ensures (length (words a.waiting.now)) enough c.write_reduct-size.result
-    c.write_reduct-size.ensures ns' fits.0.0 to fits.1 c.saturating_sub-to.ensures (nodes_copied _ _ _ _ _ c.copy_nodes.ensures))
+    c.write_reduct-size.ensures ns' c.in-Nodes.count to c.in-Nodes.is c.saturating_sub-to.ensures (nodes_copied _ _ _ _ _ c.copy_nodes.ensures))

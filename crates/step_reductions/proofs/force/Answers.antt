@@ -12,22 +12,16 @@ use Rattle.step_reductions.proofs.force.Goals as goal
 
 pub returns : goal.returns
 returns c =
-    let copied = c in
-    let placed = c in
-    let counted = placed.before in
-    let found = counted.before in
-    let top = found.before in
-    let start = top.before.before.before.before in
-    let a = start.args in
+    let a = c.args in
     let ns = nodes_in a.nodes.now in
     let rs = quadwords_in a.stack.now in
     let r = a.numbers in
     let ns' = nodes_in c.copy_nodes.new.nodes in
-    let at = found.stack-node.result in
-    let to = placed.saturating-sub3.result in
+    let at = c.stack_node-at.result in
+    let to = c.saturating_sub-to.result in
     steps_answered at_force ns ns' rs r c.taken.result (taken_to r at to) c.taken.ensures
-    (force_steps ns ns' rs r at counted.saturating-sub2.result to
-    (found.stack-node.ensures.0 ∙ ap (λ i. stack_node (quadword_at rs i)) top.saturating-sub.ensures)
-    counted.saturating-sub2.ensures
-    placed.saturating-sub3.ensures
+    (force_steps ns ns' rs r at c.saturating_sub-count.result to
+    (c.stack_node-at.ensures.value ∙ ap (λ i. stack_node (quadword_at rs i)) c.saturating_sub.ensures)
+    c.saturating_sub-count.ensures
+    c.saturating_sub-to.ensures
     (nodes_copied _ _ _ _ _ c.copy_nodes.ensures))

@@ -43,10 +43,9 @@ returns c =
     let at_is = c.stack_node-at.ensures.value ∙ ap (λ i. stack_node (quadword_at rs i)) c.saturating_sub.ensures in
     let ns' = nodes_in c.copy_nodes.new.nodes in
     let to = c.saturating_sub-to.result in
-    let fits = c.size-1.given in
     λ enough.
     steps_answered at_let ns ns' rs r c.taken.result (taken_to r at to) c.taken.ensures
     (let_taken ns ns₁ rs r at c.subtree_end-middle.result c.subtree_end-next.result k source c.halves-values.result
     c.most_between-most.result at_is c.subtree_end-middle.ensures c.subtree_end-next.ensures c.saturating_sub-length.ensures refl c.halves-values.ensures
     c.most_between-most.ensures (length (words a.waiting.now)) enough c.write_reduct-size.result c.write_reduct-size.ensures ns'
-    fits.0.0 to fits.1 c.saturating_sub-to.ensures (nodes_copied _ _ _ _ _ c.copy_nodes.ensures))
+    c.in-Nodes.count to c.in-Nodes.is c.saturating_sub-to.ensures (nodes_copied _ _ _ _ _ c.copy_nodes.ensures))

@@ -1,6 +1,6 @@
 -- `text::put_bytes` meets its contract. Assumes nothing.
 use borrow.Author.Rules.{rules}
-use Prim.Native.Nat.{◌+◌, ◌-◌, ◌≤◌, ◌<◌}
+use Prim.Native.Nat.{◌+◌, ◌<◌}
 use native.Mathlib.Omega.{arith}
 use mathlib.Core.Path.{◌≡◌, refl, ◌∙◌, subst}
 use lib.ListN.{length, take, get_or, set, length-set}
@@ -10,7 +10,7 @@ use Rattle.text.proofs.Laws.Words.{puts_next, puts_all}
 use Rattle.text.proofs.put_bytes.Goals as goal
 
 pub returns-then-text-at : goal.returns-then-text-at
-returns-then-text-at c = c.put_some_lem.ensures
+returns-then-text-at c = c.put_some.ensures
 
 pub overflow_sub-text : goal.overflow_sub-text
 overflow_sub-text c = omega (arith, c.if-text-at.false)

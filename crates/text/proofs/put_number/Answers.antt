@@ -1,5 +1,4 @@
 -- `text::put_number` meets its contract. Assumes nothing.
-use borrow.Author.Rules.{rules}
 use Rattle.text.specs.Text.{decimal}
 use Rattle.text.proofs.Laws.Words.{puts_word}
 use Rattle.text.proofs.put_number.Goals as goal

@@ -1,11 +1,7 @@
 -- `text::put_some` meets its contract. The invariant: the bytes passed are written; the measure is what is left of
 -- the bytes. Assumes nothing.
-use Prim.Native.Nat.{◌-◌, ◌≤◌}
 use native.Mathlib.Omega.{arith}
-use mathlib.Core.Path.{◌≡◌, refl, ◌∙◌}
-use lib.ListN.{length, take}
-use borrow.Author.Rules.{rules}
-use Rattle.text.specs.Writing.{Puts}
+use mathlib.Core.Path.{refl, ◌∙◌}
 use Rattle.text.proofs.Laws.Writing.{puts_none}
 use Rattle.text.proofs.Laws.Words.{puts_next, puts_all}
 use Rattle.text.proofs.put_some.Goals as goal
@@ -17,7 +13,7 @@ pub bounds-bytes-i : goal.bounds-bytes-i
 bounds-bytes-i c = c.loop-i-test.true
 
 pub overflow_add-i : goal.overflow_add-i
-overflow_add-i c = omega (arith, c.loop-i-test.true, c.well-formed)
+overflow_add-i c = omega (arith, c.loop-i-test.true, c.well_formed)
 
 pub loop-i-smaller : goal.loop-i-smaller
 loop-i-smaller c = omega (arith, c.loop-i-test.true)

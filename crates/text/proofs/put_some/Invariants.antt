@@ -1,11 +1,7 @@
 use Prim.Native.Nat.{◌-◌, ◌≤◌}
-use native.Mathlib.Omega.{arith}
-use mathlib.Core.Path.{◌≡◌, refl, ◌∙◌}
+use mathlib.Core.Path.{◌≡◌}
 use lib.ListN.{length, take}
-use borrow.Author.Rules.{rules}
 use Rattle.text.specs.Writing.{Puts}
-use Rattle.text.proofs.Laws.Writing.{puts_none}
-use Rattle.text.proofs.Laws.Words.{puts_next, puts_all}
 use Rattle.text.proofs.put_some.Given as goal
 
 abbrev pub invariant-loop-i : goal.invariant-loop-i

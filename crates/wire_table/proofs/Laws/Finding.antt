@@ -141,6 +141,7 @@ wire_not_wrong p c (gone_already h) = omega arith
 
 pub rightly_not_wrongly : {types : List Wire} {gone ws : List ℕ} {αs : List Wire}
     → TakesRightly types gone ws αs → TakesWrongly types gone ws αs → ⊥
+rightly_not_wrongly {types = types} (no_slot {gone = gone}) t = elim t [ ]
 rightly_not_wrongly (next_slot p c r) (this_slot h) = wire_not_wrong p c h
 rightly_not_wrongly (next_slot p c r) (later_slot t) = rightly_not_wrongly r t
 

@@ -1,11 +1,9 @@
 -- `wire_table::lowest_there` meets its contract. The loop's invariant: the first wire that is there is the first from w on.
-use Prim.Native.Nat.{◌-◌, ◌≤◌}
 use native.Mathlib.Omega.{arith}
 use mathlib.Core.Path.{◌≡◌, sym, ◌∙◌, ap}
 use lib.Dec.{ltb}
 use lib.ListN.{get_or}
 use borrow.Author.Tests.{lt-ltb, le-ltb}
-use Rattle.wire_table.specs.Wires.{first_where}
 use Rattle.wire_table.specs.Table.{one_more_than}
 use Rattle.wire_table.proofs.Laws.Scans.{found_start, found_here, found_later, found_nowhere}
 use borrow.Author.Rules.{rules}

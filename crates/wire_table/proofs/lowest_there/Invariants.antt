@@ -1,13 +1,8 @@
 use Prim.Native.Nat.{◌-◌, ◌≤◌}
-use native.Mathlib.Omega.{arith}
-use mathlib.Core.Path.{◌≡◌, sym, ◌∙◌, ap}
+use mathlib.Core.Path.{◌≡◌}
 use lib.Dec.{ltb}
 use lib.ListN.{get_or}
-use borrow.Author.Tests.{lt-ltb, le-ltb}
 use Rattle.wire_table.specs.Wires.{first_where}
-use Rattle.wire_table.specs.Table.{one_more_than}
-use Rattle.wire_table.proofs.Laws.Scans.{found_start, found_here, found_later, found_nowhere}
-use borrow.Author.Rules.{rules}
 use Rattle.wire_table.proofs.lowest_there.Given as goal
 
 abbrev pub invariant-loop-w : goal.invariant-loop-w

@@ -1,7 +1,6 @@
 -- `wire_table::make_wire` meets its contract.
 use mathlib.Core.Path.{sym}
 use lib.Seq.{set_out}
-use borrow.Author.Rules.{rules}
 use Rattle.wire_table.proofs.make_wire.Goals as goal
 
 pub returns-else-at-table : goal.returns-else-at-table

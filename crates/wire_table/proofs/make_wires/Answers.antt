@@ -1,12 +1,11 @@
 -- `wire_table::make_wires` meets its contract. The loop's invariant: the table has the wires made so far, and the others are left.
 use native.Mathlib.Omega.{arith}
-use mathlib.Core.Path.{◌≡◌, refl, ◌∙◌}
-use lib.ListN.{length}
+use mathlib.Core.Path.{refl, ◌∙◌}
 use Rattle.rules.specs.Gates.{gate_outputs, wires_out}
 use Rattle.rules.specs.Slots.{gate_slots_lem}
 use Rattle.rules.specs.GateCodes.{made_code}
 use Rattle.rules.proofs.Laws.KnownGates.{few_wires}
-use Rattle.wire_table.proofs.Laws.Table.{LeftToMake, none_made, made_more, all_made}
+use Rattle.wire_table.proofs.Laws.Table.{none_made, made_more, all_made}
 use borrow.Author.Rules.{rules}
 use Rattle.wire_table.proofs.make_wires.Goals as goal
 

@@ -1,12 +1,7 @@
-use native.Mathlib.Omega.{arith}
-use mathlib.Core.Path.{◌≡◌, refl, ◌∙◌}
+use mathlib.Core.Path.{◌≡◌}
 use lib.ListN.{length}
-use Rattle.rules.specs.Gates.{gate_outputs, wires_out}
-use Rattle.rules.specs.Slots.{gate_slots_lem}
-use Rattle.rules.specs.GateCodes.{made_code}
-use Rattle.rules.proofs.Laws.KnownGates.{few_wires}
-use Rattle.wire_table.proofs.Laws.Table.{LeftToMake, none_made, made_more, all_made}
-use borrow.Author.Rules.{rules}
+use Rattle.rules.specs.Gates.{gate_outputs}
+use Rattle.wire_table.proofs.Laws.Table.{LeftToMake}
 use Rattle.wire_table.proofs.make_wires.Given as goal
 
 abbrev pub invariant-loop-codes : goal.invariant-loop-codes

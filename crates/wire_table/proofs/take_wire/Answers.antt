@@ -5,7 +5,6 @@ use lib.Dec.{eqb}
 use lib.ListN.{get_or, get_or-eq_default}
 use borrow.Author.Tests.{eq-eqb, ne_eqb}
 use Rattle.wire_table.proofs.Laws.Table.{past_same, eqb_swap}
-use borrow.Author.Rules.{rules}
 use Rattle.wire_table.proofs.take_wire.Goals as goal
 
 pub returns-then-table-w : goal.returns-then-table-w

@@ -1,14 +1,14 @@
 -- `wire_table::take_wires` meets its contract. The loop's invariant: the wires so far were there and are gone, and the others are left.
 use native.Mathlib.Omega.{arith}
-use mathlib.Core.Path.{◌≡◌, refl, sym, ◌∙◌, ap}
+use mathlib.Core.Path.{refl, sym, ◌∙◌, ap}
 use mathlib.Core.Bool.{cond}
-use lib.ListN.{length, set}
+use lib.ListN.{set}
 use borrow.Author.Tests.{not-true, not-false}
 use Rattle.rules.specs.Gates.{gate_type, input_wires, wires_in}
 use Rattle.rules.specs.Slots.{gate_slots_lem}
 use Rattle.rules.specs.GateCodes.{taken_code}
 use Rattle.rules.proofs.Laws.KnownGates.{few_wires}
-use Rattle.wire_table.proofs.Laws.Table.{LeftToTake, all_left, taken_more, taken_wrong, taken_all}
+use Rattle.wire_table.proofs.Laws.Table.{all_left, taken_more, taken_wrong, taken_all}
 use borrow.Author.Rules.{rules}
 use Rattle.wire_table.proofs.take_wires.Goals as goal
 

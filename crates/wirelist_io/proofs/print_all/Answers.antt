@@ -11,4 +11,4 @@ pub returns : goal.returns
 returns c =
     let w = c.print_text.ensures in
     let room : least_text ≤ length c.args.text.now = omega (arith, c.print_text-arg-1.given) in
-    record { text_after = all_written w.0 (omega arith); upper_bound = omega (arith, w.0.place, c.print_text.auto.text) }
+    record { text_after = all_written w.written (omega arith); upper_bound = omega (arith, w.written.place, c.print_text.auto.text) }

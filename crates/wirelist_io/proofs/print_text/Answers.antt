@@ -11,4 +11,4 @@ slice_bounds-write_answer-end c = omega (arith, c.run-answer.auto.out)
 pub returns : goal.returns
 returns c =
     let e = c.run-answer.ensures in
-    answered_text c.args.file.now _ _ _ e.0 e.1.0 c.write_answer.ensures refl
+    answered_text c.args.file.now _ _ _ e.answer e.bytes.0 c.write_answer.ensures refl

@@ -8,4 +8,4 @@ returns-in-Finished c = answer_finished c.args.out.now c.in-Finished.is record {
 
 pub returns-in-Refused : goal.returns-in-Refused
 returns-in-Refused c =
-    answer_refused c.args.out.now c.in-Refused.is c.number_of_lem.ensures c.place_of-place.ensures c.write_refusal.ensures.written record { written = c.write_refusal.ensures.place_len_bound.0; refusal_fits = c.write_refusal.ensures.place_len_bound.1 }
+    answer_refused c.args.out.now c.in-Refused.is c.number_of.ensures c.place_of-place.ensures c.write_refusal.ensures.written record { written = c.write_refusal.ensures.place_len_bound.0; refusal_fits = c.write_refusal.ensures.place_len_bound.1 }

@@ -65,7 +65,7 @@ wire_solid Qubit = solid (81 ∷ 117 ∷ 98 ∷ 105 ∷ []) 116 λ e. omega arit
 -- Words, each behind a space, behind solid bytes: the numbers of a list, and a last word.
 numbers_solid : {first : List ℕ} (ns : List ℕ) → Solid first → Solid (first ++ spaced (map decimal ns))
 numbers_solid {first} [] s = subst Solid (sym (append-nil first)) s
-numbers_solid {first} (n ∷ ns) s = behind first (behind (32 ∷ []) (numbers_solid ns (decimal_solid n)))
+numbers_solid {first} (n ∷ ns) s = behind first (behind (32 ∷ []) (numbers_solid {first = decimal n} ns (decimal_solid n)))
 
 -- So a line ends well whose words end in a last one that is solid, or in numbers.
 line_solid : (first : List ℕ) (ws : List (List ℕ)) → Solid (first ++ spaced ws) → EndsInSpace (line first ws) → ⊥

@@ -2,7 +2,6 @@
 use mathlib.Core.Path.{sym, ◌∙◌}
 use Rattle.words.specs.Words.{words}
 use Rattle.check_program.proofs.Laws.Ends.{between_other, between_no_pair, between_pair}
-use borrow.Author.Rules.{rules}
 use Rattle.check_program.proofs.bindings.between.Goals as goal
 
 pub returns-then-kind_at-ne-LET : goal.returns-then-kind_at-ne-LET
@@ -22,11 +21,10 @@ returns-in_default c =
 pub returns : goal.returns
 returns c =
     let s = c.args in
-    let found = c.parts-1.given in
     between_pair s.file.now (words s.work.now) s.e s.binders s.lifts s.cell c.pair_parts-parts.result
     (sym c.kind_at.ensures.value ∙ c.if-kind_at-ne-LET.false)
     c.pair_parts-parts.ensures
-    found.0.0 found.0.1.0 (words c.push.new.work) (words c.push-2.new.work)
-    found.1
+    c.in-Both.first c.in-Both.second (words c.push.new.work) (words c.push-2.new.work)
+    c.in-Both.is
     c.push.ensures
     c.push-2.ensures

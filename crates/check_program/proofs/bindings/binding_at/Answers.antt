@@ -1,7 +1,6 @@
 -- `check_program::bindings::binding_at` meets its contract: by the kind. Assumes nothing.
 use mathlib.Core.Path.{sym, ◌∙◌}
 use Rattle.check_program.proofs.Laws.Tests.{binding_of_a_label, binding_of_none, binding_of_a_variable}
-use borrow.Author.Rules.{rules}
 use Rattle.check_program.proofs.bindings.binding_at.Goals as goal
 
 pub returns-then-kind_at-eq-LABEL : goal.returns-then-kind_at-eq-LABEL

@@ -1,7 +1,6 @@
 -- `check_program::bindings::crossing_at` meets its contract. Assumes nothing.
 use mathlib.Core.Path.{sym, ◌∙◌}
 use Rattle.check_program.proofs.Laws.Tests.{no_lift_between, copied_use, crossing_use}
-use borrow.Author.Rules.{rules}
 use Rattle.check_program.proofs.bindings.crossing_at.Goals as goal
 
 pub returns-then-lifts-bound : goal.returns-then-lifts-bound

@@ -4,7 +4,6 @@ use mathlib.Core.Path.{sym, ◌∙◌, subst}
 use Rattle.words.specs.Words.{words}
 use Rattle.check_program.specs.Layout.{binding_uses}
 use Rattle.check_program.proofs.Laws.Tests.{used_once_lem, copied_variable, wrong_uses}
-use borrow.Author.Rules.{rules}
 use Rattle.check_program.proofs.bindings.misuse_at.Goals as goal
 
 pub returns-then-cell_second-eq1 : goal.returns-then-cell_second-eq1

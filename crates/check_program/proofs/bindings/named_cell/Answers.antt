@@ -1,7 +1,6 @@
 -- `check_program::bindings::named_cell` meets its contract. Assumes nothing.
 use native.Mathlib.Omega.{arith}
 use Rattle.check_types.proofs.Laws.GateCells.{gate_cells_lem}
-use borrow.Author.Rules.{rules}
 use Rattle.check_program.proofs.bindings.named_cell.Goals as goal
 
 pub returns-then-count-p : goal.returns-then-count-p

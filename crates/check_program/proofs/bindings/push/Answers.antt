@@ -1,6 +1,5 @@
 -- `check_program::bindings::push` meets its contract: the binding's quadword is put. Assumes nothing.
 use Rattle.check_types.proofs.Laws.NewCell.{cell_put}
-use borrow.Author.Rules.{rules}
 use Rattle.check_program.proofs.bindings.push.Goals as goal
 
 pub returns : goal.returns

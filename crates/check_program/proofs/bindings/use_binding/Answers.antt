@@ -2,7 +2,6 @@
 use Rattle.words.specs.Words.{words}
 use Rattle.words.proofs.Laws.Words.{word_put}
 use Rattle.check_program.proofs.Laws.Ends.{binding_used}
-use borrow.Author.Rules.{rules}
 use Rattle.check_program.proofs.bindings.use_binding.Goals as goal
 
 pub returns : goal.returns

@@ -6,7 +6,6 @@ use mathlib.Core.List.{List}
 use lib.ListN.{take, drop}
 use Rattle.words.specs.Words.{words}
 use Rattle.check_program.proofs.Laws.ProgramTypes.{file_possible, file_said}
-use borrow.Author.Rules.{rules}
 use Rattle.check_program.proofs.file.check_file.Goals as goal
 
 pub infer-found-requires : goal.infer-found-requires
@@ -20,9 +19,9 @@ infer-found-requires c =
     c.load_gates-gates.result c.load_types-cells.result
     c.requires.0
     c.requires.1
-    c.load_gates-gates.ensures.work_after.1
+    c.load_gates-gates.ensures.work_len_unchanged
     c.load_gates-gates.ensures.value
-    c.load_gates-gates.ensures.work_after.0
+    c.load_gates-gates.ensures.work_after
     codes
     (ap (λ n. take n (drop start f)) same)
     c.load_types-cells.ensures.types_loaded
@@ -41,9 +40,9 @@ returns c =
     c.load_gates-gates.result c.load_types-cells.result
     c.requires.0
     c.requires.1
-    c.load_gates-gates.ensures.work_after.1
+    c.load_gates-gates.ensures.work_len_unchanged
     c.load_gates-gates.ensures.value
-    c.load_gates-gates.ensures.work_after.0
+    c.load_gates-gates.ensures.work_after
     codes
     (ap (λ n. take n (drop start f)) same)
     c.load_types-cells.ensures.types_loaded

@@ -1,14 +1,12 @@
 -- `check_program::file::decide` meets its contract: by what is found. Assumes nothing.
 use Rattle.words.specs.Words.{words}
 use Rattle.check_program.proofs.Laws.Deciding.{decided_typed, decided_fault}
-use borrow.Author.Rules.{rules}
 use Rattle.check_program.proofs.file.decide.Goals as goal
 
 pub returns-in-Typed : goal.returns-in-Typed
 returns-in-Typed c =
     let s = c.args in
-    let p = c.found-1.given.0 in
-    decided_typed (words s.work.now) s.labels s.found p.0 p.1.0 p.1.1.0 p.1.1.1.0 p.1.1.1.1.0
+    decided_typed (words s.work.now) s.labels s.found c.in-Typed.cell c.in-Typed.next c.in-Typed.cells c.in-Typed.unused c.in-Typed.crossing
     c.wrong_label-wrong.result c.sooner_of.result c.settle.result
     c.in-Typed.is
     c.wrong_label-wrong.ensures

@@ -1,10 +1,8 @@
 -- `check_program::file::load_labels` meets its contract. The invariant: the bindings passed are written. The measure: what is left of them.
 -- Assumes nothing.
-use Prim.Native.Nat.{◌+◌, ◌-◌, ◌≤◌}
+use Prim.Native.Nat.{◌+◌}
 use native.Mathlib.Omega.{arith}
 use mathlib.Core.Path.{◌≡◌, refl, ◌∙◌, ap}
-use lib.ListN.{length}
-use borrow.Author.Rules.{rules}
 use Rattle.words.specs.Words.{words}
 use Rattle.check_types.specs.NewCell.{with_cell}
 use Rattle.check_types.proofs.Laws.NewCell.{cell_put}

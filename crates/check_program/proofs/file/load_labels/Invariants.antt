@@ -1,15 +1,9 @@
-use Prim.Native.Nat.{◌+◌, ◌-◌, ◌≤◌}
-use native.Mathlib.Omega.{arith}
-use mathlib.Core.Path.{◌≡◌, refl, ◌∙◌, ap}
+use Prim.Native.Nat.{◌-◌, ◌≤◌}
+use mathlib.Core.Path.{◌≡◌}
 use lib.ListN.{length}
-use borrow.Author.Rules.{rules}
 use Rattle.words.specs.Words.{words}
-use Rattle.check_types.specs.NewCell.{with_cell}
-use Rattle.check_types.proofs.Laws.NewCell.{cell_put}
 use Rattle.check_program.specs.Loading.{bindings_loaded}
-use Rattle.check_program.proofs.Laws.Loading.{no_binding, next_binding}
 use Rattle.rules.specs.Sizes.{most_labels}
-use Rattle.check_program.specs.Layout.{most_cells}
 use Rattle.check_program.proofs.file.load_labels.Given as goal
 
 abbrev pub invariant-loop-i : goal.invariant-loop-i

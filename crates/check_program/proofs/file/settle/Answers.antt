@@ -1,6 +1,5 @@
 -- `check_program::file::settle` meets its contract. Assumes nothing.
 use Rattle.check_program.proofs.Laws.Deciding.{settled_unused, settled_crossing, settled_typed}
-use borrow.Author.Rules.{rules}
 use Rattle.check_program.proofs.file.settle.Goals as goal
 
 pub returns-then-unused-ne0 : goal.returns-then-unused-ne0

@@ -1,11 +1,8 @@
 -- `check_program::file::wrong_label` meets its contract. The invariant: what is looked for from the first label on is what is looked for from
 -- this one on. The measure: the labels left. Assumes nothing.
-use Prim.Native.Nat.{◌-◌, ◌≤◌}
 use native.Mathlib.Omega.{arith}
-use mathlib.Core.Path.{◌≡◌, sym, ◌∙◌}
-use borrow.Author.Rules.{rules}
+use mathlib.Core.Path.{sym, ◌∙◌}
 use Rattle.words.specs.Words.{words}
-use Rattle.check_program.specs.Deciding.{wrong_use}
 use Rattle.check_program.proofs.Laws.Deciding.{wrong_here, right_here, none_wrong, wrong_start}
 use Rattle.check_program.proofs.file.wrong_label.Goals as goal
 

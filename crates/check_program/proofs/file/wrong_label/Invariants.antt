@@ -1,10 +1,7 @@
 use Prim.Native.Nat.{◌-◌, ◌≤◌}
-use native.Mathlib.Omega.{arith}
-use mathlib.Core.Path.{◌≡◌, sym, ◌∙◌}
-use borrow.Author.Rules.{rules}
+use mathlib.Core.Path.{◌≡◌}
 use Rattle.words.specs.Words.{words}
 use Rattle.check_program.specs.Deciding.{wrong_use}
-use Rattle.check_program.proofs.Laws.Deciding.{wrong_here, right_here, none_wrong, wrong_start}
 use Rattle.check_program.proofs.file.wrong_label.Given as goal
 
 abbrev pub invariant-loop-i : goal.invariant-loop-i

@@ -10,7 +10,6 @@ use Rattle.check_program.specs.Inferring.{Meets, SaysUsed}
 use Rattle.check_program.proofs.Laws.Ends.{small}
 use Rattle.check_program.proofs.Laws.Leaves.{gate_meets, unit_meets, binding_meets, binding_fits}
 use Prim.Native.Nat.{◌+◌}
-use borrow.Author.Rules.{rules}
 use Rattle.check_program.proofs.infer.leaf.Goals as goal
 
 pub overflow_add-result : goal.overflow_add-result

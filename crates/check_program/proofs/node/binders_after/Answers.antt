@@ -1,6 +1,5 @@
 -- `check_program::node::binders_after` meets its contract: by the kind. Assumes nothing.
 use Rattle.check_program.proofs.Laws.Tests.{binders_behind_lem, no_binders_behind}
-use borrow.Author.Rules.{rules}
 use Rattle.check_program.proofs.node.binders_after.Goals as goal
 
 pub returns-then-kind-eq-LET : goal.returns-then-kind-eq-LET

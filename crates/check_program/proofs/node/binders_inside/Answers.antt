@@ -1,6 +1,5 @@
 -- `check_program::node::binders_inside` meets its contract: by the kind. Assumes nothing.
 use Rattle.check_program.proofs.Laws.Tests.{binder_inside, no_binder_inside}
-use borrow.Author.Rules.{rules}
 use Rattle.check_program.proofs.node.binders_inside.Goals as goal
 
 pub returns-then-kind-eq-ABSTRACTION : goal.returns-then-kind-eq-ABSTRACTION

@@ -1,7 +1,6 @@
 -- `check_program::node::finish_one` meets its contract: by the answer of the part. Assumes nothing.
 use Rattle.words.specs.Words.{words}
 use Rattle.check_program.proofs.Laws.Ends.{ends_one, part_faulty}
-use borrow.Author.Rules.{rules}
 use Rattle.check_program.proofs.node.finish_one.Goals as goal
 
 pub returns-in_default : goal.returns-in_default
@@ -13,9 +12,8 @@ returns-in_default c =
 pub returns : goal.returns
 returns c =
     let s = c.args in
-    let p = c.part-1.given.0 in
     ends_one s.file.now (words s.work.now) (words c.one_rule-ruling.new.work) s.e s.binders s.part c.conclude.result
-    c.one_rule-ruling.result p.0 p.1.0 p.1.1.0 p.1.1.1.0 p.1.1.1.1.0 c.misuse_at_abstraction-own.result c.sooner_of.result
+    c.one_rule-ruling.result c.in-Typed.cell c.in-Typed.next c.in-Typed.cells c.in-Typed.unused c.in-Typed.crossing c.misuse_at_abstraction-own.result c.sooner_of.result
     c.in-Typed.is
     c.misuse_at_abstraction-own.ensures
     c.one_rule-ruling.ensures

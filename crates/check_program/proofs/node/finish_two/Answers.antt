@@ -1,7 +1,6 @@
 -- `check_program::node::finish_two` meets its contract: by the answers of the parts. Assumes nothing.
 use Rattle.words.specs.Words.{words}
 use Rattle.check_program.proofs.Laws.Ends.{ends_two, second_faults, first_faulty}
-use borrow.Author.Rules.{rules}
 use Rattle.check_program.proofs.node.finish_two.Goals as goal
 
 pub returns-in_default : goal.returns-in_default
@@ -13,21 +12,18 @@ returns-in_default c =
 pub returns-in_default-second : goal.returns-in_default-second
 returns-in_default-second c =
     let s = c.args in
-    let p = c.first-1.given.0 in
     second_faults s.file.now (words s.work.now) (words s.work.now) s.e s.binders s.first s.second
-    p.0 p.1.0 p.1.1.0 p.1.1.1.0 p.1.1.1.1.0 c.in_default-second.field-0
+    c.in-Typed.left c.in-Typed.next c.in-Typed.cells c.in-Typed.left_unused c.in-Typed.left_crossing c.in_default-second.field-0
     c.in-Typed.is
     c.in_default-second.is
 
 pub returns : goal.returns
 returns c =
     let s = c.args in
-    let p = c.first-1.given.0 in
-    let q = c.second-1.given.0 in
     ends_two s.file.now (words s.work.now) (words c.two_rule-ruling.new.work) s.e s.binders s.first s.second
     c.conclude.result c.two_rule-ruling.result
-    p.0 p.1.0 p.1.1.0 p.1.1.1.0 p.1.1.1.1.0
-    q.0 q.1.0 q.1.1.0 q.1.1.1.0 q.1.1.1.1.0
+    c.in-Typed.left c.in-Typed.next c.in-Typed.cells c.in-Typed.left_unused c.in-Typed.left_crossing
+    c.in-Typed-second.cell c.in-Typed-second.next c.in-Typed-second.cells c.in-Typed-second.unused c.in-Typed-second.crossing
     c.misuse_at_let-own.result c.sooner_of.result c.sooner_of-unused.result c.sooner_of-crossing.result
     c.in-Typed.is
     c.in-Typed-second.is

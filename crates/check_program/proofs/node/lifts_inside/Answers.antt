@@ -1,6 +1,5 @@
 -- `check_program::node::lifts_inside` meets its contract: by the kind. Assumes nothing.
 use Rattle.check_program.proofs.Laws.Tests.{lift_inside, no_lift_inside}
-use borrow.Author.Rules.{rules}
 use Rattle.check_program.proofs.node.lifts_inside.Goals as goal
 
 pub returns-then-kind-eq-LIFT : goal.returns-then-kind-eq-LIFT

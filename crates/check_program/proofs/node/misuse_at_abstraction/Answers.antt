@@ -2,7 +2,6 @@
 use mathlib.Core.Path.{sym, ◌∙◌}
 use Rattle.words.specs.Words.{words}
 use Rattle.check_program.proofs.Laws.Ends.{own_abstraction, own_none}
-use borrow.Author.Rules.{rules}
 use Rattle.check_program.proofs.node.misuse_at_abstraction.Goals as goal
 
 pub returns-then-kind_at-eq-ABSTRACTION : goal.returns-then-kind_at-eq-ABSTRACTION

@@ -2,7 +2,6 @@
 use mathlib.Core.Path.{sym, ◌∙◌}
 use Rattle.words.specs.Words.{words}
 use Rattle.check_program.proofs.Laws.Ends.{own_let, own_none_two}
-use borrow.Author.Rules.{rules}
 use Rattle.check_program.proofs.node.misuse_at_let.Goals as goal
 
 pub returns-then-kind_at-eq-LET : goal.returns-then-kind_at-eq-LET

@@ -2,7 +2,6 @@
 use mathlib.Core.Path.{sym, ◌∙◌}
 use Rattle.words.specs.Words.{words}
 use Rattle.check_program.proofs.Laws.Ends.{rule_lift, rule_force, rule_abstraction, rule_box}
-use borrow.Author.Rules.{rules}
 use Rattle.check_program.proofs.node.one_rule.Goals as goal
 
 pub returns-then-kind-eq-LIFT : goal.returns-then-kind-eq-LIFT

@@ -2,7 +2,6 @@
 use mathlib.Core.Path.{sym, ◌∙◌}
 use Rattle.words.specs.Words.{words}
 use Rattle.check_program.proofs.Laws.Ends.{rule_application, rule_pair, rule_apply, rule_let}
-use borrow.Author.Rules.{rules}
 use Rattle.check_program.proofs.node.two_rule.Goals as goal
 
 pub returns-then-kind-eq-APPLICATION : goal.returns-then-kind-eq-APPLICATION

@@ -1,10 +1,8 @@
 -- `listing_check::entries::any_wire` meets its contract. The loop's invariant: a wire is in a slot from k on exactly if it is in one
 -- from this slot on.
-use Prim.Native.Nat.{◌-◌, ◌≤◌}
 use native.Mathlib.Omega.{arith}
-use mathlib.Core.Path.{◌≡◌, refl, sym, ◌∙◌}
+use mathlib.Core.Path.{refl, sym, ◌∙◌}
 use Rattle.listing.specs.Listing.{entry_slots}
-use Rattle.listing_check.specs.Answers.{any_wire}
 use Rattle.listing_check.proofs.Laws.Entries.{wire_here, wire_later, wire_nowhere}
 use borrow.Author.Rules.{rules}
 use Rattle.listing_check.proofs.entries.any_wire.Goals as goal

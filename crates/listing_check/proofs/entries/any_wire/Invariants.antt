@@ -1,10 +1,7 @@
 use Prim.Native.Nat.{◌-◌, ◌≤◌}
-use native.Mathlib.Omega.{arith}
-use mathlib.Core.Path.{◌≡◌, refl, sym, ◌∙◌}
+use mathlib.Core.Path.{◌≡◌}
 use Rattle.listing.specs.Listing.{entry_slots}
 use Rattle.listing_check.specs.Answers.{any_wire}
-use Rattle.listing_check.proofs.Laws.Entries.{wire_here, wire_later, wire_nowhere}
-use borrow.Author.Rules.{rules}
 use Rattle.listing_check.proofs.entries.any_wire.Given as goal
 
 abbrev pub invariant-loop-slot : goal.invariant-loop-slot

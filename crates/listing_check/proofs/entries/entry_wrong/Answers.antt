@@ -10,7 +10,6 @@ use Rattle.listing.specs.Listing.{input_kind, entry_slots}
 use Rattle.listing.proofs.Laws.ReadBack.{wires_fit}
 use Rattle.listing_check.specs.Answers.{any_wire}
 use Rattle.listing_check.proofs.Laws.Entries.{known_input, no_input, known_gate, no_gate_there}
-use borrow.Author.Rules.{rules}
 use Rattle.listing_check.proofs.entries.entry_wrong.Goals as goal
 
 pub returns-then-is_input : goal.returns-then-is_input

@@ -1,6 +1,5 @@
 -- `listing_check::entries::sizes_wrong` meets its contract: it is the test itself, with the sizes that were read.
 use Rattle.listing_check.proofs.Laws.Entries.{sizes_tested}
-use borrow.Author.Rules.{rules}
 use Rattle.listing_check.proofs.entries.sizes_wrong.Goals as goal
 
 pub returns : goal.returns

@@ -1,9 +1,7 @@
 -- `listing_check::entries::wrong_entry` meets its contract. The loop's invariant: the first wrong entry is the first from entry i on.
-use Prim.Native.Nat.{◌-◌, ◌≤◌}
 use native.Mathlib.Omega.{arith}
-use mathlib.Core.Path.{◌≡◌, sym, ◌∙◌, ap}
-use Rattle.listing.specs.Reading.{entry_count, slots_from}
-use Rattle.wire_table.specs.Wires.{first_where}
+use mathlib.Core.Path.{sym, ◌∙◌, ap}
+use Rattle.listing.specs.Reading.{entry_count}
 use Rattle.wire_table.specs.Table.{one_more_than}
 use Rattle.wire_table.proofs.Laws.Scans.{found_start, found_here, found_later, found_nowhere}
 use Rattle.listing_check.specs.Answers.{entry_wrong}

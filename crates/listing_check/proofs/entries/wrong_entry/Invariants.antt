@@ -1,12 +1,8 @@
 use Prim.Native.Nat.{◌-◌, ◌≤◌}
-use native.Mathlib.Omega.{arith}
-use mathlib.Core.Path.{◌≡◌, sym, ◌∙◌, ap}
+use mathlib.Core.Path.{◌≡◌}
 use Rattle.listing.specs.Reading.{entry_count, slots_from}
 use Rattle.wire_table.specs.Wires.{first_where}
-use Rattle.wire_table.specs.Table.{one_more_than}
-use Rattle.wire_table.proofs.Laws.Scans.{found_start, found_here, found_later, found_nowhere}
 use Rattle.listing_check.specs.Answers.{entry_wrong}
-use borrow.Author.Rules.{rules}
 use Rattle.listing_check.proofs.entries.wrong_entry.Given as goal
 
 abbrev pub invariant-loop-i : goal.invariant-loop-i

@@ -1,5 +1,4 @@
 -- `listing_check::wires::check_wires` meets its contract: the gates, the outputs, and what is left, one after the other.
-use Prim.Native.Nat.{◌+◌, ◌-◌}
 use native.Mathlib.Omega.{arith}
 use mathlib.Core.Path.{◌≡◌, ◌∙◌}
 use mathlib.Core.List.{◌++◌}

@@ -1,9 +1,8 @@
 -- `listing_check::wires::make_inputs` meets its contract. The loop's invariant: the first inputs are made, the others are left.
-use Prim.Native.Nat.{◌-◌, ◌≤◌, ◌<◌}
+use Prim.Native.Nat.{◌-◌, ◌<◌}
 use native.Mathlib.Omega.{arith}
 use mathlib.Core.Path.{◌≡◌, refl, ◌∙◌, ap, subst}
 use mathlib.Core.List.{[]}
-use lib.ListN.{length}
 use mathlib.Core.Option.{some}
 use Rattle.listing.specs.Reading.{input_count, kind_at, input_type, inputs_from, inputs_of}
 use Rattle.wire_table.specs.Table.{wire_byte}
@@ -37,7 +36,7 @@ loop-i-preserved c =
     let byte : c.input_byte.result ≡ wire_byte (some (input_type (kind_at b s.i))) = c.input_byte.ensures ∙ ap (λ k. wire_byte (some (input_type k))) c.kind_at.ensures.value in (
       omega (arith, c.loop-i-test.true),
       c.make_wire.auto.table ∙ s.invariant.1,
-      making_next c.make_wire.new.table c.input_byte.result byte (omega (arith, below, s.invariant.1, c.requires.1.room, c.requires.1.few-inputs)) c.make_wire.ensures
+      making_next c.make_wire.new.table c.input_byte.result byte (omega (arith, below, s.invariant.1, c.requires.1.room, c.requires.1.few_inputs)) c.make_wire.ensures
           (subst (λ l. Making [] [] (inputs_of b) s.table s.i l) (next_input b L s.i below) s.invariant.2),
     )
 

@@ -1,14 +1,9 @@
-use Prim.Native.Nat.{◌-◌, ◌≤◌, ◌<◌}
-use native.Mathlib.Omega.{arith}
-use mathlib.Core.Path.{◌≡◌, refl, ◌∙◌, ap, subst}
+use Prim.Native.Nat.{◌-◌, ◌≤◌}
+use mathlib.Core.Path.{◌≡◌}
 use mathlib.Core.List.{[]}
 use lib.ListN.{length}
-use mathlib.Core.Option.{some}
-use Rattle.listing.specs.Reading.{input_count, kind_at, input_type, inputs_from, inputs_of}
-use Rattle.wire_table.specs.Table.{wire_byte}
-use Rattle.wire_table.proofs.Laws.Table.{Making, making_start, making_next, making_end}
-use Rattle.listing_check.proofs.Laws.Wires.{next_input}
-use borrow.Author.Rules.{rules}
+use Rattle.listing.specs.Reading.{input_count, inputs_from, inputs_of}
+use Rattle.wire_table.proofs.Laws.Table.{Making}
 use Rattle.listing_check.proofs.wires.make_inputs.Given as goal
 
 abbrev pub invariant-loop-i : goal.invariant-loop-i

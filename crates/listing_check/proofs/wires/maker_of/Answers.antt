@@ -1,5 +1,5 @@
 -- `listing_check::wires::maker_of` meets its contract. The loop's invariant: the inputs and the first gates did not make the wire.
-use Prim.Native.Nat.{◌+◌, ◌-◌, ◌*◌, ◌≤◌}
+use Prim.Native.Nat.{◌+◌}
 use native.Mathlib.Omega.{arith}
 use mathlib.Core.Path.{◌≡◌, ◌∙◌, ap}
 use mathlib.Core.List.{[], ◌++◌}

@@ -1,16 +1,10 @@
 use Prim.Native.Nat.{◌+◌, ◌-◌, ◌*◌, ◌≤◌}
-use native.Mathlib.Omega.{arith}
-use mathlib.Core.Path.{◌≡◌, ◌∙◌, ap}
-use mathlib.Core.List.{[], ◌++◌}
-use lib.ListN.{length, length-append}
+use mathlib.Core.Path.{◌≡◌}
+use mathlib.Core.List.{◌++◌}
+use lib.ListN.{length}
 use Rattle.rules.specs.Slots.{gate_slots_lem}
-use Rattle.rules.specs.Gates.{wires_out}
 use Rattle.rules.specs.Circuits.{outputs}
-use Rattle.rules.proofs.Laws.KnownGates.{few_wires}
-use Rattle.listing.specs.Reading.{input_count, gate_count, kind_at, inputs_of, first_gates}
-use Rattle.listing.proofs.Laws.Decoding.{length_inputs}
-use Rattle.listing_check.proofs.Laws.Wires.{one_more_gate, input_made, gate_made}
-use borrow.Author.Rules.{rules}
+use Rattle.listing.specs.Reading.{inputs_of, first_gates}
 use Rattle.listing_check.proofs.wires.maker_of.Given as goal
 
 abbrev pub invariant-loop-i : goal.invariant-loop-i

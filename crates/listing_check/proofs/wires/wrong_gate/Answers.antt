@@ -1,6 +1,6 @@
 -- `listing_check::wires::wrong_gate` meets its contract. The loop's invariant: the first gates took their wires rightly, and the table
 -- has the wires that are there after them.
-use Prim.Native.Nat.{◌+◌, ◌-◌, ◌≤◌, ◌<◌}
+use Prim.Native.Nat.{◌+◌, ◌≤◌, ◌<◌}
 use native.Mathlib.Omega.{arith}
 use mathlib.Core.Path.{◌≡◌, refl, ◌∙◌, ap, subst}
 use mathlib.Core.List.{◌++◌}
@@ -9,9 +9,9 @@ use borrow.Author.Tests.{not-true, not-false}
 use Rattle.rules.specs.Gates.{gate_type, gate_outputs, input_wires, wires_in, wires_out}
 use Rattle.rules.specs.Circuits.{outputs, taken}
 use Rattle.words.specs.Numbers.{words_at}
-use Rattle.listing.specs.Reading.{input_count, gate_count, kind_at, slots_from, inputs_of, first_gates}
+use Rattle.listing.specs.Reading.{input_count, gate_count, kind_at, inputs_of, first_gates}
 use Rattle.wire_table.specs.Table.{TakesAll, MakesAll}
-use Rattle.listing_check.proofs.Laws.Wires.{GatesSoFar, GateTakes, gates_start, gate_right, gate_wrong, gates_end, few_made, one_more_gate}
+use Rattle.listing_check.proofs.Laws.Wires.{GateTakes, gates_start, gate_right, gate_wrong, gates_end, few_made, one_more_gate}
 use borrow.Author.Rules.{rules}
 use Rattle.listing_check.proofs.wires.wrong_gate.Goals as goal
 
@@ -49,7 +49,7 @@ returns-then-not-take_wires c =
     (omega (arith, c.loop-i-test.true, c.gate_count-count.ensures.value)) (not-true c.take_wires.result c.if-not-take_wires.true-raw)
 
 pub make_wires-made-requires : goal.make_wires-made-requires
-make_wires-made-requires c = omega (arith, c.loop-i.invariant.3.made-is, few_made c.args.listing.now c.loop-i.i, c.loop-i-test.true, c.input_count-inputs.ensures, c.gate_count-count.ensures)
+make_wires-made-requires c = omega (arith, c.loop-i.invariant.3.made_is, few_made c.args.listing.now c.loop-i.i, c.loop-i-test.true, c.input_count-inputs.ensures, c.gate_count-count.ensures)
 
 pub overflow_add-from : goal.overflow_add-from
 overflow_add-from c = search (rules, c.loop-i.invariant.2, c.loop-i-test.true, c.input_count-inputs.ensures, c.gate_count-count.ensures)
@@ -74,7 +74,7 @@ loop-i-preserved c =
     let more = one_more_gate b s.i in
     let same = ap wires_out kind in
     let room : s.made + wires_out c.kind_at-gate.result ≤ length c.take_wires.new.table
-    = omega (arith, few, more, same, s.invariant.3.made-is, c.take_wires.auto.table, s.invariant.1, p.room, p.few-inputs, p.few-gates, below) in (
+    = omega (arith, few, more, same, s.invariant.3.made_is, c.take_wires.auto.table, s.invariant.1, p.room, p.few_inputs, p.few_gates, below) in (
       omega (arith, c.loop-i-test.true),
       c.make_wires-made.auto.table ∙ c.take_wires.auto.table ∙ s.invariant.1,
       omega (arith, s.invariant.2),

@@ -1,18 +1,15 @@
 -- `listing_check::wires::wrong_output` meets its contract. The loop's invariant: the outputs so far were there and are gone, and the
 -- others are left.
-use Prim.Native.Nat.{ℕ, ◌+◌, ◌-◌, ◌*◌, ◌≤◌, ◌<◌}
+use Prim.Native.Nat.{◌+◌, ◌-◌, ◌*◌, ◌<◌}
 use native.Mathlib.Omega.{arith}
 use mathlib.Core.Path.{◌≡◌, refl, sym, ◌∙◌, ap, ap₂, subst}
 use mathlib.Core.Bool.{cond}
-use mathlib.Core.List.{List}
 use lib.Dec.{ltb}
-use lib.ListN.{length, get_or, set}
+use lib.ListN.{get_or, set}
 use borrow.Author.Tests.{not-true, not-false}
-use Rattle.rules.specs.Types.{Wire}
 use Rattle.words.specs.Numbers.{word_at, words_at}
 use Rattle.listing.specs.Reading.{output_count, outputs_from, outputs_of}
 use Rattle.listing.proofs.Laws.Decoding.{length_words}
-use Rattle.wire_table.specs.Table.{Holds}
 use Rattle.wire_table.proofs.Laws.Table.{next_word}
 use Rattle.listing_check.proofs.Laws.Wires.{Leaving, leaving_start, leaving_next, leaving_wrong, leaving_end}
 use borrow.Author.Rules.{rules}

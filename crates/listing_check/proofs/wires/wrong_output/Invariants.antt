@@ -1,19 +1,12 @@
-use Prim.Native.Nat.{ℕ, ◌+◌, ◌-◌, ◌*◌, ◌≤◌, ◌<◌}
-use native.Mathlib.Omega.{arith}
-use mathlib.Core.Path.{◌≡◌, refl, sym, ◌∙◌, ap, ap₂, subst}
-use mathlib.Core.Bool.{cond}
+use Prim.Native.Nat.{ℕ, ◌+◌, ◌-◌, ◌*◌, ◌≤◌}
+use mathlib.Core.Path.{◌≡◌}
 use mathlib.Core.List.{List}
-use lib.Dec.{ltb}
-use lib.ListN.{length, get_or, set}
-use borrow.Author.Tests.{not-true, not-false}
+use lib.ListN.{length}
 use Rattle.rules.specs.Types.{Wire}
-use Rattle.words.specs.Numbers.{word_at, words_at}
+use Rattle.words.specs.Numbers.{words_at}
 use Rattle.listing.specs.Reading.{output_count, outputs_from, outputs_of}
-use Rattle.listing.proofs.Laws.Decoding.{length_words}
 use Rattle.wire_table.specs.Table.{Holds}
-use Rattle.wire_table.proofs.Laws.Table.{next_word}
-use Rattle.listing_check.proofs.Laws.Wires.{Leaving, leaving_start, leaving_next, leaving_wrong, leaving_end}
-use borrow.Author.Rules.{rules}
+use Rattle.listing_check.proofs.Laws.Wires.{Leaving}
 use Rattle.listing_check.proofs.wires.wrong_output.Given as goal
 
 abbrev pub invariant-loop-j : goal.invariant-loop-j

@@ -23,7 +23,7 @@ returns c =
           c.label_at-third.result
           (quadword_put _ _ _ _ _ _ _ c.put_quadword.ensures)
           c.wires_in-n.ensures
-          c.label_at-first.ensures
-          c.label_at-second.ensures
-          c.label_at-third.ensures;
+          (c.label_at-first.ensures.value, c.label_at-first.ensures.upper_bound)
+          (c.label_at-second.ensures.value, c.label_at-second.ensures.upper_bound)
+          (c.label_at-third.ensures.value, c.label_at-third.ensures.upper_bound);
     }

@@ -89,7 +89,7 @@ loop-left-preserved c =
           subst (λ k. GatesWritten (renamed_words ks a.next) (quadwords_in gates₀) last a.from a.to k) more
           (one_more_copied (quadwords_in gates₀) (quadwords_in gates') last (words a.labels.now)
           a.from a.count a.to a.n a.next m done
-          (λ j. quadword_words_below gates₀ (λ b. (c.type_inv.gates b).fits) j 0)
+          (λ j. quadword_words_below gates₀ (λ b. (c.slice_known-1.given b).fits) j 0)
           (words_below a.labels.now (λ b. (c.type_inv.labels b).fits))
           fits
           (s.invariant.5 m fits)

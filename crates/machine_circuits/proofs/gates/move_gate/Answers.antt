@@ -13,7 +13,7 @@ returns c =
     c.word_in-second.result
     c.word_in-third.result
     (quadword_put _ _ _ _ _ _ _ c.put_quadword.ensures)
-    c.word_in-number.ensures
-    c.word_in-first.ensures
-    c.word_in-second.ensures
-    c.word_in-third.ensures
+    (c.word_in-number.ensures.value, c.word_in-number.ensures.upper_bound)
+    (c.word_in-first.ensures.value, c.word_in-first.ensures.upper_bound)
+    (c.word_in-second.ensures.value, c.word_in-second.ensures.upper_bound)
+    (c.word_in-third.ensures.value, c.word_in-third.ensures.upper_bound)

@@ -1,4 +1,5 @@
 -- `machine_circuits::tuples::load_node` meets its contract. Assumes nothing.
+use Rattle.rules.specs.Kinds.{label_kind, pair_kind, unit_value_kind}
 use Prim.Native.Nat.{◌%◌}
 use native.Mathlib.Omega.{arith}
 use mathlib.Core.Path.{sym, ◌∙◌, ap}

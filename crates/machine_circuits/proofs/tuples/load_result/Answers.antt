@@ -23,9 +23,9 @@ returns-then-runs_past c = λ k m fits.
     let a = c.args in
     absurd (omega (
       arith,
-      past_end c.runs_past.result (length a.result.now / 2) a.from a.count c.runs_past.ensures c.if-runs_past.true,
-      length_words a.result.now,
-      result_inside k (words a.result.now) a.from fits.stands,
+      past_end c.runs_past.result (length a.res.now / 2) a.from a.count c.runs_past.ensures c.if-runs_past.true,
+      length_words a.res.now,
+      result_inside k (words a.res.now) a.from fits.stands,
       fits.whole,
     ))
 
@@ -45,7 +45,7 @@ returns-then-next-gt-NO_WIRE c = λ k m fits. absurd (omega (arith, c.if-next-gt
 pub loop-i-init : goal.loop-i-init
 loop-i-init c =
     let a = c.args in (
-      not_past c.runs_past.result (length a.result.now / 2) a.from a.count c.runs_past.ensures c.if-runs_past.false,
+      not_past c.runs_past.result (length a.res.now / 2) a.from a.count c.runs_past.ensures c.if-runs_past.false,
       not_past c.runs_past-2.result (length a.nodes.now / 4) a.to a.count c.runs_past-2.ensures c.if-runs_past-2.false,
       omega (arith, c.if-next-gt-NO_WIRE.false),
       omega arith,
@@ -66,7 +66,7 @@ load_node-requires c =
       word_bound = omega (
         arith,
         c.get-word.ensures,
-        word_below a.result.now (λ j. (c.type_inv.res j).fits) (a.from + s.i),
+        word_below a.res.now (λ j. (c.type_inv.res j).fits) (a.from + s.i),
       );
       next_bound = s.invariant.2;
     }
@@ -81,7 +81,7 @@ pub loop-i-preserved : goal.loop-i-preserved
 loop-i-preserved c =
     let a = c.args in
     let s = c.loop-i in
-    let ws = words a.result.now in
+    let ws = words a.res.now in
     let ks = take a.n (words a.labels.now) in (
       s.invariant.0,
       s.invariant.1,
@@ -94,7 +94,7 @@ loop-i-preserved c =
           a.to
           s.i
           (loaded_node ks a.next c.get-word.result)
-          (omega (arith, s.invariant.0, c.loop-i-test.true, length_words a.result.now))
+          (omega (arith, s.invariant.0, c.loop-i-test.true, length_words a.res.now))
           (omega (arith, s.invariant.1, c.loop-i-test.true, length_nodes_in a.nodes.now))
           (s.invariant.5 enough)
           (ap (loaded_node ks a.next) c.get-word.ensures)
@@ -108,7 +108,7 @@ pub returns : goal.returns
 returns c = λ k m fits.
     let a = c.args in
     let s = c.loop-i in
-    let ws = words a.result.now in
+    let ws = words a.res.now in
     let ks = take a.n (words a.labels.now) in
     let ns = nodes_in a.nodes.now in
     let done : s.i ≡ a.count = omega (arith, s.invariant.3, c.loop-i-test.false) in

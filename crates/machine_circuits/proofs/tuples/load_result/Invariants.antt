@@ -18,14 +18,14 @@ use Rattle.machine_circuits.proofs.tuples.load_result.Given as goal
 
 abbrev pub invariant-loop-i : goal.invariant-loop-i
 invariant-loop-i l =
-    (l.from + l.count ≤ length l.result / 2)
+    (l.from + l.count ≤ length l.res / 2)
     × (l.to + l.count ≤ length l.initial.nodes / 4)
     × (l.next < 65536)
     × (l.i ≤ l.count)
     × (length l.nodes ≡ length l.initial.nodes)
     × (l.n ≤ length (words l.labels)
     → nodes_in l.nodes
-    ≡ over (nodes_in l.initial.nodes) l.to (map (loaded_node (take l.n (words l.labels)) l.next) (take l.i (drop l.from (words l.result)))))
+    ≡ over (nodes_in l.initial.nodes) l.to (map (loaded_node (take l.n (words l.labels)) l.next) (take l.i (drop l.from (words l.res)))))
 
 abbrev pub decreases-loop-i : goal.decreases-loop-i
 decreases-loop-i l = l.count - l.i

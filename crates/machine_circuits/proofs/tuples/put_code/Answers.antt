@@ -1,4 +1,5 @@
 -- `machine_circuits::tuples::put_code` meets its contract. Assumes nothing.
+use Rattle.rules.specs.Kinds.{pair_type_kind, unit_kind, label_kind, pair_kind, unit_value_kind}
 use Prim.Native.Nat.{◌+◌, ◌%◌}
 use mathlib.Core.Path.{sym, ◌∙◌, ap}
 use lib.ListN.{set}

@@ -1,4 +1,5 @@
 -- `machine_circuits::tuples::result_word` meets its contract. Assumes nothing.
+use Rattle.rules.specs.Kinds.{pair_kind, unit_value_kind}
 use native.Mathlib.Omega.{arith}
 use mathlib.Core.Path.{◌≡◌, sym, ◌∙◌}
 use borrow.Author.Rules.{rules}

@@ -32,18 +32,18 @@ returns-then-runs_past-2 c = λ v k e stands whole room.
     let a = c.args in
     absurd (omega (
       arith,
-      past_end c.runs_past-2.result (length a.result.now / 2) a.from a.count c.runs_past-2.ensures c.if-runs_past-2.true,
-      length_words a.result.now,
+      past_end c.runs_past-2.result (length a.res.now / 2) a.from a.count c.runs_past-2.ensures c.if-runs_past-2.true,
+      length_words a.res.now,
     ))
 
 pub loop-i-init : goal.loop-i-init
 loop-i-init c =
     let a = c.args in (
       not_past c.runs_past.result (length a.nodes.now / 4) a.at a.count c.runs_past.ensures c.if-runs_past.false,
-      not_past c.runs_past-2.result (length a.result.now / 2) a.from a.count c.runs_past-2.ensures c.if-runs_past-2.false,
+      not_past c.runs_past-2.result (length a.res.now / 2) a.from a.count c.runs_past-2.ensures c.if-runs_past-2.false,
       omega arith,
       refl,
-      sym (over_nil (words a.result.now) a.from),
+      sym (over_nil (words a.res.now) a.from),
     )
 
 pub overflow_add-from : goal.overflow_add-from
@@ -68,12 +68,12 @@ loop-i-preserved c =
       s.invariant.1,
       omega (arith, c.loop-i-test.true),
       c.put.auto.memory ∙ s.invariant.3,
-      mapped_next word_of no_node ns a.at (words a.result.now) (words s.result) (words c.put.new.memory)
+      mapped_next word_of no_node ns a.at (words a.res.now) (words s.res) (words c.put.new.memory)
           a.from
           s.i
           (c.result_word.result % 65536)
           (omega (arith, s.invariant.0, c.loop-i-test.true, length_nodes_in a.nodes.now))
-          (omega (arith, s.invariant.1, c.loop-i-test.true, length_words a.result.now))
+          (omega (arith, s.invariant.1, c.loop-i-test.true, length_words a.res.now))
           s.invariant.4
           (low ∙ c.result_word.ensures.value)
           (word_put _ _ _ _ c.put.ensures),
@@ -88,5 +88,5 @@ returns c = λ v k e stands whole room.
     let s = c.loop-i in
     let ns = nodes_in a.nodes.now in
     let done : s.i ≡ a.count = omega (arith, s.invariant.2, c.loop-i-test.false) in
-    all_saved v k ns (words a.result.now) (words s.result) a.at a.count a.from e stands whole
-    (s.invariant.4 ∙ ap (λ j. over (words a.result.now) a.from (map word_of (take j (drop a.at ns)))) done)
+    all_saved v k ns (words a.res.now) (words s.res) a.at a.count a.from e stands whole
+    (s.invariant.4 ∙ ap (λ j. over (words a.res.now) a.from (map word_of (take j (drop a.at ns)))) done)

@@ -8,7 +8,7 @@ use lib.ListN.{length, get_or, drop}
 use borrow.Author.Rules.{rules}
 use Rattle.words.specs.Words.{words}
 use Rattle.rules.specs.Parts.{parts_of_kind}
-use Rattle.rules.proofs.Laws.Parts.{at_most_two}
+use Rattle.rules.proofs.Laws.Parts.{at_most_two_lem}
 use Rattle.machine_nodes.proofs.Laws.Spans.{none_waiting, one_more, run_out}
 use Rattle.machine_circuits.specs.Tuples.{code_span, codes_of}
 use Rattle.machine_circuits.proofs.tuples.type_end.Goals as goal
@@ -23,7 +23,7 @@ passed cs i waiting more inside e =
     ∙ ap (λ w. (i + 1) + code_span (drop (i + 1) cs) w) (omega (arith, e))
 
 pub loop-i-init : goal.loop-i-init
-loop-i-init c = (c.code_count-end.ensures, omega (arith, c.code_count-end.type-inv), omega arith, refl)
+loop-i-init c = (c.code_count-end.ensures, omega (arith, c.code_count-end.type_inv), omega arith, refl)
 
 pub overflow_sub-waiting : goal.overflow_sub-waiting
 overflow_sub-waiting c = omega (arith, c.if-parts-gt0.true)
@@ -31,7 +31,7 @@ overflow_sub-waiting c = omega (arith, c.if-parts-gt0.true)
 pub overflow_add-waiting : goal.overflow_add-waiting
 overflow_add-waiting c =
     let s = c.loop-i.invariant in
-    omega (arith, s.1, s.2, c.loop-i-test.true, c.parts_of_kind-parts.ensures, at_most_two c.Code-in.result)
+    omega (arith, s.1, s.2, c.loop-i-test.true, c.parts_of_kind-parts.ensures, at_most_two_lem c.code_in.result)
 
 pub overflow_add-i : goal.overflow_add-i
 overflow_add-i c =
@@ -48,10 +48,10 @@ loop-i-preserved-then-parts-gt0 c =
     let cs = codes_of (words a.types.now) a.source in
     let inside : s.i < length cs = omega (arith, s.invariant.0, c.loop-i-test.true) in
     let parts : c.parts_of_kind-parts.result ≡ parts_of_kind (get_or cs s.i 0)
-    = c.parts_of_kind-parts.ensures ∙ ap parts_of_kind (c.Code-in.ensures inside) in (
+    = c.parts_of_kind-parts.ensures ∙ ap parts_of_kind (c.code_in.ensures inside) in (
       s.invariant.0,
       s.invariant.1,
-      omega (arith, s.invariant.2, c.parts_of_kind-parts.ensures, at_most_two c.Code-in.result),
+      omega (arith, s.invariant.2, c.parts_of_kind-parts.ensures, at_most_two_lem c.code_in.result),
       sym (passed cs s.i s.waiting (s.waiting + (c.parts_of_kind-parts.result - 1) + 1) inside (omega (arith, c.if-parts-gt0.true, parts)))
           ∙ s.invariant.3,
     )
@@ -74,7 +74,7 @@ loop-i-preserved c =
     let cs = codes_of (words a.types.now) a.source in
     let inside : s.i < length cs = omega (arith, s.invariant.0, c.loop-i-test.true) in
     let parts : c.parts_of_kind-parts.result ≡ parts_of_kind (get_or cs s.i 0)
-    = c.parts_of_kind-parts.ensures ∙ ap parts_of_kind (c.Code-in.ensures inside) in (
+    = c.parts_of_kind-parts.ensures ∙ ap parts_of_kind (c.code_in.ensures inside) in (
       s.invariant.0,
       s.invariant.1,
       omega (arith, s.invariant.2),
@@ -93,7 +93,7 @@ returns-else-waiting-gt0 c =
     let cs = codes_of (words a.types.now) a.source in
     let inside : s.i < length cs = omega (arith, s.invariant.0, c.loop-i-test.true) in
     let parts : c.parts_of_kind-parts.result ≡ parts_of_kind (get_or cs s.i 0)
-    = c.parts_of_kind-parts.ensures ∙ ap parts_of_kind (c.Code-in.ensures inside) in
+    = c.parts_of_kind-parts.ensures ∙ ap parts_of_kind (c.code_in.ensures inside) in
     omega (
       arith,
       s.invariant.3,

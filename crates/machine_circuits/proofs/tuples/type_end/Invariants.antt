@@ -6,7 +6,7 @@ use lib.ListN.{length, get_or, drop}
 use borrow.Author.Rules.{rules}
 use Rattle.words.specs.Words.{words}
 use Rattle.rules.specs.Parts.{parts_of_kind}
-use Rattle.rules.proofs.Laws.Parts.{at_most_two}
+use Rattle.rules.proofs.Laws.Parts.{at_most_two_lem}
 use Rattle.machine_nodes.proofs.Laws.Spans.{none_waiting, one_more, run_out}
 use Rattle.machine_circuits.specs.Tuples.{code_span, codes_of}
 use Rattle.machine_circuits.proofs.tuples.type_end.Given as goal

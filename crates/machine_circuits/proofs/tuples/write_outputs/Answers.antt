@@ -8,7 +8,7 @@ use Rattle.machine_circuits.proofs.tuples.write_outputs.Goals as goal
 
 pub write_type-requires : goal.write_type-requires
 write_type-requires c =
-    let n = c.args.number in record { count_in_bounds = omega (arith, c.saturating_sub-count.ensures, c.type_entries.ensures, entries_of_lem n); count_bound = omega (arith, c.saturating_sub-count.ensures, c.type_entries.type-inv, c.output_start-start.type-inv) }
+    let n = c.args.number in record { count_in_bounds = omega (arith, c.saturating_sub-count.ensures, c.type_entries.ensures, entries_of_lem n); count_bound = omega (arith, c.saturating_sub-count.ensures, c.type_entries.type_inv, c.output_start-start.type_inv) }
 
 pub returns : goal.returns
 returns c = λ T U e room few.

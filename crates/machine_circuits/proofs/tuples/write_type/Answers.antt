@@ -66,7 +66,7 @@ loop-i-preserved c =
     let s = c.loop-i in
     let cs = codes_of (words a.types.now) a.source in
     let inside : a.position + s.i < length cs = omega (arith, c.requires.count_in_bounds, c.loop-i-test.true) in
-    let read : c.Code-in.result ≡ get_or cs (a.position + s.i) 0 = c.Code-in.ensures inside in
+    let read : c.code_in.result ≡ get_or cs (a.position + s.i) 0 = c.code_in.ensures inside in
     let e : c.put_code-label.result ≡ label_after s.label (get_or cs (a.position + s.i) 0)
     = c.put_code-label.ensures.value ∙ ap (label_after s.label) read in
     let b = after_bounds s.label (get_or cs (a.position + s.i) 0) in (
@@ -84,7 +84,7 @@ loop-i-preserved c =
           a.to
           s.i
           s.label
-          c.Code-in.result
+          c.code_in.result
           inside
           (omega (arith, s.invariant.0, c.loop-i-test.true, length_nodes_in a.nodes.now))
           s.invariant.7

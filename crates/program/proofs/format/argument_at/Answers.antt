@@ -2,7 +2,6 @@
 use Prim.Native.Nat.{◌+◌, ◌*◌}
 use native.Mathlib.Omega.{arith}
 use mathlib.Core.Path.{sym, ap, ◌∙◌}
-use borrow.Author.Rules.{rules}
 use Rattle.words.specs.Numbers.{word_at}
 use Rattle.words.proofs.Laws.Numbers.{number_past}
 use Rattle.program.specs.Format.{entry_count, argument_at}
@@ -20,4 +19,4 @@ unfolding argument_at
 returns c =
     let a = c.args in
     let number = c.word_at.ensures in
-    record { value = number.0 ∙ ap (λ n. word_at a.file.now (6 + n + 2 * a.e)) c.entry_count.ensures.value; upper_bound = number.1 }
+    record { value = number.value ∙ ap (λ n. word_at a.file.now (6 + n + 2 * a.e)) c.entry_count.ensures.value; upper_bound = number.upper_bound }

@@ -2,7 +2,6 @@
 use Prim.Native.Nat.{◌+◌}
 use native.Mathlib.Omega.{arith}
 use mathlib.Core.Path.{sym}
-use borrow.Author.Rules.{rules}
 use Rattle.words.proofs.Laws.Numbers.{byte_past}
 use Rattle.program.specs.Format.{kind_at}
 use Rattle.program.proofs.format.kind_at.Goals as goal

@@ -1,5 +1,4 @@
 -- `program::format::rule_allows` meets its contract, one arm for each rule of an argument.
-use borrow.Author.Rules.{rules}
 use Rattle.program.proofs.format.rule_allows.Goals as goal
 
 pub returns-in-Zero : goal.returns-in-Zero

@@ -1,5 +1,4 @@
 -- `program::format::rule_at` meets its contract: the section that the tests find is the definition's.
-use borrow.Author.Rules.{rules}
 use borrow.Author.Tests.{lt-ltb, le-ltb}
 use Rattle.program.proofs.format.rule_at.Goals as goal
 

@@ -1,6 +1,5 @@
 -- `program::format::shape_at` meets its contract.
 use mathlib.Core.Path.{sym, ◌∙◌, ap, ap₂}
-use borrow.Author.Rules.{rules}
 use Rattle.rules.specs.Parts.{parts_of_kind}
 use Rattle.program.specs.ArgumentRules.{shape_by}
 use Rattle.program.proofs.format.shape_at.Goals as goal

@@ -1,10 +1,12 @@
 -- `program::format::term_rule` meets its contract: first the arms of one kind, then that of a range, then every other kind.
 use native.Mathlib.Omega.{arith}
+use borrow.Author.Rules.{rules}
 use Prim.Native.Nat.{ℕ, ◌≤◌, ◌<◌}
 use mathlib.Core.Path.{◌≡◌, sym, ap}
 use Rattle.program.proofs.Laws.Scans.{zero_terms, no_terms_below, no_terms_above}
 use Rattle.program.specs.ArgumentRules.{rule_of}
 use Rattle.program.specs.Format.{term_shape}
+use Rattle.rules.specs.Kinds.{variable_kind, label_kind, abstraction_kind, box_kind, apply_kind, gate_kind_lem, unit_value_kind}
 use Rattle.program.proofs.format.term_rule.Goals as goal
 
 -- A kind from n on that is not n is above n: one kind at a time, since `omega` takes few facts of this form at once.
@@ -41,10 +43,11 @@ returns-in-27 c = rw c.in-27.is
 
 pub returns-in-19-to-23 : goal.returns-in-19-to-23
 returns-in-19-to-23 c =
-    let others = c.in_default-1.rest in
-    let from17 = above variable_kind c.if-kind-lt16.false others.0.0.0.0.0.0.1 in
-    let from18 = above label_kind from17 others.0.0.0.0.0.1 in
-    let from19 = above abstraction_kind from18 others.0.0.0.0.1 in
+    let k = c.args.kind in
+    let from16 : 16 ≤ k = omega arith in
+    let from17 : 17 ≤ k = above variable_kind from16 (search rules) in
+    let from18 : 18 ≤ k = above label_kind from17 (search rules) in
+    let from19 : 19 ≤ k = above abstraction_kind from18 (search rules) in
     sym (zero_terms c.args.kind from19 (omega arith))
 
 pub returns-in_default : goal.returns-in_default
@@ -52,8 +55,9 @@ returns-in_default c = sym (ap rule_of (no_terms_below c.args.kind (omega arith)
 
 pub returns-in_default-2 : goal.returns-in_default-2
 returns-in_default-2 c =
-    let others = c.in_default-1.rest in
-    let from25 = above box_kind c.if-kind-lt24.false others.0.0.0.1 in
-    let from26 = above apply_kind from25 others.0.0.1 in
-    let from27 = above gate_kind_lem from26 others.0.1 in
-    sym (ap rule_of (no_terms_above c.args.kind (above unit_value_kind from27 others.1)))
+    let k = c.args.kind in
+    let from24 : 24 ≤ k = omega arith in
+    let from25 : 25 ≤ k = above box_kind from24 (search rules) in
+    let from26 : 26 ≤ k = above apply_kind from25 (search rules) in
+    let from27 : 27 ≤ k = above gate_kind_lem from26 (search rules) in
+    sym (ap rule_of (no_terms_above c.args.kind (above unit_value_kind from27 (search rules))))

@@ -1,6 +1,5 @@
 -- `program::scan::argument_wrong` meets its contract.
 use mathlib.Core.Path.{◌∙◌}
-use borrow.Author.Rules.{rules}
 use Rattle.program.specs.Reading.{argument_wrong}
 use Rattle.program.proofs.Laws.ArgumentRules.{allows_by_rule, rule_is, sections_fit}
 use Rattle.program.proofs.scan.argument_wrong.Goals as goal
@@ -11,7 +10,6 @@ rule_at-rule-requires c = sections_fit c.requires
 pub returns : goal.returns
 unfolding argument_wrong
 returns c =
-    let start = c in
     let sized = c.requires in
     let rule = c.rule_at-rule.ensures ∙ rule_is sized c.args.e c.kind_at.ensures.value in
     rw (
@@ -19,6 +17,6 @@ returns c =
       c.rule_allows.ensures,
       rule,
       c.argument_at-a.ensures.value,
-      sized.labels-are,
+      sized.labels_are,
       sized.types_are,
     )

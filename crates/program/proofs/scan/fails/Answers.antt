@@ -1,5 +1,4 @@
 -- `program::scan::fails` meets its contract: each arm calls the function of its test.
-use borrow.Author.Rules.{rules}
 use Rattle.program.proofs.scan.fails.Goals as goal
 
 pub returns-in-Kinds : goal.returns-in-Kinds

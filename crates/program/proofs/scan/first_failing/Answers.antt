@@ -1,11 +1,8 @@
 -- `program::scan::first_failing` meets its contract. The loop's invariant: the first entry that fails is the first from e on. The
 -- measure is the number of entries left.
-use Prim.Native.Nat.{◌-◌}
-use native.Mathlib.Omega.{arith}
-use mathlib.Core.Path.{◌≡◌, refl, ◌∙◌, sym}
+use mathlib.Core.Path.{◌∙◌, sym}
 use Rattle.program.specs.Failing.{fails_at}
 use Rattle.program.proofs.Laws.Scans.{scan_hits, scan_goes_on, scan_ends}
-use Rattle.program.specs.Traversal.{first_from}
 use Rattle.program.proofs.scan.first_failing.Goals as goal
 
 pub fails-requires : goal.fails-requires

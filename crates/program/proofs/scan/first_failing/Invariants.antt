@@ -1,8 +1,6 @@
 use Prim.Native.Nat.{◌-◌}
-use native.Mathlib.Omega.{arith}
-use mathlib.Core.Path.{◌≡◌, refl, ◌∙◌, sym}
+use mathlib.Core.Path.{◌≡◌}
 use Rattle.program.specs.Failing.{fails_at}
-use Rattle.program.proofs.Laws.Scans.{scan_hits, scan_goes_on, scan_ends}
 use Rattle.program.specs.Traversal.{first_from}
 use Rattle.program.proofs.scan.first_failing.Given as goal
 

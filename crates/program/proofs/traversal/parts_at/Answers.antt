@@ -1,5 +1,4 @@
 -- `program::traversal::parts_at` meets its contract.
-use borrow.Author.Rules.{rules}
 use native.Mathlib.Omega.{arith}
 use mathlib.Core.Path.{sym, ap, ◌∙◌}
 use Rattle.program.specs.Traversal.{parts_of, wire_parts, parts_at}
@@ -11,17 +10,15 @@ shape_at-shape-requires c = sections_fit c.requires.0
 
 pub scope_parts-requires : goal.scope_parts-requires
 scope_parts-requires c =
-    let start = c in
     let sized = c.requires.0 in
     let is = c.kind_at-kind.ensures.value in (
       c.shape_at-shape.ensures ∙ shape_is sized c.args.e is,
       is,
-      omega (arith, c.requires.1, c.requires.2, sized.labels-fit, sized.types-fit, sized.terms-fit),
+      omega (arith, c.requires.1, c.requires.2, sized.labels_fit, sized.types_fit, sized.terms_fit),
     )
 
 pub returns-in-TypeEnd : goal.returns-in-TypeEnd
 returns-in-TypeEnd c =
-    let start = c in
     let f = c.args.file.now in
     let e = c.args.e in
     let b = c.args.binders in
@@ -31,7 +28,6 @@ returns-in-TypeEnd c =
 
 pub returns-in-WireType : goal.returns-in-WireType
 returns-in-WireType c =
-    let start = c in
     let f = c.args.file.now in
     let e = c.args.e in
     let b = c.args.binders in
@@ -41,7 +37,6 @@ returns-in-WireType c =
 
 pub returns-in-TermEnd : goal.returns-in-TermEnd
 returns-in-TermEnd c =
-    let start = c in
     let f = c.args.file.now in
     let e = c.args.e in
     let b = c.args.binders in
@@ -51,7 +46,6 @@ returns-in-TermEnd c =
 
 pub returns-in-Scope : goal.returns-in-Scope
 returns-in-Scope c =
-    let start = c in
     let f = c.args.file.now in
     let e = c.args.e in
     let b = c.args.binders in

@@ -13,6 +13,7 @@ use Rattle.program.specs.Traversal.{parts_of, scope_parts}
 use Rattle.program.specs.declared.format.Shape.{Shape}
 use Rattle.program.specs.declared.traversal.Parts.{Parts}
 use Rattle.program.specs.declared.traversal.Parts.TheVariants.{Leaf, One, Two, Stop}
+use Rattle.rules.specs.Kinds.{variable_kind, abstraction_kind, let_kind}
 use Rattle.program.proofs.traversal.scope_parts.Goals as goal
 
 -- The definition, over the kind, the argument and the shape that the code has read.
@@ -60,7 +61,6 @@ module _ (f : List ℕ) (e b : ℕ) where
 pub returns-then-argument_at-binders : goal.returns-then-argument_at-binders
 unfolding parts_of_kind
 returns-then-argument_at-binders c =
-    let start = c in
     let f = c.args.file.now in
     let b = c.args.binders in
     looked-up f c.args.e b variable_kind b
@@ -72,7 +72,6 @@ returns-then-argument_at-binders c =
 
 pub returns-else-argument_at-binders : goal.returns-else-argument_at-binders
 returns-else-argument_at-binders c =
-    let start = c in
     let f = c.args.file.now in
     let b = c.args.binders in
     of_variable f c.args.e b false c.argument_at.ensures.value (le-ltb _ _ c.if-argument_at-binders.false)
@@ -81,7 +80,6 @@ returns-else-argument_at-binders c =
 pub returns-in-18 : goal.returns-in-18
 unfolding parts_of_kind
 returns-in-18 c =
-    let start = c in
     looked-up c.args.file.now c.args.e c.args.binders abstraction_kind (c.args.binders + 1)
     c.parts_under-in-18.ensures
     c.parts_of_kind-in-18.ensures
@@ -92,7 +90,6 @@ returns-in-18 c =
 pub returns-in-21 : goal.returns-in-21
 unfolding parts_of_kind
 returns-in-21 c =
-    let start = c in
     looked-up c.args.file.now c.args.e c.args.binders let_kind (c.args.binders + 2)
     c.parts_under-in-21.ensures
     c.parts_of_kind-in-21.ensures
@@ -102,7 +99,6 @@ returns-in-21 c =
 
 pub returns-in_default : goal.returns-in_default
 returns-in_default c =
-    let start = c in
-    let others = c.in_default.rest in
+    let others = c.in_default in
     other c.args.file.now c.args.e c.args.binders c.requires.1
-    others.0.0.1 others.0.1 others.1 c.requires.0 c.parts_of.ensures
+    (search rules) (search rules) (search rules) c.requires.0 c.parts_of.ensures

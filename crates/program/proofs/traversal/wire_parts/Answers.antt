@@ -2,13 +2,12 @@
 use native.Mathlib.Omega.{arith}
 use Prim.Native.Nat.{ℕ, ◌≤◌}
 use mathlib.Core.Path.{◌≡◌, refl, sym, ap, ◌∙◌}
-use borrow.Author.Rules.{rules}
-use borrow.Author.Tests.{lt-leb, ne_eqb}
 use Rattle.rules.specs.Parts.{parts_of_kind}
 use Rattle.rules.proofs.Laws.Ranges.{◌and◌, no_more, in_range}
 use Rattle.program.specs.PartsUnder.{parts_under}
 use Rattle.program.specs.Traversal.{wire_parts}
 use Rattle.program.specs.declared.traversal.Parts.{Parts}
+use Rattle.rules.specs.Kinds.{pair_type_kind, unit_kind}
 use Rattle.program.proofs.traversal.wire_parts.Goals as goal
 
 -- The parts that were looked up for a wire type's kind.
@@ -34,8 +33,3 @@ pub returns-in-0-to-2 : goal.returns-in-0-to-2
 returns-in-0-to-2 c =
     let kind = c.args.kind in
     looked-up kind _ c.parts_under-in-0-to-2.ensures c.parts_of_kind-in-0-to-2.ensures (to-pairs kind (omega arith))
-
-pub returns-in_default : goal.returns-in_default
-returns-in_default c =
-    let kind = c.args.kind in
-    rw (lt-leb kind 1 (omega arith), ne_eqb kind 2 (λ e. omega (arith, e)), ne_eqb _ _ c.in_default-1.rest.1)

@@ -1,0 +1,6 @@
+-- The measure: the number of entries left in the section.
+use Prim.Native.Nat.{◌-◌}
+use Rattle.program.proofs.traversal.+traverse.Given as goal
+
+abbrev pub decreases-traverse : goal.decreases-traverse
+decreases-traverse l = l.end - l.e
