@@ -1,7 +1,7 @@
 /*
  * The reading, the check and the run of program files, the check of listings, and their export to OpenQASM 2.0 and import from it,
  * for hosts in C (C99) and C++ on x86-64.
- * All are in target/staticlib/libcabinet.a; docs/FORMATS.md has the layout of files, listings, texts and buffers.
+ * All are in crates/cabinet/out/libcabinet.a; docs/FORMATS.md has the layout of files, listings, texts and buffers.
  *
  * What the host owes: each pointer with its length is one buffer, readable and, all but the file, the listing or the text that is
  * taken, writable; no pointer is null, even with length 0; no two buffers overlap; nothing else writes them meanwhile; 1 MiB of

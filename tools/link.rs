@@ -1,5 +1,5 @@
 //! Links the static library of crate cabinet from the folder that GAWIPSOL_LIB
-//! names, else from target/staticlib beside tests/ and tools/. With the feature
+//! names, else from crates/cabinet/out beside tests/ and tools/. With the feature
 //! `port` nothing is linked.
 
 use std::env;
@@ -13,14 +13,14 @@ fn main() {
     let folder = match env::var_os("GAWIPSOL_LIB") {
         Some(folder) => PathBuf::from(folder),
         None => PathBuf::from(env::var_os("CARGO_MANIFEST_DIR").expect("CARGO_MANIFEST_DIR"))
-            .join("../../target/staticlib"),
+            .join("../../crates/cabinet/out"),
     };
     let library = folder.join("libcabinet.a");
     println!("cargo:rerun-if-changed={}", library.display());
     let folder = folder.canonicalize().unwrap_or(folder);
     assert!(
         library.is_file(),
-        "{} is missing: build the static library of crate cabinet first, or set GAWIPSOL_LIB",
+        "{} is missing: build it by rt lib in crates/cabinet first, or set GAWIPSOL_LIB",
         library.display()
     );
     println!("cargo:rustc-link-search=native={}", folder.display());

@@ -3,6 +3,8 @@
 // All else is proved in listcheck_io. Nothing calls it.
 #![tactic(auto)]
 
-fn main() {
-    listcheck_io::print_check(libc::STDIN_FILENO, libc::STDOUT_FILENO);
+use std::io;
+
+fn main(rt: HostRuntime) -> io::Result<()> {
+    listcheck_io::print_check(&mut rt.stdin(), &mut rt.stdout())
 }

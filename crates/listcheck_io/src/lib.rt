@@ -1,10 +1,12 @@
-// What listcheck does (02, ticket 3): a listing is read from one descriptor and checked, and a line is written to another.
+// What listcheck does (02, ticket 3): a listing is read from an input and checked, and a line is written to an output.
 // Believe: specs/Printing.
-// Main theorem: same-line (proofs/Theorems/Longest), that reading no more bytes loses nothing.
+// Main theorem: same_line (proofs/Theorems/Longest), that reading no more bytes loses nothing.
 // Called by the program listcheck.
 #![tactic(auto)]
 
-ghost use Rattle.std.specs.Prelude.{◌≤◌, ◌≡◌, length, take};
+ghost use Rattle.std.specs.Prelude.{◌≤◌, ◌≡◌, length, take, OnOk};
+ghost use Rattle.std.specs.Io.KnownBytes.{Consumes};
+ghost use Rattle.streams.specs.Streamed.{ReadsFirst, WritesAnswer, WritesPart};
 ghost use Rattle.wirelist_lines.specs.Least.{refusal_bytes};
 ghost use Rattle.text.specs.Written.{Written};
 ghost use Rattle.listcheck_io.specs.Printing.{most_read, answer_line, checked_line};
@@ -13,6 +15,9 @@ use listing::{ENTRY_BYTES, MOST_OUTPUTS, SIZES};
 use listing_check::{LEAST_WORK, ListingAnswer, check_listing};
 use refusals::{number_of, place_of};
 use rules::sizes::{MOST_GATES, MOST_LABELS};
+use std::io;
+use std::io::{Read, Write};
+use streams::{read_full, write_all};
 use text::put_bytes;
 use wirelist_lines::{REFUSAL_BYTES, write_refusal};
 
@@ -57,18 +62,25 @@ fn print_all(listing: &[u8], text: &mut [u8; REFUSAL_BYTES]) -> usize
     print_line(listing, text)
 }
 
-// Reads a listing until it ends or the most bytes are read; answers how many.
-fn read_listing(input: i32, listing: &mut [u8; MOST_READ]) -> usize
-    ensures { (result ≤ most_read) × (length listing.new ≡ most_read) }
+// Reads a listing until it ends, the most bytes are read or a read fails; answers how many bytes, and the error of that read.
+fn read_listing<R: Read>(input: &mut R, listing: &mut [u8; MOST_READ]) -> (usize, io::Result<()>)
+    ensures within { (result.0 ≤ most_read) × (length listing.new ≡ most_read) }
+    ensures taken { Consumes (R.remaining input.old) (R.remaining input.new) (take result.0 listing.new) }
+    ensures whole { OnOk result.1 (ReadsFirst most_read (R.remaining input.old) (take result.0 listing.new)) }
 {
-    io::read_full(input, listing)
+    read_full(input, listing)
 }
 
-// Reads a listing, checks it and prints its line.
-pub fn print_check(input: i32, output: i32) {
+// Reads a listing, checks it and prints its line. Where a read fails, what was read until then is taken for the whole, and the error
+// is answered when that is printed.
+pub fn print_check<R: Read, W: Write>(input: &mut R, output: &mut W) -> io::Result<()>
+    ensures whole { OnOk result (WritesAnswer checked_line (R.remaining input.old) (W.contents output.old) (W.contents output.new)) }
+    ensures part { WritesPart checked_line (R.remaining input.old) (W.contents output.old) (W.contents output.new) }
+{
     let mut listing = [0u8; MOST_READ];
-    let size = read_listing(input, &mut listing);
+    let (size, read) = read_listing(input, &mut listing);
     let mut text = [0u8; REFUSAL_BYTES];
     let length = print_all(&listing[..size], &mut text);
-    io::write_all(output, &text[..length]);
+    write_all(output, &text[..length])?;
+    read
 }

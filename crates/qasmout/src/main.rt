@@ -3,6 +3,8 @@
 // All else is proved in openqasm_io. Nothing calls it.
 #![tactic(auto)]
 
-fn main() {
-    openqasm_io::export_all(libc::STDIN_FILENO, libc::STDOUT_FILENO);
+use std::io;
+
+fn main(rt: HostRuntime) -> io::Result<()> {
+    openqasm_io::export_all(&mut rt.stdin(), &mut rt.stdout())
 }

@@ -3,6 +3,8 @@
 // All else is proved in wirelist_io. Nothing calls it.
 #![tactic(auto)]
 
-fn main() {
-    wirelist_io::print_run(libc::STDIN_FILENO, libc::STDOUT_FILENO);
+use std::io;
+
+fn main(rt: HostRuntime) -> io::Result<()> {
+    wirelist_io::print_run(&mut rt.stdin(), &mut rt.stdout())
 }

@@ -1,10 +1,12 @@
-// What wirelist does (01, "Listing"): a program file is read from one descriptor and run, and its text is written to another.
+// What wirelist does (01, "Listing"): a program file is read from an input and run, and its text is written to an output.
 // Believe: specs/Printing.
-// Main theorems: printed_finished and printed_refused (proofs/Theorems/Printed), same-text (proofs/Theorems/Longest).
+// Main theorems: printed_finished and printed_refused (proofs/Theorems/Printed), same_text (proofs/Theorems/Longest).
 // Called by the program wirelist.
 #![tactic(auto)]
 
-ghost use Rattle.std.specs.Prelude.{◌≤◌, ◌≡◌, length, take};
+ghost use Rattle.std.specs.Prelude.{◌≤◌, ◌≡◌, length, take, OnOk};
+ghost use Rattle.std.specs.Io.KnownBytes.{Consumes};
+ghost use Rattle.streams.specs.Streamed.{ReadsFirst, WritesAnswer, WritesPart};
 ghost use Rattle.wirelist_lines.specs.Least.{least_text};
 ghost use Rattle.text.specs.Written.{Written};
 ghost use Rattle.wirelist_io.specs.Printing.{most_read, printed};
@@ -15,6 +17,9 @@ use refusals::{number_of, place_of};
 use rules::sizes::{MOST_LABELS, MOST_TERMS, MOST_TYPES};
 use run::run;
 use run_answers::RunAnswer;
+use std::io;
+use std::io::{Read, Write};
+use streams::{read_full, write_all};
 use wirelist_lines::{LEAST_TEXT, write_lines, write_refusal};
 
 // 01: "reads at most 7,879 bytes of a program file" and "runs it with limit 1,000,000".
@@ -87,18 +92,25 @@ fn print_all(file: &[u8], text: &mut [u8; LEAST_TEXT]) -> usize
     print_text(file, text)
 }
 
-// Reads a program file until it ends or the most bytes are read; answers how many.
-fn read_file(input: i32, file: &mut [u8; MOST_READ]) -> usize
-    ensures { (result ≤ most_read) × (length file.new ≡ most_read) }
+// Reads a program file until it ends, the most bytes are read or a read fails; answers how many bytes, and the error of that read.
+fn read_file<R: Read>(input: &mut R, file: &mut [u8; MOST_READ]) -> (usize, io::Result<()>)
+    ensures within { (result.0 ≤ most_read) × (length file.new ≡ most_read) }
+    ensures taken { Consumes (R.remaining input.old) (R.remaining input.new) (take result.0 file.new) }
+    ensures whole { OnOk result.1 (ReadsFirst most_read (R.remaining input.old) (take result.0 file.new)) }
 {
-    io::read_full(input, file)
+    read_full(input, file)
 }
 
-// Reads a program file, runs it and prints its text.
-pub fn print_run(input: i32, output: i32) {
+// Reads a program file, runs it and prints its text. Where a read fails, what was read until then is taken for the whole, and the
+// error is answered when that is printed.
+pub fn print_run<R: Read, W: Write>(input: &mut R, output: &mut W) -> io::Result<()>
+    ensures whole { OnOk result (WritesAnswer printed (R.remaining input.old) (W.contents output.old) (W.contents output.new)) }
+    ensures part { WritesPart printed (R.remaining input.old) (W.contents output.old) (W.contents output.new) }
+{
     let mut file = [0u8; MOST_READ];
-    let size = read_file(input, &mut file);
+    let (size, read) = read_file(input, &mut file);
     let mut text = [0u8; LEAST_TEXT];
     let length = print_all(&file[..size], &mut text);
-    io::write_all(output, &text[..length]);
+    write_all(output, &text[..length])?;
+    read
 }

@@ -1,19 +1,18 @@
--- `listcheck_io::print_check` is safe and ends: what was read stands within the listing's buffer, and the line within its own. Assumes
--- nothing.
-use native.Mathlib.Omega.{arith}
-use lib.ListN.{length-take}
-use borrow.Author.Rules.{rules}
+-- `listcheck_io::print_check` meets its contract: the line for the bytes that are read is that for all. Assumes nothing.
+use Rattle.streams.proofs.Laws.Answered.{answered, answered_part}
+use Rattle.listcheck_io.specs.Printing.{most_read, checked_line}
+use Rattle.listcheck_io.proofs.Theorems.Longest.{same_line}
 use Rattle.listcheck_io.proofs.print_check.Goals as goal
 
-pub slice_bounds-print_all-end : goal.slice_bounds-print_all-end
-slice_bounds-print_all-end c =
+pub returns-in_err-write_all-clause-part : goal.returns-in_err-write_all-clause-part
+returns-in_err-write_all-clause-part g c =
+    answered_part checked_line _ _ _ _ _ _ c.read_listing-size.ensures.taken c.print_all-length.ensures.text_after c.write_all.ensures.part
+
+pub returns-clause-whole : goal.returns-clause-whole
+returns-clause-whole g c =
     let r = c.read_listing-size in
-    omega (arith, length-take r.result r.new.listing, r.ensures)
+    answered checked_line most_read r.result.1 _ _ _ _ _ same_line r.ensures.whole c.print_all-length.ensures.text_after c.in_ok-write_all.ensures.whole
 
-pub slice_bounds-text-end : goal.slice_bounds-text-end
-slice_bounds-text-end c = c.print_all-length.ensures.upper_bound
-
-pub slice_bounds-write_all-end : goal.slice_bounds-write_all-end
-slice_bounds-write_all-end c =
-    let w = c.print_all-length in
-    omega (arith, length-take w.result w.new.text, w.ensures.upper_bound)
+pub returns-clause-part : goal.returns-clause-part
+returns-clause-part g c =
+    answered_part checked_line _ _ _ _ _ _ c.read_listing-size.ensures.taken c.print_all-length.ensures.text_after c.write_all.ensures.part

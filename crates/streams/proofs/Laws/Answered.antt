@@ -1,0 +1,31 @@
+-- What was written is the answer to what was read.
+use Rattle.std.specs.Prelude.{ℕ, ◌≡◌, List, length, take, None, Some, Ok, Err, OnOk}
+use Rattle.std.specs.declared.option.Option.{Option}
+use Rattle.std.specs.declared.result.Result.{Result}
+use Rattle.std.specs.Io.KnownBytes.{Appends, Consumes}
+use Rattle.std.proofs.Common.{sym, ◌∙◌, ap, subst}
+use Rattle.std.proofs.Math.Seq.{take-append_seam}
+use Rattle.streams.specs.Streamed.{ReadsFirst, AppendsPart, WritesAnswer, WritesPart}
+
+-- An f that needs no more than the first bytes, so many, is answered for all.
+pub answered : {A E : Type 0} (f : List ℕ → List ℕ) (most : ℕ) (result : Result A E) (input old new : Option (List ℕ)) (read bytes : List ℕ)
+    → ((all : List ℕ) → f (take most all) ≡ f all)
+    → OnOk result (ReadsFirst most input read)
+    → bytes ≡ f read
+    → Appends old new bytes
+    → OnOk result (WritesAnswer f input old new)
+answered f most (Err e) input old new read bytes same first are written = tt
+answered f most (Ok x) None old new read bytes same first are written = tt
+answered f most (Ok x) (Some all) old new read bytes same first are written =
+    subst (Appends old new) (are ∙ ap f first ∙ same all) written
+
+pub answered_part : (f : List ℕ → List ℕ) (input rest old new : Option (List ℕ)) (read bytes : List ℕ)
+    → Consumes input rest read
+    → bytes ≡ f read
+    → AppendsPart old new bytes
+    → WritesPart f input old new
+answered_part f None rest old new read bytes taken are written = tt
+answered_part f (Some all) None old new read bytes taken are written = absurd taken
+answered_part f (Some all) (Some more) old new read bytes taken are written =
+    let first : take (length read) all ≡ read = ap (take (length read)) taken ∙ take-append_seam read more in
+    (length read, subst (AppendsPart old new) (are ∙ ap f (sym first)) written)

@@ -1,0 +1,20 @@
+-- What is read from an input and written to an output, where their bytes are known.
+use Rattle.std.specs.Prelude.{ℕ, ◌≡◌, List, take, IfSome}
+use Rattle.std.specs.declared.option.Option.{Option}
+use Rattle.std.specs.Io.KnownBytes.{Appends}
+
+-- What is read is the first bytes of the input, so many, or all of them where there are fewer.
+abbrev pub ReadsFirst : ℕ → Option (List ℕ) → List ℕ → Type 0
+ReadsFirst most input read = IfSome input (λ all. read ≡ take most all)
+
+-- The output grows by some of the first of these bytes, and by nothing else.
+abbrev pub AppendsPart : Option (List ℕ) → Option (List ℕ) → List ℕ → Type 0
+AppendsPart old new bytes = (size : ℕ) × Appends old new (take size bytes)
+
+-- The output grows by f of all bytes of the input.
+abbrev pub WritesAnswer : (List ℕ → List ℕ) → Option (List ℕ) → Option (List ℕ) → Option (List ℕ) → Type 0
+WritesAnswer f input old new = IfSome input (λ all. Appends old new (f all))
+
+-- Whatever fails: the output grows by a part of f of the input's first bytes, however many, and by nothing else.
+abbrev pub WritesPart : (List ℕ → List ℕ) → Option (List ℕ) → Option (List ℕ) → Option (List ℕ) → Type 0
+WritesPart f input old new = IfSome input (λ all. (size : ℕ) × AppendsPart old new (f (take size all)))
