@@ -1,8 +1,7 @@
 -- `openqasm_io::print_export` meets its contract: the output buffer and the working memory are long enough. Assumes nothing.
-use native.Mathlib.Omega.{arith}
-use mathlib.Core.Path.{refl}
+use Rattle.std.proofs.Common.{arith}
+use Rattle.std.specs.Prelude.{refl}
 use Rattle.openqasm_io.proofs.Laws.Printed.{export_printed}
-use borrow.Author.Rules.{rules}
 use Rattle.openqasm_io.proofs.print_export.Goals as goal
 
 pub returns : goal.returns
@@ -11,5 +10,7 @@ returns c =
     let x = c.export-answer in
     let w = c.write_answer in
     let long = c.export-arg-1.given in
-    export_printed a.listing.now a.out.now w.new.out _ w.result (omega (arith, long)) refl
-    x.ensures.answer x.ensures.bytes w.ensures
+    let p =
+    export_printed a.listing.now a.out.now w.new.out _ w.result (omega (arith, long)) refl x.ensures.answer x.ensures.bytes
+    w.ensures in
+    record { out_after = p.0; upper_bound = p.1 }

@@ -1,7 +1,6 @@
 -- `openqasm_io::write_answer` meets its contract. Assumes nothing.
-use mathlib.Core.Path.{refl}
+use Rattle.std.specs.Prelude.{refl}
 use Rattle.openqasm_io.proofs.Laws.Printed.{ends_written, ends_refused}
-use borrow.Author.Rules.{rules}
 use Rattle.openqasm_io.proofs.write_answer.Goals as goal
 
 pub returns-in-Written : goal.returns-in-Written
@@ -10,6 +9,4 @@ returns-in-Written c = ends_written c.in-Written.is refl refl
 pub returns-in-Refused : goal.returns-in-Refused
 returns-in-Refused c =
     let w = c.write_refusal.ensures in
-    ends_refused c.in-Refused.is
-    c.number_of.ensures
-    c.place_of-place.ensures w.written w.place_len_bound
+    ends_refused c.in-Refused.is c.number_of-number.ensures c.place_of-place.ensures w.written w.place_len_bound

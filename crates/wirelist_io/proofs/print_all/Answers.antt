@@ -1,10 +1,9 @@
 -- `wirelist_io::print_all` meets its contract: the text has the least length. Assumes nothing.
-use Prim.Native.Nat.{◌≤◌}
-use native.Mathlib.Omega.{arith}
-use lib.ListN.{length}
+use Rattle.std.specs.Prelude.{◌≤◌}
+use Rattle.std.proofs.Common.{arith}
+use Rattle.std.specs.Prelude.{length}
 use Rattle.wirelist_lines.specs.Least.{least_text}
 use Rattle.text.proofs.Laws.Writing.{all_written}
-use borrow.Author.Rules.{rules}
 use Rattle.wirelist_io.proofs.print_all.Goals as goal
 
 pub returns : goal.returns

@@ -11,6 +11,6 @@ pub returns-in-Refused : goal.returns-in-Refused
 returns-in-Refused c =
     let w = c.write_refusal.ensures in
     let a =
-        answer_refused c.args.out.now c.in-Refused.is c.number_of-number.ensures c.place_of-place.ensures w.written
-        w.place_len_bound in
+    answer_refused c.args.out.now c.in-Refused.is c.number_of-number.ensures c.place_of-place.ensures w.written
+    w.place_len_bound in
     record { written = a.0; refusal_fits = a.1 }
