@@ -1,5 +1,5 @@
 -- Boxing must not change a circuit (02, ticket 10): the spot, the two programs, and what a program builds.
-use Rattle.std.specs.Prelude.{ℕ, ◌≡◌, List, [], T as IsTrue}
+use Rattle.std.specs.Prelude.{ℕ, ◌≡◌, List, [], T as Truth}
 use Rattle.rules.specs.Types.{Wire, Ty, is_wire_type}
 use Rattle.rules.specs.Gates.{nth}
 use Rattle.rules.specs.Terms.{Boxed, Term, abstraction, application, pair, let_in, lift, force, box, apply, value}
@@ -70,7 +70,7 @@ pub record Builds (L : List Wire) (M : Term) (A : Ty) (C : Circuit) (W : Term) :
   pub steps : ℕ
   pub closed : List Boxed
   pub row : Row allowance (start L M) steps (configuration (frame C W) [] closed)
-  pub at_finish : IsTrue (value W)
+  pub at_finish : Truth (value W)
 
 -- What two programs share that differ in boxes: the type and the circuit. Their results differ in boxes at most; if the type is a
 -- wire type, a result is a label tuple, and they share it too.
@@ -78,4 +78,4 @@ pub record SameBuilt (A A' : Ty) (C C' : Circuit) (W W' : Term) : Type 0 where
   pub same_type : A ≡ A'
   pub same_circuit : C ≡ C'
   pub results_differ : DifferInBoxes W W'
-  pub same_result : IsTrue (is_wire_type A) → W ≡ W'
+  pub same_result : Truth (is_wire_type A) → W ≡ W'

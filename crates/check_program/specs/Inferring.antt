@@ -1,5 +1,5 @@
 -- The contracts of the functions that check a term on bytes.
-use Rattle.std.specs.Prelude.{ℕ, zero, suc, ◌+◌, ◌*◌, ◌≤◌, ◌≡◌, Bool, true, false, cond, List, T as IsTrue, eqb, length, set}
+use Rattle.std.specs.Prelude.{ℕ, zero, suc, ◌+◌, ◌*◌, ◌≤◌, ◌≡◌, Bool, true, false, cond, List, T as Truth, eqb, length, set}
 use Rattle.std.proofs.Math.Option.{Option, none, some}
 use Rattle.rules.specs.Kinds.{label_kind, abstraction_kind, let_kind, lift_kind}
 use Rattle.rules.specs.Types.{Wire, Ty}
@@ -35,9 +35,9 @@ pub record Ready (f w : List ℕ) (e binders lifts cells : ℕ) (L : List Wire) 
   pub entries_fit : entry_count f ≤ most_file_entries
   pub term_at_lem : TermAt f e M n
   pub ends : n ≤ entry_count f
-  pub closed : IsTrue (closed_under (length Γ) M)
-  pub labels_below_lem : IsTrue (labels_below (length L) M)
-  pub gates_known_lem : IsTrue (gates_known M)
+  pub closed : Truth (closed_under (length Γ) M)
+  pub labels_below_lem : Truth (labels_below (length L) M)
+  pub gates_known_lem : Truth (gates_known M)
   pub binders_are : binders ≡ length Γ
   pub cells_fit : cells + nodes M ≤ most_cells
   pub binders_fit : length Γ + 2 * nodes M ≤ most_binders

@@ -1,5 +1,5 @@
 -- What each answer of the check of a listing means (02, ticket 3). The last record is proved in Theorems/Listings.
-use Rattle.std.specs.Prelude.{ℕ, ◌≤◌, ◌<◌, ◌≡◌, ◌↔◌, ◌⊎◌, List, T as IsTrue, length}
+use Rattle.std.specs.Prelude.{ℕ, ◌≤◌, ◌<◌, ◌≡◌, ◌↔◌, ◌⊎◌, List, T as Truth, length}
 use Rattle.rules.specs.Types.{Wire, Bit, Qubit}
 use Rattle.rules.specs.Gates.{is_gate}
 use Rattle.rules.specs.Slots.{no_wire}
@@ -42,7 +42,7 @@ pub data EntryWrong (b : List ℕ) (i : ℕ) : Type 0 where
       → (kind_at b i ≡ input_kind Bit → ⊥)
       → (kind_at b i ≡ input_kind Qubit → ⊥)
       → EntryWrong b i
-  gate_kind_lem : input_count b ≤ i → (IsTrue (is_gate (kind_at b i)) → ⊥) → EntryWrong b i
+  gate_kind_lem : input_count b ≤ i → (Truth (is_gate (kind_at b i)) → ⊥) → EntryWrong b i
   unused_slot : {k : ℕ} → slots_used b i ≤ k → k < entry_slots → (slot_at b i k ≡ no_wire → ⊥) → EntryWrong b i
 
 -- Such an entry of the listing.

@@ -1,5 +1,5 @@
 // Label tuples: as nodes of a term, as the results of closed circuits, and as the tuple of a type's wires.
-ghost use Rattle.std.specs.Prelude.{ℕ, ◌+◌, ◌-◌, ◌^◌, ◌≤◌, ◌<◌, ◌≡◌, T as IsTrue, length, get_or, set, take, drop};
+ghost use Rattle.std.specs.Prelude.{ℕ, ◌+◌, ◌-◌, ◌^◌, ◌≤◌, ◌<◌, ◌≡◌, T as Truth, length, get_or, set, take, drop};
 ghost use Rattle.std.proofs.Math.Option.{some};
 ghost use Rattle.rules.specs.Types.{Ty, is_wire_type, wires, entries, type_codes};
 ghost use Rattle.rules.specs.Terms.{Tuple};
@@ -225,7 +225,7 @@ fn write_type(
 ) -> TupleSize
     requires count_in_bounds { count ≤ length (codes_of (words types.now) source) - position }
     requires count_bound { position + count < 2 ^ 64 }
-    ensures { (T : Ty) → IsTrue (is_wire_type T) → Stands (codes_of (words types.now) source) position (type_codes T) → count ≡ entries T
+    ensures { (T : Ty) → Truth (is_wire_type T) → Stands (codes_of (words types.now) source) position (type_codes T) → count ≡ entries T
         → to + entries T ≤ length (nodes_in nodes.old) → first + length (wires T) ≤ no_wire
         → TupleWritten T first (nodes_in nodes.old) (nodes_in nodes.new) to result.nodes result.labels }
 {
@@ -270,7 +270,7 @@ pub fn write_tuple(
     to: usize,
     first: usize,
 ) -> TupleSize
-    ensures { (T : Ty) → IsTrue (is_wire_type T) → Stands (words types.now) position (type_codes T) → count ≡ entries T
+    ensures { (T : Ty) → Truth (is_wire_type T) → Stands (words types.now) position (type_codes T) → count ≡ entries T
         → to + entries T ≤ length (nodes_in nodes.old) → first + length (wires T) ≤ no_wire
         → TupleWritten T first (nodes_in nodes.old) (nodes_in nodes.new) to result.nodes result.labels }
 {

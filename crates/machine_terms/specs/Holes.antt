@@ -1,5 +1,5 @@
 -- Where evaluation stands: the nodes opened on the way to the tree in hand. All open boxes make one context.
-use Rattle.std.specs.Prelude.{ℕ, zero, suc, ◌≡◌, Bool, true, false, List, [], ◌∷◌, ◌++◌, T as IsTrue}
+use Rattle.std.specs.Prelude.{ℕ, zero, suc, ◌≡◌, Bool, true, false, List, [], ◌∷◌, ◌++◌, T as Truth}
 use Rattle.machine_terms.specs.Trees.{Node, kind, Tree, leaf, one, two, preorder, OneKind, an_abstraction, a_lift}
 use Rattle.machine_terms.specs.Trees.{a_force, a_box, one_kind, TwoKind, an_application, a_pair, a_let, an_apply}
 use Rattle.machine_terms.specs.Trees.{two_kind, OneFits, TwoFits, WellKinded, value_tree}
@@ -92,12 +92,12 @@ is_lift (two n t u) = false
 
 -- The hole's node is one that evaluation opens so, its trees are well-kinded, and what stands before is a value.
 abbrev pub HoleFits : ℕ → ℕ → Hole → Type 0
-HoleFits positions closed (only n) = OneFits positions n × IsTrue (waits (one_kind (kind n)))
+HoleFits positions closed (only n) = OneFits positions n × Truth (waits (one_kind (kind n)))
 HoleFits positions closed (first n u) = TwoFits n × WellKinded positions closed u
 HoleFits positions closed (second n v) =
-    TwoFits n × IsTrue (goes_right (two_kind (kind n))) × WellKinded positions closed v × IsTrue (value_tree v)
+    TwoFits n × Truth (goes_right (two_kind (kind n))) × WellKinded positions closed v × Truth (value_tree v)
 HoleFits positions closed (opened n b) =
-    OneFits positions n × (one_kind (kind n) ≡ a_box) × WellKinded positions closed b × IsTrue (is_lift b)
+    OneFits positions n × (one_kind (kind n) ≡ a_box) × WellKinded positions closed b × Truth (is_lift b)
 
 -- All holes fit.
 abbrev pub HolesFit : ℕ → ℕ → List Hole → Type 0

@@ -1,6 +1,6 @@
 -- The walk: from the tree in hand to the next redex, node by node (000, section 3.2, with the continuations laid out
 -- as holes). 01: "left part first, then right; never under abstraction or lift, nor in let's second part".
-use Rattle.std.specs.Prelude.{ℕ, zero, suc, ◌+◌, ◌*◌, List, [], ◌∷◌, ◌++◌, ◌≡◌, T as IsTrue, length}
+use Rattle.std.specs.Prelude.{ℕ, zero, suc, ◌+◌, ◌*◌, List, [], ◌∷◌, ◌++◌, ◌≡◌, T as Truth, length}
 use Rattle.machine_terms.specs.Trees.{Node, kind, Tree, leaf, one, two, preorder, LeafKind, a_variable, a_label}
 use Rattle.machine_terms.specs.Trees.{a_gate, a_constant, leaf_kind, OneKind, an_abstraction, a_lift, a_force, a_box}
 use Rattle.machine_terms.specs.Trees.{one_kind, TwoKind, an_application, a_pair, a_let, an_apply, two_kind, WellKinded}
@@ -116,7 +116,7 @@ walk w = moves (moves_left w) w
 abbrev pub WalkFits : ℕ → ℕ → Walk → Type 0
 WalkFits positions closed (evaluating t hs) = WellKinded positions closed t × HolesFit positions closed hs
 WalkFits positions closed (returning v hs) =
-    WellKinded positions closed v × IsTrue (value_tree v) × HolesFit positions closed hs
+    WellKinded positions closed v × Truth (value_tree v) × HolesFit positions closed hs
 
 -- The states at which the walk stops.
 pub data Stopped : Walk → Stop → Type 0 where

@@ -7,7 +7,7 @@
 
 pub mod stack;
 
-ghost use Rattle.std.specs.Prelude.{ℕ, ◌<◌, ◌≡◌, List, true, false, T as IsTrue, length};
+ghost use Rattle.std.specs.Prelude.{ℕ, ◌<◌, ◌≡◌, List, true, false, T as Truth, length};
 ghost use Rattle.rules.specs.Kinds.{pair_kind};
 ghost use Rattle.machine_terms.specs.Trees.{kind, one_kind, two_kind};
 ghost use Rattle.machine_terms.specs.Holes.{waits};
@@ -171,7 +171,7 @@ fn evaluate(nodes: &mut [u8], stack: &mut [u8], place: Place) -> Moved
 
 // The stop at a node of one part whose part is a value.
 fn stop_one(kind: usize) -> Stop
-    ensures { IsTrue (waits (one_kind kind)) → stop_of result ≡ stop_one (one_kind kind) }
+    ensures { Truth (waits (one_kind kind)) → stop_of result ≡ stop_one (one_kind kind) }
 {
     if kind == FORCE {
         Stop::AtForce

@@ -1,5 +1,5 @@
 -- The text of a listing in OpenQASM 2.0 (02, ticket 4), to the byte.
-use Rattle.std.specs.Prelude.{ℕ, suc, ◌+◌, ◌*◌, Bool, true, false, List, [], ◌∷◌, ◌++◌, map, T as IsTrue, length, get_or}
+use Rattle.std.specs.Prelude.{ℕ, suc, ◌+◌, ◌*◌, Bool, true, false, List, [], ◌∷◌, ◌++◌, map, T as Truth, length, get_or}
 use Prim.Native.String.{String}
 use Rattle.std.proofs.Math.Option.{Option, none, some}
 use Rattle.rules.specs.Types.{Wire, Bit, Qubit}
@@ -69,7 +69,7 @@ has_statement n = is_written (nth statements n)
 -- Each of these gates has a statement.
 abbrev pub AllWritten : List Gate → Type 0
 AllWritten [] = Unit {0}
-AllWritten ((n on ws) ∷ gs) = IsTrue (has_statement n) × AllWritten gs
+AllWritten ((n on ws) ∷ gs) = Truth (has_statement n) × AllWritten gs
 
 -- The line of a gate whose wires are in register r and, as far as there are more, in registers s and t.
 abbrev pub statement_line : Option Statement → ℕ → ℕ → ℕ → List ℕ

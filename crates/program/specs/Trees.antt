@@ -1,6 +1,6 @@
 -- The trees of a program file (01, "Program file"): the types and the term that stand in it, what `read` tests of them, and
 -- the file that is written for a term.
-use Rattle.std.specs.Prelude.{ℕ, suc, ◌+◌, ◌*◌, ◌≤◌, ◌<◌, ◌≡◌, Bool, true, ◌&&◌, List, T as IsTrue, ltb, length}
+use Rattle.std.specs.Prelude.{ℕ, suc, ◌+◌, ◌*◌, ◌≤◌, ◌<◌, ◌≡◌, Bool, true, ◌&&◌, List, T as Truth, ltb, length}
 use Rattle.std.proofs.Math.Option.{some}
 use Rattle.rules.specs.Kinds.{bit_kind, qubit_kind, pair_type_kind, function_kind, reusable_kind, circuit_kind, unit_kind}
 use Rattle.rules.specs.Kinds.{variable_kind, label_kind, abstraction_kind, application_kind, pair_kind, let_kind}
@@ -157,14 +157,14 @@ pub record AcceptedFile (f : List ℕ) (labels : List Wire) (M : Term) : Type 0 
   -- 5: the arguments of labels and types.
   pub arguments_zero : (e : ℕ) → e < first_term f → argument_at f e ≡ 0
   -- 4, 6 and 7: at each position of the type section stands a type, and its Circs are of wire types.
-  pub type_at : (p : ℕ) → p < type_count f → (A : Ty) × TypeAtPosition f p A × IsTrue (formed A)
+  pub type_at : (p : ℕ) → p < type_count f → (A : Ty) × TypeAtPosition f p A × Truth (formed A)
   -- 4, 5 and 8: the term section is one whole term.
   pub term_at_lem : TermAt f (first_term f) M (entry_count f)
-  pub is_source : IsTrue (source M)
+  pub is_source : Truth (source M)
   -- 5: the labels and gates that the term names are there.
-  pub labels_below_lem : IsTrue (labels_below (label_count f) M)
-  pub gates_known_lem : IsTrue (gates_known M)
+  pub labels_below_lem : Truth (labels_below (label_count f) M)
+  pub gates_known_lem : Truth (gates_known M)
   -- 7: its boxes are of wire types.
-  pub boxes_wired_lem : IsTrue (boxes_wired M)
+  pub boxes_wired_lem : Truth (boxes_wired M)
   -- 9: each of its variables has a binder.
-  pub closed : IsTrue (closed_under 0 M)
+  pub closed : Truth (closed_under 0 M)

@@ -6,7 +6,7 @@ use mathlib.Core.Path.{◌≡◌, refl, sym, ◌∙◌, ap, subst}
 use mathlib.Core.Bool.{Bool, true, ◌&&◌}
 use mathlib.Core.List.{List, [], ◌∷◌, map}
 use mathlib.Core.Option.{Option, none, some}
-use lib.Dec.{T as IsTrue, leb, ltb, leb→le, leb-zero, leb-suc-zero, leb-suc-suc}
+use lib.Dec.{T as Truth, leb, ltb, leb→le, leb-zero, leb-suc-zero, leb-suc-suc}
 use lib.ListN.{length, get_or, get_or-eq_default}
 use Rattle.rules.specs.Gates.{GateType, nth, gate_table, gate_type, is_some}
 use Rattle.rules.specs.GateCodes.{code_at, circ_codes, type_code, filled}
@@ -18,7 +18,7 @@ abbrev pub tests : (Option GateType → Bool) → List GateType → Bool
 tests f [] = f none
 tests f (g ∷ l) = f (some g) && tests f l
 
-pub at_each : (f : Option GateType → Bool) (l : List GateType) → IsTrue (tests f l) → (n : ℕ) → IsTrue (f (nth l n))
+pub at_each : (f : Option GateType → Bool) (l : List GateType) → Truth (tests f l) → (n : ℕ) → Truth (f (nth l n))
 at_each f [] t n = t
 at_each f (g ∷ l) t zero = and_left (f (some g)) (tests f l) t
 at_each f (g ∷ l) t (suc n) = at_each f l (and_right (f (some g)) (tests f l) t) n
@@ -67,7 +67,7 @@ abbrev all_below : ℕ → List ℕ → Bool
 all_below m [] = true
 all_below m (k ∷ ks) = ltb k m && all_below m ks
 
-below_at : (m : ℕ) (ks : List ℕ) → IsTrue (all_below m ks) → (n : ℕ) → n < length ks → get_or ks n 0 < m
+below_at : (m : ℕ) (ks : List ℕ) → Truth (all_below m ks) → (n : ℕ) → n < length ks → get_or ks n 0 < m
 below_at m [] t n h = absurd (omega arith)
 below_at m (k ∷ ks) t zero h = leb→le (suc k) m (and_left (ltb k m) (all_below m ks) t)
 below_at m (k ∷ ks) t (suc n) h = below_at m ks (and_right (ltb k m) (all_below m ks) t) n (omega arith)

@@ -1,6 +1,6 @@
 -- Evaluation contexts (000, definition 2.15). 01: "left part first, then right; never under abstraction or lift, nor in
 -- let's second part".
-use Rattle.std.specs.Prelude.{T as IsTrue}
+use Rattle.std.specs.Prelude.{T as Truth}
 use Rattle.rules.specs.Types.{Ty}
 use Rattle.rules.specs.Terms.{Term, application, pair, let_in, force, box, apply, value}
 
@@ -8,14 +8,14 @@ use Rattle.rules.specs.Terms.{Term, application, pair, let_in, force, box, apply
 pub data EvaluationContext : Type 0 where
   hole : EvaluationContext
   application_left : EvaluationContext → Term → EvaluationContext
-  application_right : (W : Term) → IsTrue (value W) → EvaluationContext → EvaluationContext
+  application_right : (W : Term) → Truth (value W) → EvaluationContext → EvaluationContext
   pair_left : EvaluationContext → Term → EvaluationContext
-  pair_right : (W : Term) → IsTrue (value W) → EvaluationContext → EvaluationContext
+  pair_right : (W : Term) → Truth (value W) → EvaluationContext → EvaluationContext
   let_first : EvaluationContext → Term → EvaluationContext
   force_of : EvaluationContext → EvaluationContext
   box_of : Ty → EvaluationContext → EvaluationContext
   apply_left : EvaluationContext → Term → EvaluationContext
-  apply_right : (W : Term) → IsTrue (value W) → EvaluationContext → EvaluationContext
+  apply_right : (W : Term) → Truth (value W) → EvaluationContext → EvaluationContext
 
 -- E[M].
 abbrev pub plug : EvaluationContext → Term → Term

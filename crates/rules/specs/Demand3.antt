@@ -1,5 +1,5 @@
 -- Demand 3, as 01's "Words of demand 3" and "Agreed between us" put it. Its proof is theorem `demand3_from` of Theorems.Safety.
-use Rattle.std.specs.Prelude.{ℕ, suc, ◌≡◌, ◌⊎◌, List, [], ◌∷◌, T as IsTrue}
+use Rattle.std.specs.Prelude.{ℕ, suc, ◌≡◌, ◌⊎◌, List, [], ◌∷◌, T as Truth}
 use Rattle.std.proofs.Math.Option.{none}
 use Rattle.rules.specs.Types.{Wire, Ty, Circ, is_wire_type, wires}
 use Rattle.rules.specs.Terms.{Tuple, labels, Gate, Boxed, boxed, Term, constant, lift, box, value, tuple, term_labels}
@@ -45,7 +45,7 @@ pub data ProgramHas (A : Ty) : Configuration → Type 0 where
 
 -- 01: "Finished: one frame, its term a value."
 pub data Finished : Configuration → Type 0 where
-  finished : {C : Circuit} {M : Term} {K : List Boxed} → IsTrue (value M) → Finished (configuration (frame C M) [] K)
+  finished : {C : Circuit} {M : Term} {K : List Boxed} → Truth (value M) → Finished (configuration (frame C M) [] K)
 
 -- Every circuit open: each wire is made once and taken at most once, by a later gate of its type (Sound).
 pub data OpenSound : List Frame → Type 0 where
@@ -106,4 +106,4 @@ pub record Demand3 (allowance : ℕ) (c₀ : Configuration) (A : Ty) (n : ℕ) (
   -- When a program finishes, whatever its type, each wire has gone exactly once, to a gate or into the finished term.
   pub gone : Finished c → AllGone c
   -- If its type is a wire type, the finished term is a label tuple, which holds each loose wire exactly once.
-  pub gone_to_outputs : IsTrue (is_wire_type A) → Finished c → GoneToTuple c
+  pub gone_to_outputs : Truth (is_wire_type A) → Finished c → GoneToTuple c

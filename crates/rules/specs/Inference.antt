@@ -1,6 +1,6 @@
 -- What the check computes with: uses of variables and labels, and the type that a rule of 01, "Typing", gives a node from the
 -- types of its parts.
-use Rattle.std.specs.Prelude.{ℕ, suc, ◌+◌, Bool, true, false, ◌&&◌, not, List, ◌∷◌, T as IsTrue, eqb, leb}
+use Rattle.std.specs.Prelude.{ℕ, suc, ◌+◌, Bool, true, false, ◌&&◌, not, List, ◌∷◌, T as Truth, eqb, leb}
 use Rattle.std.proofs.Math.Option.{Option, none, some, map}
 use Rattle.rules.specs.Types.{Ty, wire, ◌⊗◌, ◌⊸◌, !◌, Circ, is_wire_type, copyable, entries, most_entries, Wire_discrete}
 use Rattle.rules.specs.Types.{Ty_discrete, unit}
@@ -12,7 +12,7 @@ use Rattle.rules.specs.Typing.{LabelContext}
 
 -- 01: "a variable of any other type is linear".
 abbrev pub Linear : Ty → Type 0
-Linear A = IsTrue (not (copyable A))
+Linear A = Truth (not (copyable A))
 
 -- How often a term uses a variable; all occurrences count, inside lifts and uncalled bodies too.
 abbrev pub uses : ℕ → Term → ℕ

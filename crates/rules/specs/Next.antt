@@ -1,5 +1,5 @@
 -- The step function: the next configuration, if there is one. It finds the redex from the root.
-use Rattle.std.specs.Prelude.{T as IsTrue, List, [], ◌∷◌, ℕ}
+use Rattle.std.specs.Prelude.{T as Truth, List, [], ◌∷◌, ℕ}
 use Rattle.std.proofs.Math.Option.{Option, none, some}
 use Rattle.rules.specs.Types.{Ty, wires}
 use Rattle.rules.specs.Gates.{GateType, ◌to◌, gate_type}
@@ -15,7 +15,7 @@ use Rattle.rules.specs.Values.{both_values}
 -- What evaluation finds in a term: a value; a part to reduce (000, definition 2.16) in its evaluation context; or a free
 -- variable, at which nothing goes on.
 pub data Found (M : Term) : Type 0 where
-  is_value_lem : IsTrue (value M) → Found M
+  is_value_lem : Truth (value M) → Found M
   reducible : EvaluationContext → Term → Found M
   free : Found M
 
@@ -23,7 +23,7 @@ pub data Found (M : Term) : Type 0 where
 abbrev pub within : {M N : Term}
     → (EvaluationContext → EvaluationContext)
     → Found M
-    → (IsTrue (value M) → Found N)
+    → (Truth (value M) → Found N)
     → Found N
 within inside (is_value_lem v) then = then v
 within inside (reducible E R) then = reducible (inside E) R

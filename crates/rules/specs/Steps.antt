@@ -1,5 +1,5 @@
 -- The stacked semantics (000, section 3.1, with the reductions of 2.5; 01, "Steps").
-use Rattle.std.specs.Prelude.{◌≡◌, T as IsTrue, List, [], ◌∷◌, ℕ}
+use Rattle.std.specs.Prelude.{◌≡◌, T as Truth, List, [], ◌∷◌, ℕ}
 use Rattle.std.proofs.Math.Option.{some}
 use Rattle.rules.specs.Types.{Wire, Ty, wires}
 use Rattle.rules.specs.Gates.{◌to◌, gate_type}
@@ -28,12 +28,12 @@ infix 20 ◌⟶◌
 -- the box's place.
 pub data ◌⟶◌ : Configuration → Configuration → Type 0 where
   β_reduction : {C : Circuit} {X : List Frame} {K : List Boxed} (E : EvaluationContext) (A : Ty) (M W : Term)
-      → IsTrue (value W)
+      → Truth (value W)
       → configuration (frame C (plug E (application (abstraction A M) W))) X K
       ⟶ configuration (frame C (plug E (substitute (W ∷ []) M))) X K
   let_step : {C : Circuit} {X : List Frame} {K : List Boxed} (E : EvaluationContext) (M W W' : Term)
-      → IsTrue (value W)
-      → IsTrue (value W')
+      → Truth (value W)
+      → Truth (value W')
       → configuration (frame C (plug E (let_in (pair W W') M))) X K
       ⟶ configuration (frame C (plug E (substitute (W' ∷ W ∷ []) M))) X K
   force_step : {C : Circuit} {X : List Frame} {K : List Boxed} (E : EvaluationContext) (M : Term)

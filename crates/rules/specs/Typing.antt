@@ -1,5 +1,5 @@
 -- The typing rules (000, section 2.3; 01, "Typing").
-use Rattle.std.specs.Prelude.{ℕ, zero, suc, ◌≤◌, ◌≡◌, ◌≢◌, T as IsTrue, List, [], ◌∷◌}
+use Rattle.std.specs.Prelude.{ℕ, zero, suc, ◌≤◌, ◌≡◌, ◌≢◌, T as Truth, List, [], ◌∷◌}
 use Rattle.std.proofs.Math.Option.{Option, none, some}
 use Rattle.rules.specs.Types.{Wire, Ty, wire, ◌⊗◌, ◌⊸◌, !◌, Circ, is_wire_type, copyable, wires, entries, most_entries}
 use Rattle.rules.specs.Types.{unit}
@@ -18,7 +18,7 @@ LabelContext = ℕ → Option Wire
 
 -- 01: "The types that may be copied and dropped".
 abbrev pub Copyable : Ty → Type 0
-Copyable A = IsTrue (copyable A)
+Copyable A = Truth (copyable A)
 
 -- How one entry of a context is shared out to two parts: to one of them, or to both if it may be copied.
 pub data Shares {X : Type 0} (MayCopy : X → Type 0) : Option X → Option X → Option X → Type 0 where
@@ -87,7 +87,7 @@ pub data ◌∣◌⊢◌∶◌ : Context → LabelContext → Term → Ty → Ty
   -- 01: "A constant has type Circ from T to U if its circuit is sound with T's wires as inputs, and its result, the
   -- label tuple at box exit, has type U and holds each loose wire exactly once."
   by_circ : {Γ : Context} {Q : LabelContext} {T U : Ty} {gs : List Gate} {r : Tuple}
-      → Parameter Γ → NoLabel Q → IsTrue (is_wire_type T) → Bounded (Circ T U) → Sound (wires T) gs
+      → Parameter Γ → NoLabel Q → Truth (is_wire_type T) → Bounded (Circ T U) → Sound (wires T) gs
       → [] ∣ loose (wires T) gs ⊢ tuple r ∶ U
       → Γ ∣ Q ⊢ constant (boxed T gs r) ∶ Circ T U
   by_abs : {Γ : Context} {Q : LabelContext} {A B : Ty} {M : Term}
@@ -110,7 +110,7 @@ pub data ◌∣◌⊢◌∶◌ : Context → LabelContext → Term → Ty → Ty
       → Γ ∣ Q ⊢ M ∶ ! A
       → Γ ∣ Q ⊢ force M ∶ A
   by_box : {Γ : Context} {Q : LabelContext} {T U : Ty} {M : Term}
-      → IsTrue (is_wire_type T) → IsTrue (is_wire_type U)
+      → Truth (is_wire_type T) → Truth (is_wire_type U)
       → Γ ∣ Q ⊢ M ∶ ! (T ⊸ U)
       → Γ ∣ Q ⊢ box T M ∶ Circ T U
   by_apply : {Γ Γ₁ Γ₂ : Context} {Q Q₁ Q₂ : LabelContext} {T U : Ty} {M N : Term}

@@ -1,6 +1,6 @@
 -- Demand 2 of a run: what each of its answers means by the rules (01, "When each operation says no", Run). The last record
 -- is proved in Theorems.Running.
-use Rattle.std.specs.Prelude.{ℕ, ◌≤◌, ◌<◌, ◌≡◌, ◌↔◌, ◌⊎◌, List, [], T as IsTrue, length}
+use Rattle.std.specs.Prelude.{ℕ, ◌≤◌, ◌<◌, ◌≡◌, ◌↔◌, ◌⊎◌, List, [], T as Truth, length}
 use Rattle.rules.specs.Types.{Ty, is_wire_type}
 use Rattle.rules.specs.Terms.{Tuple, Gate, Boxed, tuple}
 use Rattle.rules.specs.Circuits.{circuit}
@@ -18,7 +18,7 @@ use Rattle.run_answers.specs.Answers.{ran, declines, run_of}
 pub record AcceptedWires (f : List ℕ) : Type 0 where
   pub program_type : Ty
   pub accepted : check_of f ≡ accepts program_type
-  pub wire_type : IsTrue (is_wire_type program_type)
+  pub wire_type : Truth (is_wire_type program_type)
 
 -- A row of so many of the rules' steps, each of which fits, from the file's labels and term to c.
 abbrev pub StepsTo : List ℕ → ℕ → Configuration → Type 0
@@ -40,7 +40,7 @@ pub record Finishes (f : List ℕ) (limit steps gates : ℕ) (bytes : List ℕ) 
 pub record NoWireType (f : List ℕ) : Type 0 where
   pub program_type : Ty
   pub accepted : check_of f ≡ accepts program_type
-  pub no_wire_type : IsTrue (is_wire_type program_type) → ⊥
+  pub no_wire_type : Truth (is_wire_type program_type) → ⊥
 
 -- "21: the limit's steps are done and it is unfinished, even if the next would not fit."
 pub record LimitDone (f : List ℕ) (limit : ℕ) : Type 0 where

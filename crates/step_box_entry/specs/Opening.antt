@@ -1,5 +1,5 @@
 -- Box entry in lent memory: what is measured, and what is written.
-use Rattle.std.specs.Prelude.{ℕ, ◌+◌, ◌-◌, ◌≤◌, ◌<◌, ◌≡◌, Bool, true, false, List, T as IsTrue, length, drop}
+use Rattle.std.specs.Prelude.{ℕ, ◌+◌, ◌-◌, ◌≤◌, ◌<◌, ◌≡◌, Bool, true, false, List, T as Truth, length, drop}
 use Rattle.rules.specs.Kinds.{application_kind}
 use Rattle.rules.specs.Types.{Ty, is_wire_type, wires, entries, most_entries, type_codes}
 use Rattle.rules.specs.Terms.{tuple_from}
@@ -65,7 +65,7 @@ Measures ns rs ws p Exceeds = EntryExceeds ns rs ws p
 abbrev pub Writes : List Node → List Node → List ℕ → Entry → ℕ → Type 0
 Writes ns ns' ws e wide =
     (T : Ty) (t : Tree)
-    → IsTrue (is_wire_type T)
+    → Truth (is_wire_type T)
     → Stands ws e.position (type_codes T)
     → e.size ≡ entries T
     → Stands ns (e.at + 2) (preorder t)

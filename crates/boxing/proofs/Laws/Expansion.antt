@@ -1,5 +1,5 @@
 -- A typed row of steps to the finish is an evaluation: what the next configuration comes to, this one comes to.
-use Rattle.std.specs.Prelude.{ℕ, ◌≡◌, refl, List, [], ◌∷◌, T as IsTrue}
+use Rattle.std.specs.Prelude.{ℕ, ◌≡◌, refl, List, [], ◌∷◌, T as Truth}
 use Rattle.std.proofs.Common.{arith, sym, subst₂}
 use Rattle.std.proofs.Math.Option.{none}
 use Rattle.rules.specs.Types.{Wire, Ty, wires}
@@ -53,7 +53,7 @@ abbrev pub ComesFrom : Circuit → Term → Circuit → Term → Type 0
 ComesFrom C R C' R' = (D : Circuit) (W : Term) → C' ∣ R' ⇓ D ∣ W → C ∣ R ⇓ D ∣ W
 
 -- A value to the left of the place has evaluated.
-left_value : {C D : Circuit} {M W : Term} (C' : Circuit) → IsTrue (value M) → C ∣ M ⇓ D ∣ W → (C ≡ D) × (C' ∣ M ⇓ C' ∣ W)
+left_value : {C D : Circuit} {M W : Term} (C' : Circuit) → Truth (value M) → C ∣ M ⇓ D ∣ W → (C ≡ D) × (C' ∣ M ⇓ C' ∣ W)
 left_value {M = M} C' v d =
     let s = one_evaluation (value_evaluates M v) d in (s.0, comes_to s.1 (value_evaluates M v))
 
@@ -79,7 +79,7 @@ plug_comes (apply_right M v E) {C} f _ _ (apply_gate⇓ k d g e) =
     let s = left_value C v d in apply_gate⇓ k s.1 g (plug_comes E f _ _ (evaluates_as s.0 refl e))
 
 -- From a value nothing else comes than that value.
-value_comes : {C C' : Circuit} {M W : Term} → IsTrue (value W) → C ∣ M ⇓ C' ∣ W → ComesFrom C M C' W
+value_comes : {C C' : Circuit} {M W : Term} → Truth (value W) → C ∣ M ⇓ C' ∣ W → ComesFrom C M C' W
 value_comes {C} {M = M} {W} v e D X d =
     let s = one_evaluation (value_evaluates W v) d in subst₂ (λ D X. C ∣ M ⇓ D ∣ X) s.0 s.1 e
 

@@ -1,5 +1,5 @@
 -- A value evaluates to itself and to nothing else, and a term to at most one value.
-use Rattle.std.specs.Prelude.{ℕ, ◌≡◌, refl, List, [], ◌∷◌, T as IsTrue}
+use Rattle.std.specs.Prelude.{ℕ, ◌≡◌, refl, List, [], ◌∷◌, T as Truth}
 use Rattle.std.proofs.Common.{arith, sym, ap, ap₂, ◌∙◌, subst, subst₂}
 use Rattle.std.proofs.Math.Option.{some, some-injective}
 use Rattle.rules.specs.Types.{Wire, Ty}
@@ -13,7 +13,7 @@ use Rattle.boxing.proofs.Laws.Evaluation.{◌∣◌⇓◌∣◌, label⇓, gate�
 use Rattle.boxing.proofs.Laws.Evaluation.{lift⇓, force⇓, box⇓, apply_constant⇓, apply_gate⇓}
 
 -- 003, lemma: a value evaluates to itself and builds nothing.
-pub value_evaluates : (W : Term) {C : Circuit} → IsTrue (value W) → C ∣ W ⇓ C ∣ W
+pub value_evaluates : (W : Term) {C : Circuit} → Truth (value W) → C ∣ W ⇓ C ∣ W
 value_evaluates (variable n) v = absurd v
 value_evaluates (label ℓ) v = label⇓
 value_evaluates (gate n) v = gate⇓

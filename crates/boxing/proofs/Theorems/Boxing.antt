@@ -1,5 +1,5 @@
 -- Boxing does not change a circuit (02, ticket 10), over the rules.
-use Rattle.std.specs.Prelude.{◌≡◌, List, [], T as IsTrue}
+use Rattle.std.specs.Prelude.{◌≡◌, List, [], T as Truth}
 use Rattle.std.proofs.Common.{sym, ◌∙◌, subst}
 use Rattle.rules.specs.Types.{Wire, Ty, is_wire_type}
 use Rattle.rules.specs.Terms.{Tuple, Boxed, Term, value, tuple}
@@ -42,14 +42,14 @@ tuple_less k {M} e (one_less {N = P} o b) =
 
 -- The result of a program of wire type is a label tuple.
 finished_tuple : {A : Ty} {C : Circuit} {W : Term} {K : List Boxed}
-    → IsTrue (is_wire_type A)
-    → IsTrue (value W)
+    → Truth (is_wire_type A)
+    → Truth (value W)
     → ProgramHas A (configuration (frame C W) [] K)
     → (k : Tuple) × (W ≡ tuple k)
 finished_tuple t v (program_has (outermost (frame_has s d)) _) = canonical_wires t v d
 
 builds_tuple : {L : List Wire} {M : Term} {A : Ty} {C : Circuit} {W : Term}
-    → IsTrue (is_wire_type A)
+    → Truth (is_wire_type A)
     → Builds L M A C W
     → (k : Tuple) × (W ≡ tuple k)
 builds_tuple {L} t b = finished_tuple t b.at_finish (row_keeps b.row (start_has L b.has_type))
@@ -81,7 +81,7 @@ boxes_change_nothing {L} {A = A} {A'} {C' = C'} {W' = W'} m b b' =
       same_result = λ t.
           tuple_left (builds_tuple t b) l.result_less
           ∙ same.1
-          ∙ sym (tuple_left (builds_tuple (subst (λ B. IsTrue (is_wire_type B)) type t) b') l'.result_less);
+          ∙ sym (tuple_left (builds_tuple (subst (λ B. Truth (is_wire_type B)) type t) b') l'.result_less);
     }
 
 -- One spot: the two programs of 02.

@@ -1,6 +1,6 @@
 -- Pairs of programs that differ in boxes, by computation: each pair has one type and builds one circuit with one result, and the
 -- numbers of steps and of boxes closed differ. Last, two programs that are no such pair, and build two circuits.
-use Rattle.std.specs.Prelude.{ℕ, ◌≡◌, refl, List, [], ◌∷◌, T as IsTrue, length}
+use Rattle.std.specs.Prelude.{ℕ, ◌≡◌, refl, List, [], ◌∷◌, T as Truth, length}
 use Rattle.std.proofs.Math.Option.{Option, none, some}
 use Rattle.rules.specs.Types.{Wire, Qubit, Ty, unit, ◌⊗◌, ◌⊸◌, !◌, Circ}
 use Rattle.rules.specs.Gates.{Init, Discard, CCX, nth}
@@ -36,7 +36,7 @@ abbrev pub Runs : List Wire → Term → Ty → Circuit → Term → Cost → Ty
 Runs L M A C W (n steps_closing closed) =
     (infer [] (nth L) M ≡ some A)
     × (finish_of (after n (start L M)) ≡ some (C giving W closing closed))
-    × IsTrue (value W)
+    × Truth (value W)
 
 -- A pair of programs: the spot, T, and the body and the argument of F, whose variable has the type T.
 pub record Pair : Type 0 where

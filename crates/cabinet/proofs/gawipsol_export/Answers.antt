@@ -1,7 +1,6 @@
 -- `cabinet::gawipsol_export` meets its contract: the answer packed, and the buffers as the operation leaves them. Assumes nothing.
 use mathlib.Core.Path.{◌∙◌, ap}
 use Rattle.cabinet_answers.specs.Packed.{packed_conversion}
-use borrow.Author.Rules.{rules}
 use Rattle.cabinet.proofs.gawipsol_export.Goals as goal
 
 pub returns : goal.returns

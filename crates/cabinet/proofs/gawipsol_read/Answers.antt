@@ -1,8 +1,6 @@
 -- `cabinet::gawipsol_read` meets its contract: the answer packed. Assumes nothing.
 use mathlib.Core.Path.{◌∙◌, ap}
 use Rattle.cabinet_answers.specs.Packed.{packed_read}
-use borrow.Author.Rules.{rules}
-use Rattle.cabinet.proofs.gawipsol_read.Lts as lts
 use Rattle.cabinet.proofs.gawipsol_read.Goals as goal
 
 pub returns : goal.returns

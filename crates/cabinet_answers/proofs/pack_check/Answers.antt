@@ -1,7 +1,6 @@
 -- `cabinet_answers::pack_check` meets its contract. Assumes nothing.
 use mathlib.Core.Path.{sym, ◌∙◌, ap}
 use Rattle.cabinet_answers.specs.Packed.{packed_length, packed_check}
-use borrow.Author.Rules.{rules}
 use Rattle.cabinet_answers.proofs.pack_check.Goals as goal
 
 pub returns-in-Accepted : goal.returns-in-Accepted

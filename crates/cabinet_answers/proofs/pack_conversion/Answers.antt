@@ -1,7 +1,6 @@
 -- `cabinet_answers::pack_conversion` meets its contract. Assumes nothing.
 use mathlib.Core.Path.{sym, ◌∙◌, ap}
 use Rattle.cabinet_answers.specs.Packed.{packed_length, packed_conversion}
-use borrow.Author.Rules.{rules}
 use Rattle.cabinet_answers.proofs.pack_conversion.Goals as goal
 
 pub returns-in-Written : goal.returns-in-Written

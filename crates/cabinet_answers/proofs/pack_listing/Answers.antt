@@ -1,7 +1,6 @@
 -- `cabinet_answers::pack_listing` meets its contract. Assumes nothing.
 use mathlib.Core.Path.{sym, ◌∙◌, ap}
 use Rattle.cabinet_answers.specs.Packed.{packed_listing}
-use borrow.Author.Rules.{rules}
 use Rattle.cabinet_answers.proofs.pack_listing.Goals as goal
 
 pub returns-in-Accepted : goal.returns-in-Accepted

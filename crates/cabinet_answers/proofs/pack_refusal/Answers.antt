@@ -1,7 +1,6 @@
 -- `cabinet_answers::pack_refusal` meets its contract. Assumes nothing.
 use mathlib.Core.Path.{ap₂}
 use Rattle.cabinet_answers.specs.Packed.{packed_refusal}
-use borrow.Author.Rules.{rules}
 use Rattle.cabinet_answers.proofs.pack_refusal.Goals as goal
 
 pub returns : goal.returns

@@ -1,7 +1,6 @@
 -- `cabinet_answers::pack_run` meets its contract. Assumes nothing.
 use mathlib.Core.Path.{sym, ◌∙◌, ap}
 use Rattle.cabinet_answers.specs.Packed.{packed_run}
-use borrow.Author.Rules.{rules}
 use Rattle.cabinet_answers.proofs.pack_run.Goals as goal
 
 pub returns-in-Finished : goal.returns-in-Finished

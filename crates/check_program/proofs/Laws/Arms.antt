@@ -3,7 +3,7 @@ use Rattle.std.specs.Prelude.{ℕ, suc, ◌+◌, ◌≤◌, ◌<◌, ◌≡◌, 
 use Rattle.std.proofs.Common.{arith, sym, ◌∙◌, subst}
 use Rattle.std.proofs.Math.Path.{refl, ap}
 use Rattle.std.proofs.Math.Option.{Option, none, some}
-use Rattle.std.proofs.Math.Dec.{T as IsTrue}
+use Rattle.std.proofs.Math.Dec.{T as Truth}
 use Rattle.rules.specs.Types.{Wire, Ty}
 use Rattle.rules.specs.Terms.{Term}
 use Rattle.rules.specs.Sizes.{nodes}
@@ -179,7 +179,7 @@ module _ {f w w₂ : List ℕ} {e binders lifts cells : ℕ} {L : List Wire} {Γ
       (binding_pushed w binders cell lifts cells T env.room (omega arith) c l den)
       ).denotes
 
-  abstraction_uses : IsTrue (closed_under (suc (length Γ)) M) → IsTrue (labels_below (length L) M)
+  abstraction_uses : Truth (closed_under (suc (length Γ)) M) → Truth (labels_below (length L) M)
       → binding_uses w₂ (most_labels + binders) ≡ uses 0 M
   abstraction_uses closed below =
       let slot : most_labels + binders ≡ variable_binding (suc (length Γ)) 0 = omega arith in
@@ -264,7 +264,7 @@ module _ {f w : List ℕ} {e binders lifts cells : ℕ} {L : List Wire} {Γ : Li
         go : (h' : OnePart) → Named f e h'
             → (g' : Gets (inside_memory h' f w e binders lifts) w₂ cells (binders_in h' lifts Γ) M n A u v first)
             → nodes (one h M) ≡ 1 + nodes M
-            → IsTrue (closed_under (length (binders_in h' lifts Γ)) M)
+            → Truth (closed_under (length (binders_in h' lifts Γ)) M)
             → misuse_at_abstraction h' (binding_uses w₂ (most_labels + binders)) e ≡ misuse_at_abstraction h' (uses 0 M) e
         go (of_abstraction T) t g' size closed =
             let c = ready.cells_fit in

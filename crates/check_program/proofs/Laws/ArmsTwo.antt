@@ -1,5 +1,5 @@
 -- The arm of the inference for a node of two parts.
-use Rattle.std.specs.Prelude.{ℕ, suc, ◌+◌, ◌≤◌, ◌<◌, ◌≡◌, refl, Bool, true, false, List, ◌∷◌, T as IsTrue, length}
+use Rattle.std.specs.Prelude.{ℕ, suc, ◌+◌, ◌≤◌, ◌<◌, ◌≡◌, refl, Bool, true, false, List, ◌∷◌, T as Truth, length}
 use Rattle.std.proofs.Common.{arith, sym, ◌∙◌, ap, subst, eq-eqb, ne_eqb}
 use Rattle.std.proofs.Math.Option.{Option, none, some, some-ne-none}
 use Rattle.rules.specs.Types.{Wire, Ty}
@@ -167,7 +167,7 @@ module _ {f w₂ w₃ : List ℕ} {m cells : ℕ} {L : List Wire} {Γ Δ : List 
         (binding_of (most_labels + (binders + 1)) (p.1 under lifts) (omega arith) second_held).denotes,
       )
 
-  module _ (closed : IsTrue (closed_under (length Δ) N)) (below : IsTrue (labels_below (length L) N))
+  module _ (closed : Truth (closed_under (length Δ) N)) (below : Truth (labels_below (length L) N))
       (fresh : Fresh of_let w₂ binders) where
     first_uses : binding_uses w₃ (most_labels + binders) ≡ uses 1 N
     first_uses =
@@ -211,7 +211,7 @@ module _ {f w₂ w₃ : List ℕ} {m cells : ℕ} {L : List Wire} {Δ : List Bin
   bindings_bound of_let A q = bindings_halved (as_pair A) q
   bindings_bound of_apply A q = tt
 
-  module _ (e : ℕ) (closed : IsTrue (closed_under (length Δ) N)) (below : IsTrue (labels_below (length L) N)) where
+  module _ (e : ℕ) (closed : Truth (closed_under (length Δ) N)) (below : Truth (labels_below (length L) N)) where
     uses_halved : (o : Option (Ty × Ty)) → halves lifts Γ o ≡ some Δ → Fresh of_let w₂ binders
         → own_halves o (binding_uses w₃ (most_labels + binders)) (binding_uses w₃ (most_labels + (binders + 1))) e ≡ own_halves o (uses 1 N) (uses 0 N) e
     uses_halved none q fresh = refl
@@ -309,7 +309,7 @@ module _ {f w : List ℕ} {e binders lifts cells : ℕ} {L : List Wire} {Γ : Li
             term_at_lem = d';
             ends = ready.ends;
             closed =
-                subst (λ k. IsTrue (closed_under k N)) (sym more_binders) (two_closed h M N (length Γ) ready.closed).1;
+                subst (λ k. Truth (closed_under k N)) (sym more_binders) (two_closed h M N (length Γ) ready.closed).1;
             labels_below_lem = (two_labels h M N (length L) ready.labels_below_lem).1;
             gates_known_lem = (two_gates h M N ready.gates_known_lem).1;
             binders_are = refl;

@@ -1,5 +1,5 @@
 -- Uses by binding, and by variable and label.
-use Rattle.std.specs.Prelude.{ℕ, suc, ◌+◌, ◌≤◌, ◌<◌, ◌≡◌, refl, Bool, true, false, T as IsTrue, eqb}
+use Rattle.std.specs.Prelude.{ℕ, suc, ◌+◌, ◌≤◌, ◌<◌, ◌≡◌, refl, Bool, true, false, T as Truth, eqb}
 use Rattle.std.proofs.Common.{add-one, arith, ◌∙◌, ap, ap₂, ltb→lt, eq-eqb, ne_eqb, eqb-true}
 use Rattle.std.proofs.Math.Numerals.{add-two}
 use Rattle.std.proofs.lemmas.Bool.{eqb-false}
@@ -74,7 +74,7 @@ same_binding d n x h b = go (eqb n x) refl
     go false q = ne_eqb (variable_binding d n) (variable_binding d x) (λ s. eqb-false n x q (omega arith))
 
 pub counted_variable : (d l n : ℕ) (M : Term)
-    → n < d → l ≤ most_labels → IsTrue (closed_under d M) → IsTrue (labels_below l M)
+    → n < d → l ≤ most_labels → Truth (closed_under d M) → Truth (labels_below l M)
     → counted d (variable_binding d n) M ≡ uses n M
 counted_variable d l n (variable x) h f c b = ap one_if (same_binding d n x h (ltb→lt x d c))
 counted_variable d l n (label ℓ) h f c b =

@@ -1,5 +1,5 @@
 -- Laws of specs/Heads.antt.
-use Rattle.std.specs.Prelude.{ℕ, suc, ◌+◌, ◌≤◌, ◌≡◌, refl, ◌&&◌, List, ◌∷◌, T as IsTrue, length}
+use Rattle.std.specs.Prelude.{ℕ, suc, ◌+◌, ◌≤◌, ◌≡◌, refl, ◌&&◌, List, ◌∷◌, T as Truth, length}
 use Rattle.std.proofs.Common.{add-zero, add-one, arith, sym, ◌∙◌, ap, subst}
 use Rattle.std.proofs.Math.Numerals.{add-two}
 use Rattle.std.proofs.Math.Option.{Option, none, some, some-ne-none}
@@ -236,31 +236,31 @@ module _ (h : OnePart) (M : Term) where
       go (of_box T) = refl
 
   pub one_closed : (lifts : ℕ) (Γ : List Binder)
-      → IsTrue (closed_under (length Γ) (one h M))
-      → IsTrue (closed_under (length (binders_in h lifts Γ)) M)
+      → Truth (closed_under (length Γ) (one h M))
+      → Truth (closed_under (length (binders_in h lifts Γ)) M)
   one_closed lifts Γ = go h
     where
       go : (h : OnePart)
-          → IsTrue (closed_under (length Γ) (one h M))
-          → IsTrue (closed_under (length (binders_in h lifts Γ)) M)
-      go (of_abstraction A) c = subst (λ b. IsTrue (closed_under b M)) (add-one (length Γ)) c
+          → Truth (closed_under (length Γ) (one h M))
+          → Truth (closed_under (length (binders_in h lifts Γ)) M)
+      go (of_abstraction A) c = subst (λ b. Truth (closed_under b M)) (add-one (length Γ)) c
       go of_lift c = c
       go of_force c = c
       go (of_box T) c = c
 
-  pub one_labels : (l : ℕ) → IsTrue (labels_below l (one h M)) → IsTrue (labels_below l M)
+  pub one_labels : (l : ℕ) → Truth (labels_below l (one h M)) → Truth (labels_below l M)
   one_labels l = go h
     where
-      go : (h : OnePart) → IsTrue (labels_below l (one h M)) → IsTrue (labels_below l M)
+      go : (h : OnePart) → Truth (labels_below l (one h M)) → Truth (labels_below l M)
       go (of_abstraction A) c = c
       go of_lift c = c
       go of_force c = c
       go (of_box T) c = c
 
-  pub one_gates : IsTrue (gates_known (one h M)) → IsTrue (gates_known M)
+  pub one_gates : Truth (gates_known (one h M)) → Truth (gates_known M)
   one_gates = go h
     where
-      go : (h : OnePart) → IsTrue (gates_known (one h M)) → IsTrue (gates_known M)
+      go : (h : OnePart) → Truth (gates_known (one h M)) → Truth (gates_known M)
       go (of_abstraction A) c = c
       go of_lift c = c
       go of_force c = c
@@ -307,17 +307,17 @@ module _ (h : TwoParts) (M N : Term) where
       go of_apply = refl
 
   pub two_closed : (b : ℕ)
-      → IsTrue (closed_under b (two h M N))
-      → IsTrue (closed_under b M) × IsTrue (closed_under (b + bound h) N)
+      → Truth (closed_under b (two h M N))
+      → Truth (closed_under b M) × Truth (closed_under (b + bound h) N)
   two_closed b = go h
     where
-      plain : IsTrue (closed_under b M && closed_under b N) → IsTrue (closed_under b M) × IsTrue (closed_under (b + 0) N)
+      plain : Truth (closed_under b M && closed_under b N) → Truth (closed_under b M) × Truth (closed_under (b + 0) N)
       plain c =
           (and_left (closed_under b M) (closed_under b N) c, rw add-zero (and_right (closed_under b M) (closed_under b N) c))
 
       go : (h : TwoParts)
-          → IsTrue (closed_under b (two h M N))
-          → IsTrue (closed_under b M) × IsTrue (closed_under (b + bound h) N)
+          → Truth (closed_under b (two h M N))
+          → Truth (closed_under b M) × Truth (closed_under (b + bound h) N)
       go of_application c = plain c
       go of_pair c = plain c
       go of_let c =
@@ -325,26 +325,26 @@ module _ (h : TwoParts) (M N : Term) where
       go of_apply c = plain c
 
   pub two_labels : (l : ℕ)
-      → IsTrue (labels_below l (two h M N))
-      → IsTrue (labels_below l M) × IsTrue (labels_below l N)
+      → Truth (labels_below l (two h M N))
+      → Truth (labels_below l M) × Truth (labels_below l N)
   two_labels l = go h
     where
-      both : IsTrue (labels_below l M && labels_below l N) → IsTrue (labels_below l M) × IsTrue (labels_below l N)
+      both : Truth (labels_below l M && labels_below l N) → Truth (labels_below l M) × Truth (labels_below l N)
       both c = (and_left (labels_below l M) (labels_below l N) c, and_right (labels_below l M) (labels_below l N) c)
 
-      go : (h : TwoParts) → IsTrue (labels_below l (two h M N)) → IsTrue (labels_below l M) × IsTrue (labels_below l N)
+      go : (h : TwoParts) → Truth (labels_below l (two h M N)) → Truth (labels_below l M) × Truth (labels_below l N)
       go of_application c = both c
       go of_pair c = both c
       go of_let c = both c
       go of_apply c = both c
 
-  pub two_gates : IsTrue (gates_known (two h M N)) → IsTrue (gates_known M) × IsTrue (gates_known N)
+  pub two_gates : Truth (gates_known (two h M N)) → Truth (gates_known M) × Truth (gates_known N)
   two_gates = go h
     where
-      both : IsTrue (gates_known M && gates_known N) → IsTrue (gates_known M) × IsTrue (gates_known N)
+      both : Truth (gates_known M && gates_known N) → Truth (gates_known M) × Truth (gates_known N)
       both c = (and_left (gates_known M) (gates_known N) c, and_right (gates_known M) (gates_known N) c)
 
-      go : (h : TwoParts) → IsTrue (gates_known (two h M N)) → IsTrue (gates_known M) × IsTrue (gates_known N)
+      go : (h : TwoParts) → Truth (gates_known (two h M N)) → Truth (gates_known M) × Truth (gates_known N)
       go of_application c = both c
       go of_pair c = both c
       go of_let c = both c

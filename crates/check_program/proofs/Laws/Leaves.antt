@@ -1,5 +1,5 @@
 -- The arm of the inference for nodes without parts.
-use Rattle.std.specs.Prelude.{ℕ, suc, ◌+◌, ◌*◌, ◌≤◌, ◌<◌, ◌≡◌, refl, Bool, true, false, List, T as IsTrue, eqb, length}
+use Rattle.std.specs.Prelude.{ℕ, suc, ◌+◌, ◌*◌, ◌≤◌, ◌<◌, ◌≡◌, refl, Bool, true, false, List, T as Truth, eqb, length}
 use Rattle.std.proofs.Common.{add-one, arith, sym, ◌∙◌, ap, subst, ltb→lt, length-set, get_or-set_same, get_or-set_other, eqb-true}
 use Rattle.std.proofs.Math.Option.{Option, none, some, map}
 use Rattle.std.proofs.lemmas.Bool.{eqb-false}
@@ -25,11 +25,11 @@ use Rattle.check_program.proofs.Laws.Heads.{of_variable, of_label, of_gate, of_u
 use Rattle.check_program.proofs.Laws.Heads.{shaped, no_parts, one_part, two_parts}
 use Rattle.check_program.specs.Inferring.{Ready, Gets, Answered, Possible, Meets, binding_at, used_once, SaysUsed}
 
-gate_there : (o : Option GateType) → IsTrue (is_some o) → (g : GateType) × (o ≡ some g)
+gate_there : (o : Option GateType) → Truth (is_some o) → (g : GateType) × (o ≡ some g)
 gate_there none t = absurd t
 gate_there (some g) t = (g, refl)
 
-known_gate : (x : ℕ) → IsTrue (is_gate x) → (g : GateType) × (gate_type x ≡ some g)
+known_gate : (x : ℕ) → Truth (is_gate x) → (g : GateType) × (gate_type x ≡ some g)
 unfolding is_gate
 known_gate x t = gate_there (gate_type x) t
 

@@ -1,5 +1,5 @@
 -- Laws of specs/Loading.antt.
-use Rattle.std.specs.Prelude.{ℕ, zero, suc, ◌+◌, ◌*◌, ◌-◌, ◌≤◌, ◌<◌, ◌≡◌, refl, Bool, true, false, List, [], T as IsTrue, eqb, length, take, drop}
+use Rattle.std.specs.Prelude.{ℕ, zero, suc, ◌+◌, ◌*◌, ◌-◌, ◌≤◌, ◌<◌, ◌≡◌, refl, Bool, true, false, List, [], T as Truth, eqb, length, take, drop}
 use Rattle.std.proofs.Common.{add-one, arith, sym, ◌∙◌, subst, length-take, length-drop, eqb-true}
 use Rattle.std.proofs.Math.Path.{ap}
 use Rattle.std.proofs.Math.Option.{Option, none, some, map, some-ne-none}
@@ -266,7 +266,7 @@ module _ {f : List ℕ} {labels : List Wire} {M : Term} (file : AcceptedFile f l
         term_at_lem = file.term_at_lem;
         ends = omega arith;
         closed = file.closed;
-        labels_below_lem = subst (λ k. IsTrue (labels_below k M)) (sym file.label_count_lem) file.labels_below_lem;
+        labels_below_lem = subst (λ k. Truth (labels_below k M)) (sym file.label_count_lem) file.labels_below_lem;
         gates_known_lem = file.gates_known_lem;
         binders_are = refl;
         cells_fit = omega arith;

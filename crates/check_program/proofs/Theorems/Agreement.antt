@@ -1,7 +1,7 @@
 -- The check agrees with the typing rules: it accepts a program with a type exactly if the rules derive that type with
 -- exactly the labels of the file. 01, "Typing": "The check must agree with 000's derivation rules, context splitting
 -- included".
-use Rattle.std.specs.Prelude.{ℕ, zero, suc, ◌+◌, ◌≤◌, ◌<◌, ◌≡◌, refl, ◌↔◌, ◌≢◌, Bool, true, false, ◌&&◌, not, cond, List, [], ◌∷◌, T as IsTrue, eqb, ltb, length}
+use Rattle.std.specs.Prelude.{ℕ, zero, suc, ◌+◌, ◌≤◌, ◌<◌, ◌≡◌, refl, ◌↔◌, ◌≢◌, Bool, true, false, ◌&&◌, not, cond, List, [], ◌∷◌, T as Truth, eqb, ltb, length}
 use Rattle.std.proofs.Common.{sym, ◌∙◌, ap, ap₂, subst, arith, eqb→eq, ltb→lt, lt→ltb}
 use Rattle.std.proofs.Math.Path.{subst₂}
 use Rattle.std.proofs.Math.Option.{Option, none, some, map, some-ne-none}
@@ -197,45 +197,45 @@ none_both none b = (λ h. (refl, h), λ h. h.1)
 none_both (some p) b = (λ h. absurd (some-ne-none p h), λ h. absurd (some-ne-none p h.0))
 
 -- No place is given where the test fails.
-none_if_false : (b : Bool) (e : ℕ) → (IsTrue b → ⊥) → if_so b e ≡ none
+none_if_false : (b : Bool) (e : ℕ) → (Truth b → ⊥) → if_so b e ≡ none
 none_if_false true e f = absurd (f tt)
 none_if_false false e f = refl
 
-false_if_none : (b : Bool) (e : ℕ) → if_so b e ≡ none → IsTrue b → ⊥
+false_if_none : (b : Bool) (e : ℕ) → if_so b e ≡ none → Truth b → ⊥
 false_if_none true e h t = some-ne-none e h
 false_if_none false e h t = t
 
 -- 17: the tests and what they say.
-pub used_wrongly→ : (A : Ty) (n : ℕ) → IsTrue (used_wrongly A n) → Linear A × (n ≢ 1)
+pub used_wrongly→ : (A : Ty) (n : ℕ) → Truth (used_wrongly A n) → Linear A × (n ≢ 1)
 used_wrongly→ A n t = go (linear A) t
   where
-    other : (b : Bool) → eqb n 1 ≡ b → IsTrue (not b) → n ≢ 1
+    other : (b : Bool) → eqb n 1 ≡ b → Truth (not b) → n ≢ 1
     other true h t k = t
-    other false h t k = subst IsTrue (ap (λ m. eqb m 1) (sym k) ∙ h) tt
+    other false h t k = subst Truth (ap (λ m. eqb m 1) (sym k) ∙ h) tt
 
-    go : (b : Bool) → IsTrue (b && not (eqb n 1)) → IsTrue b × (n ≢ 1)
+    go : (b : Bool) → Truth (b && not (eqb n 1)) → Truth b × (n ≢ 1)
     go true t = (tt, other (eqb n 1) refl t)
     go false t = absurd t
 
-pub →used_wrongly : (A : Ty) (n : ℕ) → Linear A → n ≢ 1 → IsTrue (used_wrongly A n)
+pub →used_wrongly : (A : Ty) (n : ℕ) → Linear A → n ≢ 1 → Truth (used_wrongly A n)
 →used_wrongly A n l h = go (linear A) l
   where
-    go : (b : Bool) → IsTrue b → IsTrue (b && not (eqb n 1))
+    go : (b : Bool) → Truth b → Truth (b && not (eqb n 1))
     go true t = not_T (eqb n 1) (λ t. h (eqb→eq n 1 t))
     go false t = absurd t
 
 -- 18: likewise.
-pub crosses→ : (A : Ty) (bound lifts : ℕ) → IsTrue (crosses A bound lifts) → Linear A × (bound < lifts)
+pub crosses→ : (A : Ty) (bound lifts : ℕ) → Truth (crosses A bound lifts) → Linear A × (bound < lifts)
 crosses→ A bound lifts t = go (linear A) t
   where
-    go : (b : Bool) → IsTrue (b && ltb bound lifts) → IsTrue b × (bound < lifts)
+    go : (b : Bool) → Truth (b && ltb bound lifts) → Truth b × (bound < lifts)
     go true t = (tt, ltb→lt bound lifts t)
     go false t = absurd t
 
-pub →crosses : (A : Ty) (bound lifts : ℕ) → Linear A → bound < lifts → IsTrue (crosses A bound lifts)
+pub →crosses : (A : Ty) (bound lifts : ℕ) → Linear A → bound < lifts → Truth (crosses A bound lifts)
 →crosses A bound lifts l h = go (linear A) l
   where
-    go : (b : Bool) → IsTrue b → IsTrue (b && ltb bound lifts)
+    go : (b : Bool) → Truth b → Truth (b && ltb bound lifts)
     go true t = lt→ltb bound lifts h
     go false t = absurd t
 
@@ -334,7 +334,7 @@ parts_none a b c p q w h = (
 one_use : (n : ℕ) → one_if (eqb n n) ≡ 0 → ⊥
 one_use n h = go (eqb n n) (eqb_refl n) h
   where
-    go : (b : Bool) → IsTrue b → one_if b ≡ 0 → ⊥
+    go : (b : Bool) → Truth b → one_if b ≡ 0 → ⊥
     go true t h = omega arith
     go false t h = t
 
@@ -580,7 +580,7 @@ none_wrong→once M ℓ (suc k) h p a b = go (eqb (label_uses ℓ M) 1) refl h (
     go : (t : Bool) → eqb (label_uses ℓ M) 1 ≡ t → cond t (wrong_label M (suc ℓ) k) (some ℓ) ≡ none
         → (wrong_label M (suc ℓ) k ≡ none → (q : ℕ) → suc ℓ ≤ q → q < suc ℓ + k → label_uses q M ≡ 1)
         → Dec (p ≡ ℓ) → label_uses p M ≡ 1
-    go true t h later (yes q) = ap (λ i. label_uses i M) q ∙ eqb→eq (label_uses ℓ M) 1 (subst IsTrue (sym t) tt)
+    go true t h later (yes q) = ap (λ i. label_uses i M) q ∙ eqb→eq (label_uses ℓ M) 1 (subst Truth (sym t) tt)
     go true t h later (no q) = later h p (omega arith) (omega arith)
     go false t h later d = absurd (some-ne-none ℓ h)
 
@@ -642,7 +642,7 @@ accepts→has L e M A h = go (check_term L [] 0 e M) refl h
 
 -- 01, "Typing": if the rules derive A for the term of a program, with exactly the labels of the file, the check accepts it
 -- with type A.
-pub has→accepts : (L : List Wire) (e : ℕ) (M : Term) (A : Ty) → IsTrue (source M)
+pub has→accepts : (L : List Wire) (e : ℕ) (M : Term) (A : Ty) → Truth (source M)
     → [] ∣ nth L ⊢ M ∶ A → verdict L e M ≡ has_type A
 has→accepts L e M A s t = go (check_term L [] 0 e M) refl
   where
@@ -664,6 +664,6 @@ has→accepts L e M A s t = go (check_term L [] 0 e M) refl
         rw (w, y, type) refl
 
 -- So the check and the typing rules agree on the terms of program files: the same programs, and the same types.
-pub check_is_typing : (L : List Wire) (e : ℕ) (M : Term) (A : Ty) → IsTrue (source M)
+pub check_is_typing : (L : List Wire) (e : ℕ) (M : Term) (A : Ty) → Truth (source M)
     → (verdict L e M ≡ has_type A) ↔ ([] ∣ nth L ⊢ M ∶ A)
 check_is_typing L e M A s = (accepts→has L e M A, has→accepts L e M A s)

@@ -1,5 +1,5 @@
 -- The check of a file: demand 2 of it, and what it accepts is safe.
-use Rattle.std.specs.Prelude.{ℕ, zero, suc, ◌≤◌, ◌≡◌, refl, ◌↔◌, ◌⊎◌, List, [], length, T as IsTrue}
+use Rattle.std.specs.Prelude.{ℕ, zero, suc, ◌≤◌, ◌≡◌, refl, ◌↔◌, ◌⊎◌, List, [], length, T as Truth}
 use Rattle.std.proofs.Common.{arith, sym, ◌∙◌, ap, ap₂, subst, inl, inr}
 use Rattle.std.proofs.Math.Option.{Option, none, some}
 use Rattle.rules.specs.Types.{Wire, Ty}
@@ -51,7 +51,7 @@ check_derives f A = (onward, back)
     back h =
         let r = h.0 in
         let t = read_sound f r.L r.P r.N r.read in
-        let s : IsTrue (source (term_of f)) = subst (λ M. IsTrue (source M)) (sym (program_read t.2)) t.2.is_source in
+        let s : Truth (source (term_of f)) = subst (λ M. Truth (source M)) (sym (program_read t.2)) t.2.is_source in
         ap (judged_as f) r.read ∙ ap judged (has→accepts (labels_of f) (first_term f) (term_of f) A s h.1)
 
 -- Demand 3 holds of every program that the check accepts.

@@ -1,6 +1,6 @@
 -- The places of the refusals 16, 17 and 18 (01, "Check, in number order"; 02, ticket 1): the theorems at the end say, for each of
 -- the three, when the check gives it, and that its place is the first such entry.
-use Rattle.std.specs.Prelude.{ℕ, zero, suc, ◌+◌, ◌≤◌, ◌<◌, ◌≡◌, refl, ◌↔◌, ◌≢◌, ◌⊎◌, Bool, true, false, cond, List, [], ◌∷◌, T as IsTrue, eqb, length}
+use Rattle.std.specs.Prelude.{ℕ, zero, suc, ◌+◌, ◌≤◌, ◌<◌, ◌≡◌, refl, ◌↔◌, ◌≢◌, ◌⊎◌, Bool, true, false, cond, List, [], ◌∷◌, T as Truth, eqb, length}
 use Rattle.std.proofs.Common.{sym, ◌∙◌, ap, subst, subst₂, inl, inr, arith, eqb→eq}
 use Rattle.std.proofs.Math.Option.{Option, none, some, map, some-ne-none}
 use Rattle.std.proofs.Math.Decide.{ℕ_discrete}
@@ -150,7 +150,7 @@ found_both (some p) b P Q behind h k = (
   λ q l x. elim x [ inl a ↦ h.1 q l a | inr c ↦ let y = behind p q h.0 c in absurd (omega arith) ],
 )
 
-found_if : (t : Bool) (e : ℕ) (X : Type 0) → X ↔ IsTrue t → Found (if_so t e) (λ p. (p ≡ e) × X)
+found_if : (t : Bool) (e : ℕ) (X : Type 0) → X ↔ Truth t → Found (if_so t e) (λ p. (p ≡ e) × X)
 found_if true e X h = ((refl, h.1 tt), λ q l x. let y = x.0 in absurd (omega arith))
 found_if false e X h = λ p x. h.0 x.1
 
@@ -223,7 +223,7 @@ one_part : (L : List Wire) (Γ Γ₁ : List Binder) (lifts lifts₁ e : ℕ) (K 
     → infer (types_of Γ) (nth L) K ≡ given (infer (types_of Γ₁) (nth L) M) rule
     → (Faulty L Γ lifts K → HasType L Γ₁ M)
     → (HasType L Γ₁ M → infer (types_of Γ) (nth L) K ≡ none → Faulty L Γ lifts K)
-    → BindsWrongly L Γ lifts K ↔ IsTrue t
+    → BindsWrongly L Γ lifts K ↔ Truth t
     → (UsesInside L Γ lifts K → ⊥)
     → (c : Checked) → Describes L Γ₁ lifts₁ (suc e) M c
     → Describes L Γ lifts e K (followed c λ A u v. ruled e (rule A) (earlier (if_so t e) u) v)
@@ -275,7 +275,7 @@ second_part : (L : List Wire) (Γ Γ₂ : List Binder) (lifts e : ℕ) (K M N : 
     → infer (types_of Γ) (nth L) K ≡ given (infer (types_of Γ₂) (nth L) N) rule
     → (Faulty L Γ lifts K → HasType L Γ₂ N)
     → (HasType L Γ₂ N → infer (types_of Γ) (nth L) K ≡ none → Faulty L Γ lifts K)
-    → X ↔ IsTrue s → Y ↔ IsTrue t
+    → X ↔ Truth s → Y ↔ Truth t
     → (BindsWrongly L Γ lifts K → X ⊎ Y) → (X ⊎ Y → BindsWrongly L Γ lifts K)
     → (UsesInside L Γ lifts K → ⊥)
     → Describes L Γ lifts (suc e) M (typed A u v)
@@ -438,7 +438,7 @@ let_binds : {L : List Wire} {Γ : List Binder} {lifts : ℕ} {M N : Term} (A B :
 let_binds A B h (by_let_first {A = A'} i l n) = let e : A' ≡ A = cc in inl (subst Linear e l, n)
 let_binds A B h (by_let_second {B = B'} i l n) = let e : B' ≡ B = cc in inr (subst Linear e l, n)
 
-wrong_use_lem : (A : Ty) (n : ℕ) → (Linear A × (n ≢ 1)) ↔ IsTrue (used_wrongly A n)
+wrong_use_lem : (A : Ty) (n : ℕ) → (Linear A × (n ≢ 1)) ↔ Truth (used_wrongly A n)
 wrong_use_lem A n = (λ h. →used_wrongly A n h.0 h.1, used_wrongly→ A n)
 
 -- A let whose first part has a pair type.
@@ -520,7 +520,7 @@ variable_described : (L : List Wire) (Γ : List Binder) (lifts e n : ℕ)
 variable_described L Γ lifts e n = go (nth Γ n) refl
   where
     inside : (A : Ty) (bound : ℕ) → nth Γ n ≡ some (A under bound)
-        → UsesInside L Γ lifts (variable n) → IsTrue (crosses A bound lifts)
+        → UsesInside L Γ lifts (variable n) → Truth (crosses A bound lifts)
     inside A bound h (of_variable {A = B} {bound = other} k l b) =
         let x : B ≡ A = cc in
         let y : other ≡ bound = cc in
@@ -540,7 +540,7 @@ label_described : (L : List Wire) (Γ : List Binder) (lifts e ℓ : ℕ)
     → Describes L Γ lifts e (label ℓ) (label_found e lifts (nth L ℓ))
 label_described L Γ lifts e ℓ = go (nth L ℓ) refl
   where
-    inside : (α : Wire) → UsesInside L Γ lifts (label ℓ) → IsTrue (crosses (wire α) 0 lifts)
+    inside : (α : Wire) → UsesInside L Γ lifts (label ℓ) → Truth (crosses (wire α) 0 lifts)
     inside α (of_label k b) = →crosses (wire α) 0 lifts tt b
 
     go : (o : Option Wire) → nth L ℓ ≡ o → Describes L Γ lifts e (label ℓ) (label_found e lifts o)
@@ -588,7 +588,7 @@ apply_parts : {L : List Wire} {Γ : List Binder} {lifts : ℕ} {M N : Term}
 apply_parts (rule_fails p h) = p
 
 abstraction_binds : {L : List Wire} {Γ : List Binder} {lifts : ℕ} {A : Ty} {M : Term}
-    → BindsWrongly L Γ lifts (abstraction A M) → IsTrue (used_wrongly A (uses 0 M))
+    → BindsWrongly L Γ lifts (abstraction A M) → Truth (used_wrongly A (uses 0 M))
 abstraction_binds {A = A} {M = M} (by_abstraction l n) = →used_wrongly A (uses 0 M) l n
 
 -- The check's result describes the term.
@@ -667,9 +667,9 @@ wrong_label_found M ℓ (suc k) = go (eqb (label_uses ℓ M) 1) refl (wrong_labe
         → Found (cond t (wrong_label M (suc ℓ) k) (some ℓ)) (λ p. (ℓ ≤ p) × (p < ℓ + suc k) × (label_uses p M ≢ 1))
     go true t f =
         found_same (wrong_label M (suc ℓ) k) _ _ later
-        (not_this (eqb→eq (label_uses ℓ M) 1 (subst IsTrue (sym t) tt))) f
+        (not_this (eqb→eq (label_uses ℓ M) 1 (subst Truth (sym t) tt))) f
     go false t f = (
-      (omega arith, omega arith, λ e. subst IsTrue (ap (λ n. eqb n 1) (sym e) ∙ t) tt),
+      (omega arith, omega arith, λ e. subst Truth (ap (λ n. eqb n 1) (sym e) ∙ t) tt),
       λ q l h. let a = h.0 in omega arith,
     )
 

@@ -1,7 +1,7 @@
 -- Bytes in the form of a listing are the listing of what is read from them, and a listing is read back as its parts.
 use Prim.Native.Nat.{ℕ, zero, suc, ◌+◌, ◌*◌, ◌/◌, ◌%◌, ◌≤◌, ◌<◌}
 use native.Mathlib.Omega.{arith}
-use Rattle.std.specs.Prelude.{◌≡◌, refl, ◌⊎◌, T as IsTrue, length, get_or}
+use Rattle.std.specs.Prelude.{◌≡◌, refl, ◌⊎◌, T as Truth, length, get_or}
 use Rattle.std.proofs.Common.{sym, ◌∙◌, ap₂, inl, inr, drop-cons}
 use Rattle.std.proofs.Math.Path.{ap, subst}
 use mathlib.Core.List.{List, [], ◌∷◌, ◌++◌, map, flat_map, append_assoc, append-nil, reverse-cons}
@@ -31,7 +31,7 @@ pub record InForm (b : List ℕ) : Type 0 where
   pub whole : length b ≡ listing_length (input_count b) (gate_count b) (output_count b)
   pub input_kinds : (i : ℕ) → i < input_count b → (kind_at b i ≡ input_kind Bit) ⊎ (kind_at b i ≡ input_kind Qubit)
   pub input_slots_lem : (i k : ℕ) → i < input_count b → k < entry_slots → slot_at b i k ≡ no_wire
-  pub gate_kinds : (j : ℕ) → j < gate_count b → IsTrue (is_gate (kind_at b (input_count b + j)))
+  pub gate_kinds : (j : ℕ) → j < gate_count b → Truth (is_gate (kind_at b (input_count b + j)))
   pub unused_slots : (j k : ℕ)
       → j < gate_count b
       → wires_in (kind_at b (input_count b + j)) ≤ k
@@ -294,7 +294,7 @@ module _ (b : List ℕ) (small : (i : ℕ) → get_or b i 0 < 256) (form : InFor
 
 -- A known gate.
 abbrev pub Known : Gate → Type 0
-Known (n on ws) = IsTrue (is_gate n) × (length ws ≡ wires_in n)
+Known (n on ws) = Truth (is_gate n) × (length ws ≡ wires_in n)
 
 -- Each of known gates is known.
 pub known_at : (gs : List Gate) → KnownGates gs → (j : ℕ) → j < length gs → Known (gate_at gs j)
@@ -306,7 +306,7 @@ known_at ((n on ws) ∷ gs) known j below =
 known_counted : (g : Gate) → Known g → Counted g
 known_counted (n on ws) known = (known.1, subst (λ k. k ≤ entry_slots) (sym known.1) (wires_fit n))
 
-known_kind : (g : Gate) → Known g → IsTrue (is_gate (gate_kind g))
+known_kind : (g : Gate) → Known g → Truth (is_gate (gate_kind g))
 known_kind (n on ws) known = known.0
 
 known_unused : (g : Gate) (k : ℕ) → Known g → wires_in (gate_kind g) ≤ k → k < entry_slots → get_or (gate_slots g) k 0 ≡ no_wire
@@ -376,7 +376,7 @@ module _ (I : List Wire) (gs : List Gate) (outs b : List ℕ) (same : b ≡ list
         input_slots_lem = λ i k below inside. input_slot_is I gs outs [] b nothing_behind i k (omega (arith, inputs)) inside;
         gate_kinds = λ j below.
             let there : j < length gs = omega (arith, gates) in
-            subst (λ n. IsTrue (is_gate n)) (sym (kind_of_gate j there))
+            subst (λ n. Truth (is_gate n)) (sym (kind_of_gate j there))
             (known_kind (gate_at gs j) (known_at gs known j there));
         unused_slots = λ j k below least inside.
             let there : j < length gs = omega (arith, gates) in

@@ -1,5 +1,5 @@
 -- What each stage of the check of a listing finds, in the words of Meaning, and the answer that comes of it.
-use Rattle.std.specs.Prelude.{ℕ, zero, suc, ◌+◌, ◌-◌, ◌*◌, ◌≤◌, ◌<◌, ◌≡◌, refl, ◌⊎◌, Bool, true, false, not, ◌||◌, List, [], ◌∷◌, T as IsTrue, eqb, ltb, length}
+use Rattle.std.specs.Prelude.{ℕ, zero, suc, ◌+◌, ◌-◌, ◌*◌, ◌≤◌, ◌<◌, ◌≡◌, refl, ◌⊎◌, Bool, true, false, not, ◌||◌, List, [], ◌∷◌, T as Truth, eqb, ltb, length}
 use Rattle.std.proofs.Common.{arith, sym, ◌∙◌, ap₂, subst, inl, inr, true≢false, ltb-true, ltb-false, lt-ltb, le-ltb}
 use Rattle.std.proofs.Math.Path.{ap}
 use Rattle.std.proofs.Math.Bool.{cond}
@@ -153,7 +153,7 @@ sizes_tested_right b e = of (sizes_wrong b) (sizes_told b) e
 abbrev KindWrong : List ℕ → ℕ → Type 0
 KindWrong b i =
     ((i < input_count b) × (kind_at b i ≡ input_kind Bit → ⊥) × (kind_at b i ≡ input_kind Qubit → ⊥))
-    ⊎ ((input_count b ≤ i) × (IsTrue (is_gate (kind_at b i)) → ⊥))
+    ⊎ ((input_count b ≤ i) × (Truth (is_gate (kind_at b i)) → ⊥))
 
 -- The test of an entry's kind says so, and that of its unused slots whether one of them has a wire.
 kind_told : (b : List ℕ) (i : ℕ) → Says (KindWrong b i) (not (kind_allowed b i))
@@ -184,8 +184,8 @@ kind_told b i = of_order (ltb i (input_count b)) (less_told i (input_count b))
       where
         right : KindWrong b i → ⊥
         right (inl w) = let l = w.0 in omega arith
-        right (inr w) = w.1 (subst IsTrue (sym e) tt)
-    of_gate h false e = says_yes (inr (h, λ g. subst IsTrue e g))
+        right (inr w) = w.1 (subst Truth (sym e) tt)
+    of_gate h false e = says_yes (inr (h, λ g. subst Truth e g))
 
     of_order : (t : Bool) → Says (i < input_count b) t
         → Says (KindWrong b i) (not (cond t (bit || qubit) (is_gate (kind_at b i))))
@@ -295,7 +295,7 @@ form_right b form i h = of_wrong h.0 h.1
     of_wrong : i < entry_count b → EntryWrong b i → ⊥
     of_wrong below (input_kind_lem l f g) = of_kind f g (form.input_kinds i l)
     of_wrong below (gate_kind_lem l f) =
-        f (subst (λ m. IsTrue (is_gate (kind_at b m))) (as_gate l) (form.gate_kinds (i - input_count b) (omega arith)))
+        f (subst (λ m. Truth (is_gate (kind_at b m))) (as_gate l) (form.gate_kinds (i - input_count b) (omega arith)))
     of_wrong below (unused_slot {k = k} least inside f) =
         f (of_slot k below least inside (ltb i (input_count b)) (less_told i (input_count b)))
 
@@ -331,10 +331,10 @@ right_form b sizes entries =
     of_kind i below _ _ (says_no f) (says_no g) = absurd (entries i (omega arith, input_kind_lem below f g))
 
     of_gate : (j : ℕ) → j < gate_count b → (t : Bool) → is_gate (kind_at b (input_count b + j)) ≡ t
-        → IsTrue (is_gate (kind_at b (input_count b + j)))
-    of_gate j below true e = subst IsTrue (sym e) tt
+        → Truth (is_gate (kind_at b (input_count b + j)))
+    of_gate j below true e = subst Truth (sym e) tt
     of_gate j below false e =
-        absurd (entries (input_count b + j) (omega arith, gate_kind_lem (omega arith) (λ g. subst IsTrue e g)))
+        absurd (entries (input_count b + j) (omega arith, gate_kind_lem (omega arith) (λ g. subst Truth e g)))
 
 -- THE ANSWER
 
@@ -416,7 +416,7 @@ pub sound_known : {I : List Wire} (gs : List Gate) → TakesEarlier I gs → Kno
 unfolding is_gate
 sound_known [] no_gate = tt
 sound_known ((n on ws) ∷ gs) (next_gate {T = T} {U = U} e o t) =
-    (subst (λ g. IsTrue (is_some g)) (sym e) tt, (one_counted n ws T U e o).0, sound_known gs t)
+    (subst (λ g. Truth (is_some g)) (sym e) tt, (one_counted n ws T U e o).0, sound_known gs t)
 
 -- What is read from a sound listing, and how many of each.
 pub record ReadBack (b : List ℕ) (L G O : ℕ) (I : List Wire) (gs : List Gate) (outs : List ℕ) : Type 0 where

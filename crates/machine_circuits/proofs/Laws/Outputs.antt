@@ -1,5 +1,5 @@
 -- The codes of a gate's type: Circ, its input, its output.
-use Rattle.std.specs.Prelude.{ℕ, zero, suc, ◌+◌, ◌-◌, ◌<◌, ◌≡◌, refl, Bool, ◌&&◌, List, [], ◌∷◌, ◌++◌, T as IsTrue, length, get_or, drop}
+use Rattle.std.specs.Prelude.{ℕ, zero, suc, ◌+◌, ◌-◌, ◌<◌, ◌≡◌, refl, Bool, ◌&&◌, List, [], ◌∷◌, ◌++◌, T as Truth, length, get_or, drop}
 use Rattle.std.proofs.Common.{arith, sym, ◌∙◌, ap, append-nil, length-append, drop_at}
 use Rattle.std.proofs.Math.Option.{some}
 use Rattle.rules.specs.Kinds.{circuit_kind}
@@ -38,10 +38,10 @@ code_of n i h = inside (gate_codes n) i h
 abbrev both_wires : GateType → Bool
 both_wires (T to U) = is_wire_type T && is_wire_type U
 
-pub input_wires_lem : (n : ℕ) (T U : Ty) → gate_type n ≡ some (T to U) → IsTrue (is_wire_type T)
+pub input_wires_lem : (n : ℕ) (T U : Ty) → gate_type n ≡ some (T to U) → Truth (is_wire_type T)
 input_wires_lem n T U e = and_left (is_wire_type T) (is_wire_type U) (every_nth both_wires gate_table n e tt)
 
-pub output_wires_lem : (n : ℕ) (T U : Ty) → gate_type n ≡ some (T to U) → IsTrue (is_wire_type U)
+pub output_wires_lem : (n : ℕ) (T U : Ty) → gate_type n ≡ some (T to U) → Truth (is_wire_type U)
 output_wires_lem n T U e = and_right (is_wire_type T) (is_wire_type U) (every_nth both_wires gate_table n e tt)
 
 module _ (n : ℕ) (T U : Ty) (e : gate_type n ≡ some (T to U)) where

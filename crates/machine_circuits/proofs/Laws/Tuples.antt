@@ -1,5 +1,5 @@
 -- Laws of specs/Tuples.antt.
-use Rattle.std.specs.Prelude.{ℕ, suc, ◌+◌, ◌≤◌, ◌<◌, ◌%◌, ◌≡◌, refl, cond, List, [], ◌∷◌, ◌++◌, map, T as IsTrue, eqb, length, take, drop}
+use Rattle.std.specs.Prelude.{ℕ, suc, ◌+◌, ◌≤◌, ◌<◌, ◌%◌, ◌≡◌, refl, cond, List, [], ◌∷◌, ◌++◌, map, T as Truth, eqb, length, take, drop}
 use Rattle.std.proofs.Common.{arith, sym, ◌∙◌, ap, ap₂, append_assoc, append-nil, length-append, eq-eqb, ne_eqb}
 use Rattle.rules.specs.Kinds.{pair_type_kind, function_kind, reusable_kind, circuit_kind, unit_kind, label_kind, pair_kind}
 use Rattle.rules.specs.Kinds.{unit_value_kind}
@@ -45,7 +45,7 @@ tuple_size (both k l) =
     )
 
 -- The tuple of a wire type's wires has as many nodes as the type has entries.
-pub tuple_entries : (ℓ : ℕ) (T : Ty) → IsTrue (is_wire_type T) → length (preorder (tuple_tree (tuple_from ℓ T))) ≡ entries T
+pub tuple_entries : (ℓ : ℕ) (T : Ty) → Truth (is_wire_type T) → length (preorder (tuple_tree (tuple_from ℓ T))) ≡ entries T
 tuple_entries ℓ (wire α) t = refl
 tuple_entries ℓ unit t = refl
 tuple_entries ℓ (A ⊗ B) t =
@@ -200,7 +200,7 @@ wire_after ℓ Bit = refl
 wire_after ℓ Qubit = refl
 
 -- Behind the tuple of a wire type, as many labels are used as it has wires.
-pub behind_type : (ℓ : ℕ) (T : Ty) → IsTrue (is_wire_type T) → label_behind ℓ (type_codes T) ≡ ℓ + length (wires T)
+pub behind_type : (ℓ : ℕ) (T : Ty) → Truth (is_wire_type T) → label_behind ℓ (type_codes T) ≡ ℓ + length (wires T)
 behind_type ℓ (wire α) t = wire_after ℓ α
 behind_type ℓ unit t = omega arith
 behind_type ℓ (A ⊗ B) t =
@@ -214,7 +214,7 @@ behind_type ℓ (Circ T U) t = absurd t
 
 -- The nodes from a wire type's codes are those of the tuple of its wires.
 pub nodes_type : (ℓ : ℕ) (T : Ty)
-    → IsTrue (is_wire_type T)
+    → Truth (is_wire_type T)
     → ℓ + length (wires T) ≤ 65536
     → nodes_of_codes ℓ (type_codes T) ≡ preorder (tuple_tree (tuple_from ℓ T))
 nodes_type ℓ (wire α) t room =

@@ -1,5 +1,5 @@
 -- One pass of each loop that collects, saves, loads or writes a tuple, and what there is when it ends.
-use Rattle.std.specs.Prelude.{ℕ, zero, suc, ◌+◌, ◌-◌, ◌≤◌, ◌<◌, ◌%◌, ◌≡◌, refl, Bool, true, false, cond, List, [], ◌∷◌, ◌++◌, map, T as IsTrue, eqb, length, get_or, set, take, drop}
+use Rattle.std.specs.Prelude.{ℕ, zero, suc, ◌+◌, ◌-◌, ◌≤◌, ◌<◌, ◌%◌, ◌≡◌, refl, Bool, true, false, cond, List, [], ◌∷◌, ◌++◌, map, T as Truth, eqb, length, get_or, set, take, drop}
 use Rattle.std.proofs.Common.{arith, sym, ◌∙◌, ap, ap₂, take-suc-set}
 use Rattle.std.proofs.lemmas.List.{length-map}
 use Rattle.std.proofs.Math.Option.{some}
@@ -164,7 +164,7 @@ coded_next ℓ cs at t t₁ t₂ to i label code inside room sofar behind read w
 
 -- The whole tuple of a type's wires is written.
 pub all_written : (T : Ty) (first : ℕ) (cs : List ℕ) (at count : ℕ) (ns ns' : List Node) (to label : ℕ)
-    → IsTrue (is_wire_type T)
+    → Truth (is_wire_type T)
     → Stands cs at (type_codes T)
     → count ≡ entries T
     → first + length (wires T) ≤ no_wire

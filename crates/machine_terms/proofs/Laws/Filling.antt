@@ -1,5 +1,5 @@
 -- The holes of the innermost frame as an evaluation context of the rules.
-use Rattle.std.specs.Prelude.{ℕ, suc, ◌≡◌, refl, List, [], ◌∷◌, T as IsTrue, length}
+use Rattle.std.specs.Prelude.{ℕ, suc, ◌≡◌, refl, List, [], ◌∷◌, T as Truth, length}
 use Rattle.std.proofs.Common.{◌∙◌, ap, ap₂}
 use Rattle.rules.specs.Types.{Ty}
 use Rattle.rules.specs.Terms.{Boxed, Term, value}
@@ -33,7 +33,7 @@ meaning_frame e (second n v ∷ hs) t = meaning_frame e hs (two n v t)
 meaning_frame e (opened n b ∷ hs) t = refl
 
 -- Evaluation contexts, one hole around another.
-abbrev only_context : (c : OneKind) → IsTrue (waits c) → Ty → EvaluationContext → EvaluationContext
+abbrev only_context : (c : OneKind) → Truth (waits c) → Ty → EvaluationContext → EvaluationContext
 only_context an_abstraction h A E = absurd h
 only_context a_lift h A E = absurd h
 only_context a_force h A E = force_of E
@@ -46,9 +46,9 @@ first_context a_let E N = let_first E N
 first_context an_apply E N = apply_left E N
 
 abbrev second_context : (c : TwoKind)
-    → IsTrue (goes_right c)
+    → Truth (goes_right c)
     → (W : Term)
-    → IsTrue (value W)
+    → Truth (value W)
     → EvaluationContext
     → EvaluationContext
 second_context an_application h W v E = application_right W v E
@@ -56,7 +56,7 @@ second_context a_pair h W v E = pair_right W v E
 second_context a_let h W v E = absurd h
 second_context an_apply h W v E = apply_right W v E
 
-plug_only : (c : OneKind) (h : IsTrue (waits c)) (A : Ty) (E : EvaluationContext) (R : Term)
+plug_only : (c : OneKind) (h : Truth (waits c)) (A : Ty) (E : EvaluationContext) (R : Term)
     → one_term c A (plug E R) ≡ plug (only_context c h A E) R
 plug_only an_abstraction h A E R = absurd h
 plug_only a_lift h A E R = absurd h
@@ -70,7 +70,7 @@ plug_first a_pair E N R = refl
 plug_first a_let E N R = refl
 plug_first an_apply E N R = refl
 
-plug_second : (c : TwoKind) (h : IsTrue (goes_right c)) (W : Term) (v : IsTrue (value W)) (E : EvaluationContext)
+plug_second : (c : TwoKind) (h : Truth (goes_right c)) (W : Term) (v : Truth (value W)) (E : EvaluationContext)
     (R : Term)
     → two_term c W (plug E R) ≡ plug (second_context c h W v E) R
 plug_second an_application h W v E R = refl

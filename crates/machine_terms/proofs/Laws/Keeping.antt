@@ -1,7 +1,7 @@
 -- The step at a stop keeps the state well-formed.
 use Prim.Native.Nat.{ℕ, suc}
 use Rattle.std.proofs.Common.{arith, subst}
-use Rattle.std.specs.Prelude.{◌≡◌, refl, List, [], ◌∷◌, T as IsTrue, length}
+use Rattle.std.specs.Prelude.{◌≡◌, refl, List, [], ◌∷◌, T as Truth, length}
 use Rattle.std.proofs.Math.Path.{ap}
 use Rattle.std.proofs.Math.Option.{Option, none, some}
 use Rattle.rules.specs.Types.{Ty}
@@ -37,7 +37,7 @@ if_abstraction_fits positions a_force s h = tt
 if_abstraction_fits positions a_box s h = tt
 
 if_lift_fits : (positions : ℕ) (c : OneKind) (s : Option State)
-    → (IsTrue (is_lift_kind c) → IfFits positions s)
+    → (Truth (is_lift_kind c) → IfFits positions s)
     → IfFits positions (if_lift c s)
 if_lift_fits positions an_abstraction s h = tt
 if_lift_fits positions a_lift s h = h tt
@@ -84,7 +84,7 @@ module _ (types : ℕ → Ty) (positions : ℕ) (C : Circuit) (Cs : List Circuit
       → OneFits positions n
       → one_kind (kind n) ≡ a_box
       → WellKinded positions (length closed) v
-      → IsTrue (is_lift v)
+      → Truth (is_lift v)
       → WellKinded positions (length closed) t
       → IfFits positions (enter types C Cs closed n v t hs)
   unfolding parts parts_of_kind

@@ -1,5 +1,5 @@
 -- A tree and the term that it means: substitution, size, values, label tuples, and closed circuits that grow.
-use Rattle.std.specs.Prelude.{ℕ, zero, suc, ◌+◌, ◌<◌, ◌≡◌, refl, Bool, true, false, ◌&&◌, cond, List, [], ◌∷◌, map, T as IsTrue, eqb, length}
+use Rattle.std.specs.Prelude.{ℕ, zero, suc, ◌+◌, ◌<◌, ◌≡◌, refl, Bool, true, false, ◌&&◌, cond, List, [], ◌∷◌, map, T as Truth, eqb, length}
 use Rattle.std.proofs.Common.{arith, sym, ◌∙◌, ap, ap₂, subst, eqb→eq, length-append}
 use Rattle.std.proofs.Math.Option.{none}
 use Rattle.std.proofs.Math.Dec.{eqb_refl}
@@ -46,8 +46,8 @@ value_meaning e (two n t u) =
     ∙ ap₂ (λ a b. two_value (two_kind (kind n)) (a && b)) (value_meaning e t) (value_meaning e u)
 
 -- A tree that is a value means a value.
-pub value_of : (e : Environment) (t : Tree) → IsTrue (value_tree t) → IsTrue (value (meaning e t))
-value_of e t v = subst IsTrue (sym (value_meaning e t)) v
+pub value_of : (e : Environment) (t : Tree) → Truth (value_tree t) → Truth (value (meaning e t))
+value_of e t v = subst Truth (sym (value_meaning e t)) v
 
 leaf_nodes : (c : LeafKind) (a : ℕ) (b : Boxed) → nodes (leaf_term c a b) ≡ 1
 leaf_nodes a_variable a b = refl
@@ -244,7 +244,7 @@ well_kinded_more positions closed (two n t u) h =
 
 cond_below : (b c : Boxed) (i k : ℕ) (test : Bool) → eqb i k ≡ test → i < k → cond test b c ≡ c
 cond_below b c i k true p h =
-    let same : i ≡ k = eqb→eq i k (subst IsTrue (sym p) tt) in
+    let same : i ≡ k = eqb→eq i k (subst Truth (sym p) tt) in
     absurd (omega arith)
 cond_below b c i k false p h = refl
 
@@ -256,7 +256,7 @@ circuit_at_more b bs i h = cond_below b (circuit_at bs i) i (length bs) (eqb i (
 pub circuit_at_last : (b : Boxed) (bs : List Boxed) → circuit_at (b ∷ bs) (length bs) ≡ b
 circuit_at_last b bs = go (eqb (length bs) (length bs)) (eqb_refl (length bs))
   where
-    go : (test : Bool) → IsTrue test → cond test b (circuit_at bs (length bs)) ≡ b
+    go : (test : Bool) → Truth test → cond test b (circuit_at bs (length bs)) ≡ b
     go true h = refl
     go false h = absurd h
 

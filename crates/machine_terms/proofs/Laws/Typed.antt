@@ -1,5 +1,5 @@
 -- What the typing rules say of the redex at which the walk of a typed program stops.
-use Rattle.std.specs.Prelude.{ℕ, ◌+◌, ◌≤◌, ◌≡◌, refl, List, [], ◌∷◌, T as IsTrue, length}
+use Rattle.std.specs.Prelude.{ℕ, ◌+◌, ◌≤◌, ◌≡◌, refl, List, [], ◌∷◌, T as Truth, length}
 use Rattle.std.proofs.Common.{arith, sym, ◌∙◌, ap, ap₂, subst, length-append}
 use Rattle.std.proofs.Math.Option.{none, some}
 use Rattle.rules.specs.Types.{Ty, !◌, Circ, is_wire_type, wires, entries, most_entries}
@@ -79,7 +79,7 @@ part_typed types positions t hs C X closed M fit e typed =
     (p.B, p.Q₁, subst (λ N. [] ∣ p.Q₁ ⊢ N ∶ p.B) e p.has)
 
 -- A value of a reusable type is a lift, whose type is within the bound.
-reusable_bounded : {Q : LabelContext} {W : Term} {A : Ty} → IsTrue (value W) → [] ∣ Q ⊢ W ∶ ! A → Bounded (! A)
+reusable_bounded : {Q : LabelContext} {W : Term} {A : Ty} → Truth (value W) → [] ∣ Q ⊢ W ∶ ! A → Bounded (! A)
 reusable_bounded v (by_var x n) = absurd v
 reusable_bounded v (by_app g s t u) = absurd v
 reusable_bounded v (by_let g s t u) = absurd v
@@ -89,9 +89,9 @@ reusable_bounded v (by_apply g s t u) = absurd v
 
 -- The input type of a box of a value is a wire type within the bound.
 box_input : {Q : LabelContext} {T A : Ty} {W : Term}
-    → IsTrue (value W)
+    → Truth (value W)
     → [] ∣ Q ⊢ box T W ∶ A
-    → IsTrue (is_wire_type T) × (entries T ≤ most_entries)
+    → Truth (is_wire_type T) × (entries T ≤ most_entries)
 box_input v (by_box t u d) = let b = reusable_bounded v d in (t, omega (arith, b))
 
 -- Box entry, in a typed program: the box's type is a wire type, within the bound.
@@ -100,7 +100,7 @@ pub typed_box : {A : Ty} (types : ℕ → Ty) (positions : ℕ) (n m : Node) (t 
     → StateFits positions (state (returning (one m t) (only n ∷ hs)) C Cs closed)
     → ProgramHas A (decode types (state (returning (one m t) (only n ∷ hs)) C Cs closed))
     → one_kind (kind n) ≡ a_box
-    → IsTrue (is_wire_type (types (argument n))) × (entries (types (argument n)) ≤ most_entries)
+    → Truth (is_wire_type (types (argument n))) × (entries (types (argument n)) ≤ most_entries)
 typed_box types positions n m t hs C Cs closed h typed p =
     let e = environment types closed in
     let d =

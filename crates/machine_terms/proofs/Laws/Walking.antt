@@ -1,6 +1,6 @@
 -- The walk keeps every frame's tree and only moves nodes from right to left; it ends, and it stops where a step
 -- happens.
-use Rattle.std.specs.Prelude.{ℕ, zero, suc, ◌≤◌, ◌<◌, ◌≡◌, refl, ◌&&◌, List, [], ◌∷◌, ◌++◌, T as IsTrue, length}
+use Rattle.std.specs.Prelude.{ℕ, zero, suc, ◌≤◌, ◌<◌, ◌≡◌, refl, ◌&&◌, List, [], ◌∷◌, ◌++◌, T as Truth, length}
 use Rattle.std.proofs.Common.{arith, sym, ◌∙◌, ap, subst, append_assoc, append-nil, length-append}
 use Rattle.rules.proofs.Laws.Booleans.{and_both}
 use Rattle.machine_terms.specs.Trees.{Node, kind, Tree, leaf, one, two, preorder, LeafKind, a_variable, a_label}
@@ -111,31 +111,31 @@ module _ (positions closed : ℕ) where
       → Fits (evaluating (leaf n) hs)
       → Onward Fits (move_leaf c n hs)
   leaf_fits n hs a_variable e h = tt
-  leaf_fits n hs a_label e h = (h.0, subst (λ c. IsTrue (leaf_value c)) (sym e) tt, h.1)
-  leaf_fits n hs a_gate e h = (h.0, subst (λ c. IsTrue (leaf_value c)) (sym e) tt, h.1)
-  leaf_fits n hs a_unit_value e h = (h.0, subst (λ c. IsTrue (leaf_value c)) (sym e) tt, h.1)
-  leaf_fits n hs a_constant e h = (h.0, subst (λ c. IsTrue (leaf_value c)) (sym e) tt, h.1)
+  leaf_fits n hs a_label e h = (h.0, subst (λ c. Truth (leaf_value c)) (sym e) tt, h.1)
+  leaf_fits n hs a_gate e h = (h.0, subst (λ c. Truth (leaf_value c)) (sym e) tt, h.1)
+  leaf_fits n hs a_unit_value e h = (h.0, subst (λ c. Truth (leaf_value c)) (sym e) tt, h.1)
+  leaf_fits n hs a_constant e h = (h.0, subst (λ c. Truth (leaf_value c)) (sym e) tt, h.1)
 
   one_fits : (n : Node) (t : Tree) (hs : List Hole) (c : OneKind)
       → one_kind (kind n) ≡ c
       → Fits (evaluating (one n t) hs)
       → Onward Fits (move_one c n t hs)
-  one_fits n t hs an_abstraction e h = (h.0, subst (λ c. IsTrue (one_value c)) (sym e) tt, h.1)
-  one_fits n t hs a_lift e h = (h.0, subst (λ c. IsTrue (one_value c)) (sym e) tt, h.1)
-  one_fits n t hs a_force e h = (h.0.1, ((h.0.0, subst (λ c. IsTrue (waits c)) (sym e) tt), h.1))
-  one_fits n t hs a_box e h = (h.0.1, ((h.0.0, subst (λ c. IsTrue (waits c)) (sym e) tt), h.1))
+  one_fits n t hs an_abstraction e h = (h.0, subst (λ c. Truth (one_value c)) (sym e) tt, h.1)
+  one_fits n t hs a_lift e h = (h.0, subst (λ c. Truth (one_value c)) (sym e) tt, h.1)
+  one_fits n t hs a_force e h = (h.0.1, ((h.0.0, subst (λ c. Truth (waits c)) (sym e) tt), h.1))
+  one_fits n t hs a_box e h = (h.0.1, ((h.0.0, subst (λ c. Truth (waits c)) (sym e) tt), h.1))
 
   first_fits : (n : Node) (v u : Tree) (hs : List Hole) (c : TwoKind)
       → two_kind (kind n) ≡ c
       → Fits (returning v (first n u ∷ hs))
       → Onward Fits (move_first c n v u hs)
   first_fits n v u hs an_application e h =
-      (h.2.0.1, ((h.2.0.0, subst (λ c. IsTrue (goes_right c)) (sym e) tt, h.0, h.1), h.2.1))
+      (h.2.0.1, ((h.2.0.0, subst (λ c. Truth (goes_right c)) (sym e) tt, h.0, h.1), h.2.1))
   first_fits n v u hs a_pair e h =
-      (h.2.0.1, ((h.2.0.0, subst (λ c. IsTrue (goes_right c)) (sym e) tt, h.0, h.1), h.2.1))
+      (h.2.0.1, ((h.2.0.0, subst (λ c. Truth (goes_right c)) (sym e) tt, h.0, h.1), h.2.1))
   first_fits n v u hs a_let e h = tt
   first_fits n v u hs an_apply e h =
-      (h.2.0.1, ((h.2.0.0, subst (λ c. IsTrue (goes_right c)) (sym e) tt, h.0, h.1), h.2.1))
+      (h.2.0.1, ((h.2.0.0, subst (λ c. Truth (goes_right c)) (sym e) tt, h.0, h.1), h.2.1))
 
   second_fits : (n : Node) (v w : Tree) (hs : List Hole) (c : TwoKind)
       → two_kind (kind n) ≡ c
@@ -144,7 +144,7 @@ module _ (positions closed : ℕ) where
   second_fits n v w hs an_application e h = tt
   second_fits n v w hs a_pair e h = (
     (h.2.0.0, h.2.0.2, h.0),
-    subst (λ c. IsTrue (two_value c (value_tree v && value_tree w))) (sym e)
+    subst (λ c. Truth (two_value c (value_tree v && value_tree w))) (sym e)
         (and_both (value_tree v) (value_tree w) h.2.0.3 h.1),
     h.2.1,
   )
@@ -349,7 +349,7 @@ one_goes_on n t hs a_box = tt
 
 only_stopped : (n : Node) (v : Tree) (hs : List Hole) (c : OneKind)
     → one_kind (kind n) ≡ c
-    → IsTrue (waits c)
+    → Truth (waits c)
     → Stopped (returning v (only n ∷ hs)) (stop_one c)
 only_stopped n v hs an_abstraction e h = absurd h
 only_stopped n v hs a_lift e h = absurd h
@@ -366,7 +366,7 @@ first_stopped n v u hs an_apply e = tt
 
 second_stopped : (n : Node) (v w : Tree) (hs : List Hole) (c : TwoKind)
     → two_kind (kind n) ≡ c
-    → IsTrue (goes_right c)
+    → Truth (goes_right c)
     → StoppedThere (returning w (second n v ∷ hs)) (move_second c n v w hs)
 second_stopped n v w hs an_application e h = stopped_application e
 second_stopped n v w hs a_pair e h = tt

@@ -1,5 +1,5 @@
 -- The machine is at its end exactly if the program is finished; a typed program that is not has a next state.
-use Rattle.std.specs.Prelude.{ℕ, zero, suc, ◌≡◌, refl, ◌⊎◌, false, ◌&&◌, List, [], ◌∷◌, T as IsTrue, length}
+use Rattle.std.specs.Prelude.{ℕ, zero, suc, ◌≡◌, refl, ◌⊎◌, false, ◌&&◌, List, [], ◌∷◌, T as Truth, length}
 use Rattle.std.proofs.Common.{arith, sym, ◌∙◌, ap, subst, inl, inr}
 use Rattle.std.proofs.Math.Option.{Option, none, some, map, some-injective, none-ne-some}
 use Rattle.rules.specs.Types.{Ty}
@@ -26,7 +26,7 @@ use Rattle.machine_terms.proofs.Laws.Filling.{evaluation_context, frame_is_plug}
 use Rattle.machine_terms.proofs.Theorems.Running.{step_is_next, step_fits}
 
 -- A term is no value if the part in an evaluation context is none.
-plug_no_value : (E : EvaluationContext) (R : Term) → (IsTrue (value R) → ⊥) → IsTrue (value (plug E R)) → ⊥
+plug_no_value : (E : EvaluationContext) (R : Term) → (Truth (value R) → ⊥) → Truth (value (plug E R)) → ⊥
 plug_no_value hole R h v = h v
 plug_no_value (application_left E N) R h v = v
 plug_no_value (application_right W w E) R h v = v
@@ -41,12 +41,12 @@ plug_no_value (apply_right W w E) R h v = v
 frame_no_value : (e : Environment) (positions closed : ℕ) (hs : List Hole) (t : Tree)
     → HolesFit positions closed hs
     → value_tree t ≡ false
-    → IsTrue (value (meaning e (frame_tree hs t)))
+    → Truth (value (meaning e (frame_tree hs t)))
     → ⊥
 frame_no_value e positions closed hs t fit h v =
     plug_no_value (evaluation_context e positions closed hs fit) (meaning e t)
-    (λ w. subst IsTrue (value_meaning e t ∙ h) w)
-    (subst (λ M. IsTrue (value M)) (frame_is_plug e positions closed hs fit t) v)
+    (λ w. subst Truth (value_meaning e t ∙ h) w)
+    (subst (λ M. Truth (value M)) (frame_is_plug e positions closed hs fit t) v)
 
 abbrev lower_frames : Configuration → List Frame
 lower_frames (configuration F X K) = X
@@ -54,7 +54,7 @@ lower_frames (configuration F X K) = X
 abbrev top_term : Configuration → Term
 top_term (configuration (frame C M) X K) = M
 
-finished_parts : (c : Configuration) → Finished c → (lower_frames c ≡ []) × IsTrue (value (top_term c))
+finished_parts : (c : Configuration) → Finished c → (lower_frames c ≡ []) × Truth (value (top_term c))
 finished_parts c (finished v) = (refl, v)
 
 not_empty : (F : Frame) (X : List Frame) → F ∷ X ≡ [] → ⊥
@@ -87,7 +87,7 @@ finished_stop : (types : ℕ → Ty) (positions : ℕ) (w : Walk) (C : Circuit) 
     → StateFits positions (state w C Cs closed)
     → Stopped w s
     → (lower_frames (decode types (state w C Cs closed)) ≡ [])
-    × IsTrue (value (top_term (decode types (state w C Cs closed))))
+    × Truth (value (top_term (decode types (state w C Cs closed))))
     → s ≡ at_end
 finished_stop types positions w C Cs closed s h (stopped_application {n} {f} {v} {hs} e) q =
     absurd

@@ -1,5 +1,5 @@
 -- At a stop of the walk the machine's step is the step of the rules.
-use Rattle.std.specs.Prelude.{ℕ, ◌≡◌, refl, List, [], ◌∷◌, T as IsTrue, length}
+use Rattle.std.specs.Prelude.{ℕ, ◌≡◌, refl, List, [], ◌∷◌, T as Truth, length}
 use Rattle.std.proofs.Math.Path.{sym, ap, ap₂}
 use Rattle.std.proofs.Common.{◌∙◌}
 use Rattle.std.proofs.Math.Option.{Option, none, some, map}
@@ -288,8 +288,8 @@ module _ (types : ℕ → Ty) (positions : ℕ) (C : Circuit) (Cs : List Circuit
   -- The step at each redex.
   at_application_next : (n : Node) (f v : Tree)
       → two_kind (kind n) ≡ an_application
-      → IsTrue (value_tree f)
-      → IsTrue (value_tree v)
+      → Truth (value_tree f)
+      → Truth (value_tree v)
       → next (decode types (state (returning v (second n f ∷ hs)) C Cs closed))
       ≡ decoded (contract types (state (returning v (second n f ∷ hs)) C Cs closed))
   at_application_next n f v p a b =
@@ -301,7 +301,7 @@ module _ (types : ℕ → Ty) (positions : ℕ) (C : Circuit) (Cs : List Circuit
 
   at_let_next : (n : Node) (v u : Tree)
       → two_kind (kind n) ≡ a_let
-      → IsTrue (value_tree v)
+      → Truth (value_tree v)
       → next (decode types (state (returning v (first n u ∷ hs)) C Cs closed))
       ≡ decoded (contract types (state (returning v (first n u ∷ hs)) C Cs closed))
   at_let_next n v u p a =
@@ -313,7 +313,7 @@ module _ (types : ℕ → Ty) (positions : ℕ) (C : Circuit) (Cs : List Circuit
 
   at_force_next : (n : Node) (v : Tree)
       → one_kind (kind n) ≡ a_force
-      → IsTrue (value_tree v)
+      → Truth (value_tree v)
       → next (decode types (state (returning v (only n ∷ hs)) C Cs closed))
       ≡ decoded (contract types (state (returning v (only n ∷ hs)) C Cs closed))
   at_force_next n v p a =
@@ -325,7 +325,7 @@ module _ (types : ℕ → Ty) (positions : ℕ) (C : Circuit) (Cs : List Circuit
 
   at_box_next : (n : Node) (v : Tree)
       → one_kind (kind n) ≡ a_box
-      → IsTrue (value_tree v)
+      → Truth (value_tree v)
       → next (decode types (state (returning v (only n ∷ hs)) C Cs closed))
       ≡ decoded (contract types (state (returning v (only n ∷ hs)) C Cs closed))
   at_box_next n v p a =
@@ -337,8 +337,8 @@ module _ (types : ℕ → Ty) (positions : ℕ) (C : Circuit) (Cs : List Circuit
 
   at_apply_next : (n : Node) (f v : Tree)
       → two_kind (kind n) ≡ an_apply
-      → IsTrue (value_tree f)
-      → IsTrue (value_tree v)
+      → Truth (value_tree f)
+      → Truth (value_tree v)
       → next (decode types (state (returning v (second n f ∷ hs)) C Cs closed))
       ≡ decoded (contract types (state (returning v (second n f ∷ hs)) C Cs closed))
   at_apply_next n f v p a b =
@@ -360,13 +360,13 @@ module _ (types : ℕ → Ty) (positions : ℕ) (C : Circuit) (Cs : List Circuit
 
 -- Box exit.
 lift_part : (types : ℕ → Ty) (closed : List Boxed) (b : Tree)
-    → IsTrue (is_lift b)
+    → Truth (is_lift b)
     → (M : Term) × (meaning (environment types closed) b ≡ lift M)
 lift_part types closed (leaf m) h = absurd h
 lift_part types closed (one m t) h = of (one_kind (kind m)) h
   where
     of : (c : OneKind)
-        → IsTrue (is_lift_kind c)
+        → Truth (is_lift_kind c)
         → (M : Term) × (one_term c (types (argument m)) (meaning (environment types closed) t) ≡ lift M)
     of an_abstraction h = absurd h
     of a_lift h = (_, refl)
@@ -425,7 +425,7 @@ module _ (types : ℕ → Ty) (positions : ℕ) (closed : List Boxed) (n : Node)
       exits I gs C Cs k l.0 l.1
 
   at_exit_next : (D : Circuit) (Cs : List Circuit) (v : Tree)
-      → IsTrue (value_tree v)
+      → Truth (value_tree v)
       → next (decode types (state (returning v (opened n b ∷ hs)) D Cs closed))
       ≡ map (decode types) (contract types (state (returning v (opened n b ∷ hs)) D Cs closed))
   at_exit_next D Cs v a =
@@ -436,7 +436,7 @@ module _ (types : ℕ → Ty) (positions : ℕ) (closed : List Boxed) (n : Node)
 
 -- The end: the outermost frame's term is a value.
 at_end_next : (types : ℕ → Ty) (C : Circuit) (Cs : List Circuit) (closed : List Boxed) (v : Tree)
-    → IsTrue (value_tree v)
+    → Truth (value_tree v)
     → next (decode types (state (returning v []) C Cs closed)) ≡ none
 at_end_next types C Cs closed v a =
     ap (step_found C {M = meaning (environment types closed) v} [] closed)

@@ -1,5 +1,5 @@
 -- Laws of specs/Functions.antt.
-use Rattle.std.specs.Prelude.{ℕ, zero, suc, ◌+◌, ◌-◌, ◌%◌, ◌/◌, ◌≤◌, ◌<◌, ◌≡◌, refl, true, false, List, T as IsTrue, length, set, take, drop}
+use Rattle.std.specs.Prelude.{ℕ, zero, suc, ◌+◌, ◌-◌, ◌%◌, ◌/◌, ◌≤◌, ◌<◌, ◌≡◌, refl, true, false, List, T as Truth, length, set, take, drop}
 use Rattle.std.proofs.Common.{arith, sym, ◌∙◌, ap, subst}
 use Rattle.rules.specs.Kinds.{pair_kind, let_kind}
 use Rattle.machine_terms.specs.Trees.{Node, kind, one_kind, two_kind}
@@ -124,11 +124,11 @@ module _ (p : Place) where
 module _ (rs : List Quadword) (p : Place) (at k : ℕ) where
   pub only_moves : (s : Stop)
       → ReturnsTo rs p 0 at
-      → (IsTrue (waits (one_kind k)) → stop_of s ≡ stop_one (one_kind k))
+      → (Truth (waits (one_kind k)) → stop_of s ≡ stop_one (one_kind k))
       → MovesStack rs rs p at k (Stops s)
   only_moves s e q ns q' positions closed w f m =
       only_stops ns rs p positions closed at s w (tagged_there e ns w m) f m
-      (subst (λ j. IsTrue (waits (one_kind j)) → stop_of s ≡ stop_one (one_kind j)) q' q)
+      (subst (λ j. Truth (waits (one_kind j)) → stop_of s ≡ stop_one (one_kind j)) q' q)
 
   pub let_moves : ReturnsTo rs p 1 at → k ≡ let_kind → MovesStack rs rs p at k (Stops AtLet)
   let_moves e q ns q' positions closed w f m = let_stops ns rs p at w (tagged_there e ns w m) m (sym q' ∙ q)

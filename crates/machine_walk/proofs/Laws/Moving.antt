@@ -1,5 +1,5 @@
 -- Laws of specs/Moving.antt.
-use Rattle.std.specs.Prelude.{ℕ, suc, ◌+◌, ◌-◌, ◌%◌, ◌≤◌, ◌<◌, ◌≡◌, refl, Bool, true, false, cond, List, [], ◌∷◌, ◌++◌, eqb, T as IsTrue, length, set, take, drop}
+use Rattle.std.specs.Prelude.{ℕ, suc, ◌+◌, ◌-◌, ◌%◌, ◌≤◌, ◌<◌, ◌≡◌, refl, Bool, true, false, cond, List, [], ◌∷◌, ◌++◌, eqb, T as Truth, length, set, take, drop}
 use Rattle.std.proofs.Common.{arith, sym, ◌∙◌, subst, append_assoc, length-append, length-set, get_or-take, ne_eqb}
 use Rattle.std.proofs.Math.Path.{ap}
 use Rattle.std.proofs.lemmas.List.{get_or_at}
@@ -320,10 +320,10 @@ module _ (ns : List Node) (rs : List Quadword) (p : Place) where
       → Tagged ns at 0 w
       → WalkFits positions closed w
       → Holds ns rs p w
-      → (IsTrue (waits (one_kind (kind (node_at ns at)))) → stop_of s ≡ stop_one (one_kind (kind (node_at ns at))))
+      → (Truth (waits (one_kind (kind (node_at ns at)))) → stop_of s ≡ stop_one (one_kind (kind (node_at ns at))))
       → MovedTo ns rs p w (Stops s)
   only_stops positions closed at s w (tag_only {n = n} a q) f m e =
-      let waiting = subst (λ j. IsTrue (waits (one_kind (kind j)))) (sym q) f.2.0.1 in
+      let waiting = subst (λ j. Truth (waits (one_kind (kind j)))) (sym q) f.2.0.1 in
       (ap (λ j. stops (stop_one (one_kind (kind j)))) (sym q) ∙ ap stops (sym (e waiting)), m)
 
   pub exit_stops : (at tag : ℕ) (w : Walk)
@@ -471,12 +471,12 @@ module _ (ns : List Node) (rs : List Quadword) (p : Place) where
   )
 
 -- The stops by the kind: box where it is no force, apply where it is neither application nor let.
-pub box_stops : (k : ℕ) → (k ≡ force_kind → ⊥) → IsTrue (waits (one_kind k)) → stop_one (one_kind k) ≡ at_box
+pub box_stops : (k : ℕ) → (k ≡ force_kind → ⊥) → Truth (waits (one_kind k)) → stop_one (one_kind k) ≡ at_box
 unfolding one_kind
 box_stops k f h = rw (ne_eqb k force_kind f, one_kind) (go (eqb k abstraction_kind) (eqb k lift_kind) (rw (ne_eqb k force_kind f, one_kind) at h))
   where
     go : (b c : Bool)
-        → IsTrue (waits (cond b an_abstraction (cond c a_lift a_box)))
+        → Truth (waits (cond b an_abstraction (cond c a_lift a_box)))
         → stop_one (cond b an_abstraction (cond c a_lift a_box)) ≡ at_box
     go true c h = absurd h
     go false true h = absurd h

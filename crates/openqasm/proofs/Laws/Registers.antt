@@ -1,5 +1,5 @@
 -- Laws of the registers that the wires of a listing are in: one for each wire, and each the register of an input.
-use Rattle.std.specs.Prelude.{ℕ, zero, suc, ◌+◌, ◌≤◌, ◌<◌, ◌≡◌, refl, List, [], ◌∷◌, ◌++◌, map, T as IsTrue, length, get_or, take}
+use Rattle.std.specs.Prelude.{ℕ, zero, suc, ◌+◌, ◌≤◌, ◌<◌, ◌≡◌, refl, List, [], ◌∷◌, ◌++◌, map, T as Truth, length, get_or, take}
 use Rattle.std.proofs.Common.{arith, sym, ◌∙◌, ap, append-nil, length-append}
 use Rattle.std.proofs.lemmas.List.{length-map}
 use Rattle.rules.specs.Types.{Wire}
@@ -24,7 +24,7 @@ first_each (x ∷ l) zero few = absurd (omega arith)
 first_each (x ∷ l) (suc k) few = ap (λ xs. x ∷ xs) (first_each l k (omega arith))
 
 -- A gate that has a statement makes as many wires as it takes; a number that is no gate takes and makes none.
-pub as_many : (n : ℕ) → IsTrue (has_statement n) → length (gate_outputs n) ≡ wires_in n
+pub as_many : (n : ℕ) → Truth (has_statement n) → length (gate_outputs n) ≡ wires_in n
 unfolding has_statement wires_in
 as_many zero written = refl
 as_many (suc zero) written = refl

@@ -1,5 +1,5 @@
 -- How long the text of an accepted listing is: an output buffer of the least length holds it.
-use Rattle.std.specs.Prelude.{ℕ, zero, suc, ◌+◌, ◌*◌, ◌≤◌, ◌<◌, ◌≡◌, refl, Bool, true, List, [], ◌∷◌, ◌++◌, map, T as IsTrue, eqb, leb, length, get_or}
+use Rattle.std.specs.Prelude.{ℕ, zero, suc, ◌+◌, ◌*◌, ◌≤◌, ◌<◌, ◌≡◌, refl, Bool, true, List, [], ◌∷◌, ◌++◌, map, T as Truth, eqb, leb, length, get_or}
 use Rattle.std.proofs.Common.{arith, sym, ◌∙◌, ap, ap₂, subst, leb→le, length-append}
 use Rattle.std.proofs.Math.Decide.{dec_lt}
 use Rattle.std.proofs.Math.Option.{Option, none, some}
@@ -206,7 +206,7 @@ short unwritten = true
 
 -- A line with such a name has at most statement-bytes.
 statement_fits : (s : Statement) (r r' r'' : ℕ)
-    → IsTrue (short s)
+    → Truth (short s)
     → r < most_labels
     → r' < most_labels
     → r'' < most_labels

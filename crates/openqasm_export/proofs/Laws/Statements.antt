@@ -1,5 +1,5 @@
 -- Laws of the gates of a listing that have no statement.
-use Rattle.std.specs.Prelude.{ℕ, zero, suc, ◌+◌, ◌-◌, ◌≤◌, ◌<◌, Bool, true, false, List, T as IsTrue}
+use Rattle.std.specs.Prelude.{ℕ, zero, suc, ◌+◌, ◌-◌, ◌≤◌, ◌<◌, Bool, true, false, List, T as Truth}
 use native.Mathlib.Omega.{arith}
 use Rattle.std.proofs.Math.Decide.{dec_lt}
 use Rattle.std.proofs.Math.Path.{◌≡◌, refl, ap, ap₂}
@@ -49,7 +49,7 @@ module _ (b : List ℕ) where
   first_written no_such (suc j) few =
       (of (has_statement (kind_at b (input_count b + j))) refl, first_written no_such j (omega arith))
     where
-      of : (t : Bool) → has_statement (kind_at b (input_count b + j)) ≡ t → IsTrue t
+      of : (t : Bool) → has_statement (kind_at b (input_count b + j)) ≡ t → Truth t
       of true e = tt
       of false e = absurd (no_such (input_count b + j) (omega arith, omega arith, e))
 
@@ -58,16 +58,16 @@ module _ (b : List ℕ) where
       first_written (subst (Finds (Unwritten b)) e unwritten_found) (gate_count b) (omega arith)
 
   -- Where each gate has one, there is none.
-  gate_written : (j i : ℕ) → AllWritten (first_gates b j) → i < j → IsTrue (has_statement (kind_at b (input_count b + i)))
+  gate_written : (j i : ℕ) → AllWritten (first_gates b j) → i < j → Truth (has_statement (kind_at b (input_count b + i)))
   gate_written zero i written below = absurd (omega arith)
   gate_written (suc j) i written below = of (dec_lt i j) (gate_written j i written.1)
     where
       of : Dec (i < j)
-          → (i < j → IsTrue (has_statement (kind_at b (input_count b + i))))
-          → IsTrue (has_statement (kind_at b (input_count b + i)))
+          → (i < j → Truth (has_statement (kind_at b (input_count b + i))))
+          → Truth (has_statement (kind_at b (input_count b + i)))
       of (yes older) earlier = earlier older
       of (no newest) earlier =
-          let e : j ≡ i = omega arith in subst (λ k. IsTrue (has_statement (kind_at b (input_count b + k)))) e written.0
+          let e : j ≡ i = omega arith in subst (λ k. Truth (has_statement (kind_at b (input_count b + k)))) e written.0
 
   all_written : AllWritten (gates_of b) → first_unwritten b ≡ none
   all_written written = found_none (Unwritten b) (first_unwritten b) unwritten_found no_such
@@ -76,10 +76,10 @@ module _ (b : List ℕ) where
       no_such e h =
           let i = e - input_count b in
           let here : input_count b + i ≡ e = omega (arith, h.0) in
-          let this : IsTrue (has_statement (kind_at b e))
-          = subst (λ k. IsTrue (has_statement (kind_at b k))) here
+          let this : Truth (has_statement (kind_at b e))
+          = subst (λ k. Truth (has_statement (kind_at b k))) here
           (gate_written (gate_count b) i written (omega (arith, h.0, h.1))) in
-          subst IsTrue h.2 this
+          subst Truth h.2 this
 
   -- What the export takes: a listing that ticket 3's check accepts and in which each gate has a statement.
   pub export_accepted : {L G O : ℕ} → export_check_of b ≡ Accepted L G O → (listing_check_of b ≡ Accepted L G O) × AllWritten (gates_of b)

@@ -1,5 +1,5 @@
 -- The declarations, the lines of the gates and the last line of a listing, written one by one, with the table of registers.
-use Rattle.std.specs.Prelude.{ℕ, zero, suc, ◌+◌, ◌-◌, ◌*◌, ◌/◌, ◌%◌, ◌≤◌, ◌<◌, ◌≡◌, refl, cond, List, [], ◌∷◌, ◌++◌, map, T as IsTrue, eqb}
+use Rattle.std.specs.Prelude.{ℕ, zero, suc, ◌+◌, ◌-◌, ◌*◌, ◌/◌, ◌%◌, ◌≤◌, ◌<◌, ◌≡◌, refl, cond, List, [], ◌∷◌, ◌++◌, map, T as Truth, eqb}
 use Rattle.std.proofs.Common.{arith, ◌∙◌, ap₂, subst, append_assoc, append-nil, length-append}
 use Rattle.std.proofs.Math.Path.{sym, ap}
 use Rattle.std.proofs.Math.ListN.{length, get_or, length-map}
@@ -183,7 +183,7 @@ module _ (b text₀ : List ℕ) (at : ℕ) where
         unfolding gate_line
         line_is = ap (gate_line n) slots_taken
 
-        kept_are : IsTrue (has_statement n) → kept_places n (first ∷ second ∷ third ∷ []) ≡ place_bytes taken (gate_outputs n)
+        kept_are : Truth (has_statement n) → kept_places n (first ∷ second ∷ third ∷ []) ≡ place_bytes taken (gate_outputs n)
         unfolding wires_out
         kept_are this =
             let long : length taken ≡ wires_in n
@@ -192,7 +192,7 @@ module _ (b text₀ : List ℕ) (at : ℕ) where
             ap (λ l. place_bytes l (gate_outputs n)) slots_taken
             ∙ slots_placed taken (gate_outputs n) entry_slots counted (omega (arith, made_fit n, counted))
 
-        places_are : IsTrue (has_statement n)
+        places_are : Truth (has_statement n)
             → places_of (inputs_of b) (first_gates b i) ++ kept_places n (first ∷ second ∷ third ∷ [])
             ≡ places_of (inputs_of b) (first_gates b (suc i))
         places_are this =

@@ -1,5 +1,5 @@
 -- Laws of the registers: a wire that has been made and that no gate has taken is what its register holds.
-use Rattle.std.specs.Prelude.{ℕ, zero, suc, ◌+◌, ◌-◌, ◌≤◌, ◌<◌, ◌≡◌, refl, Bool, List, [], ◌∷◌, ◌++◌, map, T as IsTrue, eqb, length, get_or, set}
+use Rattle.std.specs.Prelude.{ℕ, zero, suc, ◌+◌, ◌-◌, ◌≤◌, ◌<◌, ◌≡◌, refl, Bool, List, [], ◌∷◌, ◌++◌, map, T as Truth, eqb, length, get_or, set}
 use Rattle.std.proofs.Common.{arith, sym, ◌∙◌, ap, ap₂, subst, length-append, length-set, get_or-append-add, get_or-set_same, get_or-set_other}
 use Rattle.std.proofs.Math.Decide.{dec_lt}
 use Rattle.std.proofs.lemmas.List.{length-map}
@@ -17,7 +17,7 @@ use Rattle.openqasm_parts.specs.Reading.{holding}
 use Rattle.openqasm.proofs.Laws.Registers.{known_counted, length_numbers, length_registers, map_below, registers_within}
 
 -- A gate that has a statement takes at least one wire.
-pub takes_some : (n : ℕ) → IsTrue (is_gate n) → IsTrue (has_statement n) → 1 ≤ wires_in n
+pub takes_some : (n : ℕ) → Truth (is_gate n) → Truth (has_statement n) → 1 ≤ wires_in n
 unfolding is_gate has_statement wires_in
 takes_some zero known written = omega arith
 takes_some (suc zero) known written = omega arith

@@ -1,5 +1,5 @@
 -- Laws of items: what is read at the start of a declaration, of a gate's line and of an output's name, and what is left behind it.
-use Rattle.std.specs.Prelude.{ℕ, zero, suc, ◌+◌, ◌*◌, ◌-◌, ◌/◌, ◌%◌, ◌<◌, ◌≡◌, refl, Bool, true, false, ◌&&◌, cond, List, [], ◌∷◌, ◌++◌, T as IsTrue, eqb, get_or, take, drop}
+use Rattle.std.specs.Prelude.{ℕ, zero, suc, ◌+◌, ◌*◌, ◌-◌, ◌/◌, ◌%◌, ◌<◌, ◌≡◌, refl, Bool, true, false, ◌&&◌, cond, List, [], ◌∷◌, ◌++◌, T as Truth, eqb, get_or, take, drop}
 use Rattle.std.proofs.Common.{arith, sym, ◌∙◌, ap, ap₂, append_assoc, append-nil, drop-drop, get_or-drop, lt-ltb}
 use Rattle.std.proofs.Math.Decide.{dec_lt}
 use Rattle.rules.specs.Types.{Wire, Bit, Qubit}
@@ -209,11 +209,11 @@ three_read r s q text t u v rest is small e ends small' e' ends' small'' e'' end
     d'' = digits_in (drop (d' + M) (drop (d + M) (drop B text)))
 
 -- No item is Init or Discard: what is read as a gate has a statement.
-either : (t : Bool) (m n : ℕ) → IsTrue (has_statement m) → IsTrue (has_statement n) → IsTrue (has_statement (cond t m n))
+either : (t : Bool) (m n : ℕ) → Truth (has_statement m) → Truth (has_statement n) → Truth (has_statement (cond t m n))
 either true m n h k = h
 either false m n h k = k
 
-kind_written : (first second name : ℕ) → IsTrue (has_statement (kind_of first second name))
+kind_written : (first second name : ℕ) → Truth (has_statement (kind_of first second name))
 unfolding kind_of has_statement either
 kind_written first second name =
     either (eqb first 104) _ _ tt
@@ -227,7 +227,7 @@ kind_written first second name =
     (either (eqb first 113) _ _ tt
     (either (eqb first 32) _ _ tt tt)))))))))
 
-pub item_written : (text : List ℕ) → IsTrue (has_statement (item_in text).kind)
+pub item_written : (text : List ℕ) → Truth (has_statement (item_in text).kind)
 unfolding item_in has_statement
 item_written text = of (eqb k no_item) (eqb (between k) 0) (eqb k ccx_item) (kind_written _ _ _)
   where
@@ -235,8 +235,8 @@ item_written text = of (eqb k no_item) (eqb (between k) 0) (eqb k ccx_item) (kin
     k = kind_in text
 
     of : (s t u : Bool)
-        → IsTrue (has_statement k)
-        → IsTrue (has_statement
+        → Truth (has_statement k)
+        → Truth (has_statement
         (cond s (item no_item 0 0 0 0) (cond t (one_number k text) (cond u (three_numbers k text) (two_numbers k text)))).kind)
     of true t u h = tt
     of false true u h = h
@@ -294,8 +294,8 @@ pub record GateReads (n : ℕ) (rs rest : List ℕ) : Type 0 where
   pub registers : take (wires_in n) (get_or rs 0 0 ∷ second ∷ third ∷ []) ≡ take (wires_in n) (each (λ k. get_or rs k 0) entry_slots)
 
 pub gate_reads : (n : ℕ) (rs rest : List ℕ)
-    → IsTrue (is_gate n)
-    → IsTrue (has_statement n)
+    → Truth (is_gate n)
+    → Truth (has_statement n)
     → ((k : ℕ) → get_or rs k 0 < 100)
     → GateReads n rs rest
 unfolding gate_line is_gate wires_in has_statement kind_of before between behind
@@ -322,7 +322,7 @@ gate_reads n rs rest known written small = of n known written
         → GateReads m rs rest
     read_as m x y reads registers = record { second = x; third = y; reads = reads; registers = registers }
 
-    of : (m : ℕ) → IsTrue (is_gate m) → IsTrue (has_statement m) → GateReads m rs rest
+    of : (m : ℕ) → Truth (is_gate m) → Truth (has_statement m) → GateReads m rs rest
     of zero g h =
         read_as 0 0 0 (one_read 0 r _ (end ++ rest) rest refl refl refl (small 0) (last r) refl refl) refl
     of (suc zero) g h =

@@ -1,5 +1,5 @@
 -- Laws of the parts of an export: its declarations, its gates and the names of its outputs are read back.
-use Rattle.std.specs.Prelude.{ℕ, suc, ◌+◌, ◌≤◌, ◌<◌, ◌≡◌, refl, true, false, ◌||◌, List, [], ◌∷◌, ◌++◌, map, T as IsTrue, length, get_or, take, drop}
+use Rattle.std.specs.Prelude.{ℕ, suc, ◌+◌, ◌≤◌, ◌<◌, ◌≡◌, refl, true, false, ◌||◌, List, [], ◌∷◌, ◌++◌, map, T as Truth, length, get_or, take, drop}
 use Rattle.std.proofs.Common.{arith, zero-add, suc-add, sym, ◌∙◌, ap, ap₂, subst, append_assoc, append-nil, length-append, ne_eqb}
 use Rattle.std.proofs.lemmas.List.{length-map}
 use Rattle.std.proofs.Math.Seq.{append_snoc}
@@ -86,7 +86,7 @@ wires_back held f (w ∷ ws) back =
 
 -- One more gate has been read.
 one_gate : (I : List Wire) (n : ℕ) (ws : List ℕ) (gs : List Gate) (first second third bytes : ℕ) (text rest : List ℕ)
-    → IsTrue (has_statement n)
+    → Truth (has_statement n)
     → ((w : ℕ) → 1 ≤ count w ws → get_or (held_behind most_labels I gs) (register_of I gs w) 0 ≡ w)
     → take (wires_in n) (first ∷ second ∷ third ∷ []) ≡ map (register_of I gs) ws
     → drop bytes text ≡ rest
@@ -117,8 +117,8 @@ few_registers I gs few w = omega (arith, registers_few I gs w few)
 -- The line of the newest gate is read.
 line_reads : (I : List Wire) (n : ℕ) (ws : List ℕ) (gs : List Gate) (rest : List ℕ)
     → length I ≤ most_labels
-    → IsTrue (is_gate n)
-    → IsTrue (has_statement n)
+    → Truth (is_gate n)
+    → Truth (has_statement n)
     → GateReads n (map (register_of I gs) ws) rest
 line_reads I n ws gs rest few known written =
     gate_reads n (map (register_of I gs) ws) rest known written
@@ -162,13 +162,13 @@ gates_read I ((n on ws) ∷ gs) k rest few known written (next_gate e o earlier)
     line.reads.rest_is)
 
 -- A gate is no input.
-gate_no_input : (n : ℕ) → IsTrue (is_gate n) → is_input n ≡ false
+gate_no_input : (n : ℕ) → Truth (is_gate n) → is_input n ≡ false
 unfolding is_gate
 gate_no_input n known =
     ap₂
     ◌||◌
-    (ne_eqb n bit_item (λ e. subst (λ k. IsTrue (is_gate k)) e known))
-    (ne_eqb n qubit_item (λ e. subst (λ k. IsTrue (is_gate k)) e known))
+    (ne_eqb n bit_item (λ e. subst (λ k. Truth (is_gate k)) e known))
+    (ne_eqb n qubit_item (λ e. subst (λ k. Truth (is_gate k)) e known))
 
 -- Behind the declarations stands no input, if none stands behind the gates.
 pub gates_no_input : (I : List Wire) (gs : List Gate) (rest : List ℕ)

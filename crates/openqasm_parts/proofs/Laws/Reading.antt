@@ -1,5 +1,5 @@
 -- Laws of reading items one after the other.
-use Rattle.std.specs.Prelude.{ℕ, zero, suc, ◌+◌, ◌≤◌, ◌≡◌, refl, Bool, true, false, cond, List, T as IsTrue}
+use Rattle.std.specs.Prelude.{ℕ, zero, suc, ◌+◌, ◌≤◌, ◌≡◌, refl, Bool, true, false, cond, List, T as Truth}
 use Rattle.std.proofs.Common.{arith, ◌∙◌, ap}
 use Rattle.openqasm_reader.specs.declared.Item.{Item}
 use Rattle.openqasm_reader.specs.Items.{item_in}
@@ -9,7 +9,7 @@ use Rattle.openqasm_parts.proofs.Laws.Items.{item, Reads}
 module _ (wanted : ℕ → Bool) (with_item : Parts → Item → Parts) where
   -- What every wanted item keeps, all that are read keep.
   pub items_keep : (Kept : Parts → Type 0)
-      → ((p : Parts) → IsTrue (wanted (item_in p.rest).kind) → Kept p → Kept (with_item p (item_in p.rest)))
+      → ((p : Parts) → Truth (wanted (item_in p.rest).kind) → Kept p → Kept (with_item p (item_in p.rest)))
       → (k : ℕ) (p : Parts)
       → Kept p
       → Kept (items_read wanted with_item k p)
@@ -20,7 +20,7 @@ module _ (wanted : ℕ → Bool) (with_item : Parts → Item → Parts) where
       i = item_in p.rest
 
       of : (b : Bool)
-          → (IsTrue b → Kept p → Kept (with_item p i))
+          → (Truth b → Kept p → Kept (with_item p i))
           → (Kept (with_item p i) → Kept (items_read wanted with_item k (with_item p i)))
           → Kept (cond b (items_read wanted with_item k (with_item p i)) p)
       of true this later = later (this tt kept)

@@ -1,5 +1,5 @@
 -- Laws of the registers in lent memory, a word for each.
-use Rattle.std.specs.Prelude.{ℕ, suc, ◌+◌, ◌%◌, ◌≤◌, ◌<◌, ◌≡◌, true, cond, List, [], ◌∷◌, ◌++◌, T as IsTrue, ltb, length, get_or, set, take, drop}
+use Rattle.std.specs.Prelude.{ℕ, suc, ◌+◌, ◌%◌, ◌≤◌, ◌<◌, ◌≡◌, true, cond, List, [], ◌∷◌, ◌++◌, T as Truth, ltb, length, get_or, set, take, drop}
 use Rattle.std.proofs.Common.{arith, sym, ◌∙◌, ap, ap₂, subst, append_assoc, append-nil, drop_of_length-le, drop-cons, lt-ltb, le-ltb}
 use Rattle.std.proofs.Math.Seq.{set-append_seam}
 use Rattle.rules.specs.Gates.{is_gate, wires_in}
@@ -59,8 +59,8 @@ pub wires_taken_lem : (item : Item) (text : List ℕ)
     → is_gate item.kind ≡ true
     → (1 ≤ wires_in item.kind) × (wires_in item.kind ≤ entry_slots)
 wires_taken_lem item text is known =
-    let written = subst (λ i. IsTrue (has_statement i.kind)) (sym is) (item_written text) in
-    (takes_some item.kind (subst IsTrue (sym known) tt) written, wires_fit item.kind)
+    let written = subst (λ i. Truth (has_statement i.kind)) (sym is) (item_written text) in
+    (takes_some item.kind (subst Truth (sym known) tt) written, wires_fit item.kind)
 
 -- What a gate makes is held where what it takes was.
 module _ (count : ℕ) (m : List ℕ) (first second third made : ℕ) where

@@ -1,5 +1,5 @@
 -- Laws of specs/Stored: each item that is read is stored behind those before it, and the listing follows from what is stored.
-use Rattle.std.specs.Prelude.{ℕ, zero, suc, ◌+◌, ◌*◌, ◌-◌, ◌≤◌, ◌<◌, ◌≡◌, refl, Bool, true, false, ◌||◌, cond, T as IsTrue, eqb, ltb, length, get_or, set, take, drop}
+use Rattle.std.specs.Prelude.{ℕ, zero, suc, ◌+◌, ◌*◌, ◌-◌, ◌≤◌, ◌<◌, ◌≡◌, refl, Bool, true, false, ◌||◌, cond, T as Truth, eqb, ltb, length, get_or, set, take, drop}
 use Rattle.std.proofs.Common.{arith, sym, ◌∙◌, ap, ap₂, subst, length-append, length-set, take-append-drop, take_all, drop-drop, eqb-true}
 use mathlib.Core.List.{List, [], ◌∷◌, ◌++◌, map, flat_map, append_assoc, append-nil, reverse-cons}
 use Rattle.rules.specs.Types.{Wire, Bit, Qubit}
@@ -162,7 +162,7 @@ type_kind kind wanted = of (eqb kind bit_item) (eqb kind qubit_item) refl refl w
     of : (a b : Bool) → eqb kind bit_item ≡ a → eqb kind qubit_item ≡ b → a || b ≡ true → kind ≡ input_kind (cond a Bit Qubit)
     of true b e f h = eqb-true kind bit_item e
     of false true e f h = eqb-true kind qubit_item f
-    of false false e f h = absurd (subst IsTrue (sym h) tt)
+    of false false e f h = absurd (subst Truth (sym h) tt)
 
 -- ONE MORE ITEM
 

@@ -1,6 +1,6 @@
 -- The gates that are read from a text are known and have statements, at most as many parts are read as a listing has, and from an
 -- export the parts that it was made from are read back.
-use Rattle.std.specs.Prelude.{ℕ, suc, ◌+◌, ◌-◌, ◌≤◌, ◌≡◌, refl, List, [], ◌∷◌, ◌++◌, T as IsTrue, length, get_or}
+use Rattle.std.specs.Prelude.{ℕ, suc, ◌+◌, ◌-◌, ◌≤◌, ◌≡◌, refl, List, [], ◌∷◌, ◌++◌, T as Truth, length, get_or}
 use Rattle.std.proofs.Common.{arith, ◌∙◌, ap, length-append, length-take}
 use Rattle.std.proofs.lemmas.List.{length-map}
 use Rattle.rules.specs.Types.{Wire}
@@ -33,7 +33,7 @@ read_within labels gates outputs text =
     (items_read is_input with_input labels (begun text))))
 
 -- One more gate that is read is known, with as many wires as it takes.
-gate_known : (p : Parts) (i : Item) → IsTrue (is_gate i.kind) → KnownGates p.gates → KnownGates (with_gate p i).gates
+gate_known : (p : Parts) (i : Item) → Truth (is_gate i.kind) → KnownGates p.gates → KnownGates (with_gate p i).gates
 gate_known p i known older =
     let few : wires_in i.kind ≤ entry_slots = wires_fit i.kind in
     let many : length (wires_taken p i) ≡ wires_in i.kind
@@ -43,7 +43,7 @@ gate_known p i known older =
 
 -- What holds of no gate, and of one gate more than it holds of, holds of all that are read, however many these are at most.
 gates_within : (Of : List Gate → Type 0)
-    → ((p : Parts) → IsTrue (is_gate (item_in p.rest).kind) → Of p.gates → Of (with_gate p (item_in p.rest)).gates)
+    → ((p : Parts) → Truth (is_gate (item_in p.rest).kind) → Of p.gates → Of (with_gate p (item_in p.rest)).gates)
     → Of []
     → (a b c : ℕ) (text : List ℕ) → Of (read_within a b c text).gates
 gates_within Of more of_none a b c text =

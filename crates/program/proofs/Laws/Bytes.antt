@@ -1,5 +1,5 @@
 -- The file that is written for a program is a file: each of its numbers is a byte.
-use Rattle.std.specs.Prelude.{ℕ, zero, suc, ◌+◌, ◌*◌, ◌/◌, ◌%◌, ◌≤◌, ◌<◌, ◌&&◌, List, [], ◌∷◌, ◌++◌, map, T as IsTrue, ltb, length, replicate}
+use Rattle.std.specs.Prelude.{ℕ, zero, suc, ◌+◌, ◌*◌, ◌/◌, ◌%◌, ◌≤◌, ◌<◌, ◌&&◌, List, [], ◌∷◌, ◌++◌, map, T as Truth, ltb, length, replicate}
 use Rattle.std.proofs.Common.{arith, ltb→lt, lt→ltb}
 use Rattle.std.proofs.Math.Pow.{are_bytes}
 use Rattle.rules.specs.Types.{Wire, Bit, Qubit, Ty, wire, unit, ◌⊗◌, ◌⊸◌, !◌, Circ, entries, wire_code, type_codes}
@@ -14,10 +14,10 @@ use Rattle.program.specs.Encoding.{program_arguments, encode}
 use Rattle.program.proofs.Laws.Trees.{Writable}
 use Rattle.program.proofs.Theorems.Encoding.{entries_append}
 
-bytes_first : (x : ℕ) (xs : List ℕ) → x < 256 → IsTrue (are_bytes xs) → IsTrue (are_bytes (x ∷ xs))
+bytes_first : (x : ℕ) (xs : List ℕ) → x < 256 → Truth (are_bytes xs) → Truth (are_bytes (x ∷ xs))
 bytes_first x xs h k = and_both (ltb x 256) (are_bytes xs) (lt→ltb x 256 h) k
 
-bytes_append : (xs ys : List ℕ) → IsTrue (are_bytes xs) → IsTrue (are_bytes ys) → IsTrue (are_bytes (xs ++ ys))
+bytes_append : (xs ys : List ℕ) → Truth (are_bytes xs) → Truth (are_bytes ys) → Truth (are_bytes (xs ++ ys))
 bytes_append [] ys h k = k
 bytes_append (x ∷ xs) ys h k =
     and_both (ltb x 256) (are_bytes (xs ++ ys)) (and_left (ltb x 256) (are_bytes xs) h)
@@ -32,7 +32,7 @@ small_append : (xs ys : List ℕ) → Small xs → Small ys → Small (xs ++ ys)
 small_append [] ys h k = k
 small_append (x ∷ xs) ys h k = (h.0, small_append xs ys h.1 k)
 
-words_bytes : (xs : List ℕ) → Small xs → IsTrue (are_bytes (words xs))
+words_bytes : (xs : List ℕ) → Small xs → Truth (are_bytes (words xs))
 words_bytes [] h = tt
 words_bytes (x ∷ xs) h =
     let l = h.0 in
@@ -43,11 +43,11 @@ wire_code_byte : (α : Wire) → wire_code α < 256
 wire_code_byte Bit = omega arith
 wire_code_byte Qubit = omega arith
 
-labels_bytes : (labels : List Wire) → IsTrue (are_bytes (map wire_code labels))
+labels_bytes : (labels : List Wire) → Truth (are_bytes (map wire_code labels))
 labels_bytes [] = tt
 labels_bytes (α ∷ labels) = bytes_first (wire_code α) (map wire_code labels) (wire_code_byte α) (labels_bytes labels)
 
-type_bytes : (A : Ty) → IsTrue (are_bytes (type_codes A))
+type_bytes : (A : Ty) → Truth (are_bytes (type_codes A))
 type_bytes (wire α) = bytes_first (wire_code α) [] (wire_code_byte α) tt
 type_bytes unit = tt
 type_bytes (A ⊗ B) = bytes_append (type_codes A) (type_codes B) (type_bytes A) (type_bytes B)
@@ -55,11 +55,11 @@ type_bytes (A ⊸ B) = bytes_append (type_codes A) (type_codes B) (type_bytes A)
 type_bytes (! A) = type_bytes A
 type_bytes (Circ A B) = bytes_append (type_codes A) (type_codes B) (type_bytes A) (type_bytes B)
 
-types_bytes : (As : List Ty) → IsTrue (are_bytes (codes_of As))
+types_bytes : (As : List Ty) → Truth (are_bytes (codes_of As))
 types_bytes [] = tt
 types_bytes (A ∷ As) = bytes_append (type_codes A) (codes_of As) (type_bytes A) (types_bytes As)
 
-kinds_bytes : (M : Term) → IsTrue (are_bytes (term_kinds M))
+kinds_bytes : (M : Term) → Truth (are_bytes (term_kinds M))
 kinds_bytes (variable x) = tt
 kinds_bytes (label ℓ) = tt
 kinds_bytes (gate x) = tt
@@ -79,17 +79,17 @@ record Bounds (l b p : ℕ) (M : Term) : Type 0 where
   labels_small : l ≤ most_labels
   binders_small : b + 2 * nodes M ≤ 65535
   positions_small : p + entries_of (types_in M) ≤ 65535
-  is_closed : IsTrue (closed_under b M)
-  are_labels : IsTrue (labels_below l M)
-  are_gates : IsTrue (gates_known M)
+  is_closed : Truth (closed_under b M)
+  are_labels : Truth (labels_below l M)
+  are_gates : Truth (gates_known M)
 
 -- Two parts of a term, the second under at most two binders more.
 parts_bound : (l b c p : ℕ) (M N : Term)
     → l ≤ most_labels → b + 2 * (1 + (nodes M + nodes N)) ≤ 65535 → c ≤ b + 2
     → p + entries_of (types_in M ++ types_in N) ≤ 65535
-    → IsTrue (closed_under b M && closed_under c N)
-    → IsTrue (labels_below l M && labels_below l N)
-    → IsTrue (gates_known M && gates_known N)
+    → Truth (closed_under b M && closed_under c N)
+    → Truth (labels_below l M && labels_below l N)
+    → Truth (gates_known M && gates_known N)
     → Bounds l b p M × Bounds l c (p + entries_of (types_in M)) N
 parts_bound l b c p M N hl hb hc hp x y z =
     let r = entries_append (types_in M) (types_in N) in (
@@ -115,7 +115,7 @@ parts_bound l b c p M N hl hb hc hp x y z =
 part_bound : (l b c q : ℕ) (M : Term)
     → l ≤ most_labels → b + 2 * (1 + nodes M) ≤ 65535 → c ≤ b + 2
     → q + entries_of (types_in M) ≤ 65535
-    → IsTrue (closed_under c M) → IsTrue (labels_below l M) → IsTrue (gates_known M)
+    → Truth (closed_under c M) → Truth (labels_below l M) → Truth (gates_known M)
     → Bounds l c q M
 part_bound l b c q M hl hb hc hp x y z =
     record {
@@ -134,7 +134,7 @@ small_parts p M N h k =
     (omega arith, small_append (term_arguments p M) (term_arguments (p + entries_of (types_in M)) N) h k)
 
 -- The arguments of a term have two bytes each, if the gates' numbers have.
-arguments_small : ((x : ℕ) → IsTrue (is_gate x) → x < 65536)
+arguments_small : ((x : ℕ) → Truth (is_gate x) → x < 65536)
     → (M : Term) (l b p : ℕ) → Bounds l b p M
     → Small (term_arguments p M)
 arguments_small gates (variable x) l b p w =
@@ -211,17 +211,17 @@ zeros_small zero = tt
 zeros_small (suc n) = (omega arith, zeros_small n)
 
 -- A gate's number is below the length of the table.
-some_below : (l : List GateType) (x : ℕ) → IsTrue (is_some (nth l x)) → x < length l
+some_below : (l : List GateType) (x : ℕ) → Truth (is_some (nth l x)) → x < length l
 some_below [] x h = absurd h
 some_below (g ∷ l) zero h = omega arith
 some_below (g ∷ l) (suc x) h = let k : x < length l = some_below l x h in omega arith
 
-gate_small : (x : ℕ) → IsTrue (is_gate x) → x < 65536
+gate_small : (x : ℕ) → Truth (is_gate x) → x < 65536
 unfolding is_gate
 gate_small x h = let k : x < length gate_table = some_below gate_table x h in omega arith
 
 -- Each number of the file that is written for a program is a byte.
-pub encode_bytes : (labels : List Wire) (M : Term) → Writable labels M → IsTrue (are_bytes (encode labels M))
+pub encode_bytes : (labels : List Wire) (M : Term) → Writable labels M → Truth (are_bytes (encode labels M))
 unfolding encode program_kinds program_arguments
 encode_bytes labels M w =
     let k = length labels + entries_of (types_in M) in

@@ -1,5 +1,5 @@
 -- What the kind of an entry says: which numbers are kinds of a section, and the shape that they give an entry.
-use Rattle.std.specs.Prelude.{ℕ, ◌≤◌, ◌<◌, ◌≡◌, refl, Bool, true, false, cond, not, List, T as IsTrue, eqb, leb}
+use Rattle.std.specs.Prelude.{ℕ, ◌≤◌, ◌<◌, ◌≡◌, refl, Bool, true, false, cond, not, List, T as Truth, eqb, leb}
 use Rattle.std.proofs.Common.{sym, ap, subst, arith, lt-ltb, le-ltb, le-leb, leb-true}
 use Rattle.std.proofs.Math.Decide.{dec_le}
 use Rattle.rules.specs.Kinds.{pair_type_kind, function_kind, reusable_kind, circuit_kind, unit_kind, variable_kind, label_kind}
@@ -15,8 +15,8 @@ use Rattle.program.specs.declared.format.Shape.{Shape}
 use Rattle.program.specs.declared.format.Shape.TheVariants.{Node, Unknown}
 
 -- A test that holds is true, and the other way round.
-pub of_true : (b : Bool) → b ≡ true → IsTrue b
-of_true b h = subst IsTrue (sym h) tt
+pub of_true : (b : Bool) → b ≡ true → Truth b
+of_true b h = subst Truth (sym h) tt
 
 -- The kinds of the type section.
 pub data TypeKind (k : ℕ) : Type 0 where
@@ -44,10 +44,10 @@ pub data TermKind (k : ℕ) : Type 0 where
   is_unit_value : k ≡ unit_value_kind → TermKind k
 
 -- An unknown shape is not known.
-unknown_not : (s : Shape) → IsTrue (is_known s) → s ≡ Unknown → ⊥
-unknown_not s h q = subst (λ t. IsTrue (is_known t)) q h
+unknown_not : (s : Shape) → Truth (is_known s) → s ≡ Unknown → ⊥
+unknown_not s h q = subst (λ t. Truth (is_known t)) q h
 
-type_range : (k : ℕ) → IsTrue (is_known (type_shape k)) → k ≤ unit_kind
+type_range : (k : ℕ) → Truth (is_known (type_shape k)) → k ≤ unit_kind
 type_range k h = go (dec_le k unit_kind)
   where
     go : Dec (k ≤ unit_kind) → k ≤ unit_kind
@@ -55,7 +55,7 @@ type_range k h = go (dec_le k unit_kind)
     go (no n) = absurd (unknown_not (type_shape k) h (no_types k (omega (arith, n))))
 
 -- An entry of the type section with a known shape has one of the seven kinds.
-pub type_kind : (k : ℕ) → IsTrue (is_known (type_shape k)) → TypeKind k
+pub type_kind : (k : ℕ) → Truth (is_known (type_shape k)) → TypeKind k
 type_kind k h =
     in_range TypeKind 0 7
     (is_bit refl
@@ -70,7 +70,7 @@ type_kind k h =
     (omega arith)
     (omega (arith, type_range k h))
 
-term_range : (k : ℕ) → IsTrue (is_known (term_shape k)) → (variable_kind ≤ k) × (k ≤ unit_value_kind)
+term_range : (k : ℕ) → Truth (is_known (term_shape k)) → (variable_kind ≤ k) × (k ≤ unit_value_kind)
 term_range k h = (go (dec_le variable_kind k), go' (dec_le k unit_value_kind))
   where
     go : Dec (variable_kind ≤ k) → variable_kind ≤ k
@@ -82,7 +82,7 @@ term_range k h = (go (dec_le variable_kind k), go' (dec_le k unit_value_kind))
     go' (no n) = absurd (unknown_not (term_shape k) h (no_terms_above k (omega (arith, n))))
 
 -- An entry of the term section with a known shape has one of the twelve kinds.
-pub term_kind : (k : ℕ) → IsTrue (is_known (term_shape k)) → TermKind k
+pub term_kind : (k : ℕ) → Truth (is_known (term_shape k)) → TermKind k
 term_kind k h =
     let r = term_range k h in
     in_range TermKind variable_kind 12
@@ -104,13 +104,13 @@ term_kind k h =
     (omega (arith, r.1))
 
 -- An entry of the label section with a known shape is Bit or Qubit.
-pub label_range : (k : ℕ) → IsTrue (is_known (label_shape k)) → k ≤ 1
+pub label_range : (k : ℕ) → Truth (is_known (label_shape k)) → k ≤ 1
 unfolding label_shape
 label_range k h = go (leb k 1) refl
   where
     go : (b : Bool) → leb k 1 ≡ b → k ≤ 1
     go true q = leb-true k 1 q
-    go false q = absurd (subst (λ (b : Bool). IsTrue (is_known (cond b (Node 0 Zero) Unknown))) q h)
+    go false q = absurd (subst (λ (b : Bool). Truth (is_known (cond b (Node 0 Zero) Unknown))) q h)
 
 -- The shape of an entry in its section.
 pub shape_of_label : (f : List ℕ) (e : ℕ) → e < label_count f → shape_at f e ≡ label_shape (kind_at f e)

@@ -1,5 +1,5 @@
 -- From the tests to the trees: the label section, the types at all positions, the term.
-use Rattle.std.specs.Prelude.{ℕ, zero, suc, ◌+◌, ◌-◌, ◌≤◌, ◌<◌, ◌≡◌, refl, Bool, true, false, ◌&&◌, not, List, [], ◌∷◌, T as IsTrue, eqb, ltb, length}
+use Rattle.std.specs.Prelude.{ℕ, zero, suc, ◌+◌, ◌-◌, ◌≤◌, ◌<◌, ◌≡◌, refl, Bool, true, false, ◌&&◌, not, List, [], ◌∷◌, T as Truth, eqb, ltb, length}
 use Rattle.std.proofs.Common.{sym, ap, subst, ◌∙◌, true≢false, arith, eqb→eq, ltb→lt}
 use Rattle.std.proofs.Math.Option.{some}
 use Rattle.std.proofs.Math.Decide.{dec_lt}
@@ -135,14 +135,14 @@ position_typed f p q h =
     (s.0, at_position s.1 r.2)
 
 -- A test that is found false by an equation with a negation.
-holds_of : (b w : Bool) → w ≡ false → w ≡ not b → IsTrue b
+holds_of : (b w : Bool) → w ≡ false → w ≡ not b → Truth b
 holds_of true w h q = tt
 holds_of false w h q = true≢false (sym q ∙ h)
 
 -- The Circs of a type of the section have wire types for their parts.
 pub type_formed : {f : List ℕ} {e n : ℕ} {A : Ty}
     → Passed f → TypeAt f e A n → label_count f ≤ e → n ≤ first_term f
-    → IsTrue (formed A)
+    → Truth (formed A)
 type_formed p (bit_at k) h l = tt
 type_formed p (qubit_at k) h l = tt
 type_formed p (unit_at k) h l = tt
@@ -258,7 +258,7 @@ terms_two_at C g (next_term {m = m} {M = M} s (next_term {m = k} {M = N} t r)) =
 argument_of_term : (f : List ℕ)
     → Passed f
     → (e k : ℕ) → first_term f ≤ e → e < entry_count f → kind_at f e ≡ k
-    → IsTrue (shape_allows (label_count f) (type_count f) (term_shape k) (argument_at f e))
+    → Truth (shape_allows (label_count f) (type_count f) (term_shape k) (argument_at f e))
 unfolding argument_wrong
 argument_of_term f p e k h l q =
     of_true (shape_allows (label_count f) (type_count f) (term_shape k) (argument_at f e))
@@ -365,13 +365,13 @@ whole_term f p =
 -- The labels and gates that a term names are there, and its boxes are of wire types.
 abbrev pub Allowed : List ℕ → Term → Type 0
 Allowed f M =
-    IsTrue (labels_below (label_count f) M) × IsTrue (gates_known M) × IsTrue (boxes_wired M)
+    Truth (labels_below (label_count f) M) × Truth (gates_known M) × Truth (boxes_wired M)
 
 allowed_two : (f : List ℕ) (M N : Term)
     → Allowed f M → Allowed f N
-    → IsTrue (labels_below (label_count f) M && labels_below (label_count f) N)
-    × IsTrue (gates_known M && gates_known N)
-    × IsTrue (boxes_wired M && boxes_wired N)
+    → Truth (labels_below (label_count f) M && labels_below (label_count f) N)
+    × Truth (gates_known M && gates_known N)
+    × Truth (boxes_wired M && boxes_wired N)
 allowed_two f M N h k = (
   and_both (labels_below (label_count f) M) (labels_below (label_count f) N) h.0 k.0,
   and_both (gates_known M) (gates_known N) h.1 k.1,
@@ -385,7 +385,7 @@ pub term_allowed : {f : List ℕ} {e n : ℕ} {M : Term}
 unfolding term_shape
 term_allowed p (variable_at_lem k a) h l = (tt, tt, tt)
 term_allowed {f} p (label_at {e = e} k a) h l =
-    (subst (λ x. IsTrue (ltb x (label_count f))) a (argument_of_term f p e 17 h l k), tt, tt)
+    (subst (λ x. Truth (ltb x (label_count f))) a (argument_of_term f p e 17 h l k), tt, tt)
 term_allowed p (abstraction_at k a s) h l = term_allowed p s (omega arith) l
 term_allowed {f} p (application_at {M = M} {N = N} k a s t) h l =
     let u = term_end s in
@@ -415,5 +415,5 @@ term_allowed {f} p (apply_at {M = M} {N = N} k a s t) h l =
     let u = term_end s in
     let v = term_end t in
     allowed_two f M N (term_allowed p s (omega arith) (omega arith)) (term_allowed p t (omega arith) l)
-term_allowed p (gate_at_lem {e = e} k a) h l = (tt, subst (λ x. IsTrue (is_gate x)) a (argument_of_term _ p e 26 h l k), tt)
+term_allowed p (gate_at_lem {e = e} k a) h l = (tt, subst (λ x. Truth (is_gate x)) a (argument_of_term _ p e 26 h l k), tt)
 term_allowed p (unit_value_at k a) h l = (tt, tt, tt)

@@ -1,5 +1,5 @@
 -- A file is accepted exactly if each test of `read` passes at each entry.
-use Rattle.std.specs.Prelude.{ℕ, zero, suc, ◌+◌, ◌*◌, ◌≤◌, ◌<◌, ◌≡◌, refl, Bool, true, false, ◌&&◌, cond, List, [], ◌∷◌, T as IsTrue, eqb, leb, ltb, length}
+use Rattle.std.specs.Prelude.{ℕ, zero, suc, ◌+◌, ◌*◌, ◌≤◌, ◌<◌, ◌≡◌, refl, Bool, true, false, ◌&&◌, cond, List, [], ◌∷◌, T as Truth, eqb, leb, ltb, length}
 use Rattle.std.proofs.Common.{ap, ◌∙◌, true≢false, arith, leb→le, le→leb, le-ltb, eqb-true, eq-eqb}
 use Rattle.std.proofs.Math.Decide.{ℕ_discrete}
 use Rattle.program.specs.Format.{label_count, type_count, term_count, first_term, entry_count, within}
@@ -151,7 +151,7 @@ scope_answer_lem f (To e) h = refl
 scope_answer_lem f (Stopped e) h = absurd (true≢false h)
 scope_answer_lem f Out h = refl
 
-sizes_right_lem : (f : List ℕ) → Passed f → IsTrue (sizes_right f)
+sizes_right_lem : (f : List ℕ) → Passed f → Truth (sizes_right f)
 unfolding sizes_right
 sizes_right_lem f p =
     and_both (leb (label_count f) most_labels) (leb (type_count f) most_types && within 1 most_terms (term_count f))

@@ -1,5 +1,5 @@
 -- Traversals over trees that stand in a file.
-use Rattle.std.specs.Prelude.{ℕ, suc, ◌+◌, ◌≤◌, ◌<◌, ◌≡◌, refl, Bool, true, false, ◌&&◌, cond, List, ◌∷◌, T as IsTrue, eqb, ltb}
+use Rattle.std.specs.Prelude.{ℕ, suc, ◌+◌, ◌≤◌, ◌<◌, ◌≡◌, refl, Bool, true, false, ◌&&◌, cond, List, ◌∷◌, T as Truth, eqb, ltb}
 use Rattle.std.proofs.Common.{ap, ap₂, subst, ◌∙◌, true≢false, arith}
 use Rattle.std.proofs.Math.Decide.{dec_lt, ℕ_discrete}
 use Rattle.rules.specs.Kinds.{variable_kind, abstraction_kind, let_kind}
@@ -198,7 +198,7 @@ pass_type {f} (circ_at {e = e} {m = m} {n = n} {A = A} {B = B} k s t) b h l =
 -- Of two tests that do not both hold, the first fails, or it holds and the second fails.
 either_fails : {P : Type 0} (x y : Bool)
     → (x && y) ≡ false
-    → (x ≡ false → P) → (IsTrue x → y ≡ false → P)
+    → (x ≡ false → P) → (Truth x → y ≡ false → P)
     → P
 either_fails true y h first second = second tt h
 either_fails false y h first second = first refl
@@ -206,7 +206,7 @@ either_fails false y h first second = first refl
 -- A wire type is passed over by the traversal that looks for wire types only.
 pub pass_wire : {f : List ℕ} {e n : ℕ} {A : Ty}
     → TypeAt f e A n
-    → (b : ℕ) → IsTrue (is_wire_type A)
+    → (b : ℕ) → Truth (is_wire_type A)
     → Passes WireType f e b (entries A) n
 pass_wire {f} (bit_at {e = e} k) b w = pass_leaf WireType f e b (ap wire_parts k)
 pass_wire {f} (qubit_at {e = e} k) b w = pass_leaf WireType f e b (ap wire_parts k)
@@ -253,7 +253,7 @@ term_end (gate_at_lem k a) = omega arith
 term_end (unit_value_at k a) = omega arith
 
 -- A term that stands in a file has no circuit constant.
-pub term_source : {f : List ℕ} {e n : ℕ} {M : Term} → TermAt f e M n → IsTrue (source M)
+pub term_source : {f : List ℕ} {e n : ℕ} {M : Term} → TermAt f e M n → Truth (source M)
 term_source (variable_at_lem k a) = tt
 term_source (label_at k a) = tt
 term_source (abstraction_at k a s) = term_source s
@@ -339,7 +339,7 @@ variable_parts f e b x t h k a q =
 -- A term whose variables have their binders is passed over by the traversal over binders.
 pub pass_scope : {f : List ℕ} {e n : ℕ} {M : Term}
     → TermAt f e M n
-    → (b : ℕ) → first_term f ≤ e → IsTrue (closed_under b M)
+    → (b : ℕ) → first_term f ≤ e → Truth (closed_under b M)
     → Passes Scope f e b (nodes M) n
 unfolding term_shape
 pass_scope {f} (variable_at_lem {e = e} {x = x} k a) b h c =

@@ -1,5 +1,5 @@
 -- What a program has to be for a file to hold it.
-use Rattle.std.specs.Prelude.{◌≤◌, Bool, true, ◌&&◌, List, [], ◌∷◌, T as IsTrue, length}
+use Rattle.std.specs.Prelude.{◌≤◌, Bool, true, ◌&&◌, List, [], ◌∷◌, T as Truth, length}
 use Rattle.rules.specs.Types.{Wire, Ty}
 use Rattle.rules.specs.Terms.{Term}
 use Rattle.rules.specs.Sizes.{nodes, most_labels, most_types, most_terms}
@@ -18,9 +18,9 @@ pub record Writable (labels : List Wire) (M : Term) : Type 0 where
   pub labels_fit : length labels ≤ most_labels
   pub types_fit : entries_of (types_in M) ≤ most_types
   pub nodes_fit : nodes M ≤ most_terms
-  pub is_source : IsTrue (source M)
-  pub types_formed : IsTrue (all_formed (types_in M))
-  pub labels_below_lem : IsTrue (labels_below (length labels) M)
-  pub gates_known_lem : IsTrue (gates_known M)
-  pub boxes_wired_lem : IsTrue (boxes_wired M)
-  pub closed : IsTrue (closed_under 0 M)
+  pub is_source : Truth (source M)
+  pub types_formed : Truth (all_formed (types_in M))
+  pub labels_below_lem : Truth (labels_below (length labels) M)
+  pub gates_known_lem : Truth (gates_known M)
+  pub boxes_wired_lem : Truth (boxes_wired M)
+  pub closed : Truth (closed_under 0 M)

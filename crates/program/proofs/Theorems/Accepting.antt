@@ -1,5 +1,5 @@
 -- `read` accepts exactly the files in which trees stand: what it accepts has a term, and what has a term it accepts.
-use Rattle.std.specs.Prelude.{ℕ, ◌+◌, ◌-◌, ◌≤◌, ◌<◌, ◌≡◌, refl, Bool, true, false, ◌&&◌, not, List, [], ◌∷◌, T as IsTrue, eqb, ltb}
+use Rattle.std.specs.Prelude.{ℕ, ◌+◌, ◌-◌, ◌≤◌, ◌<◌, ◌≡◌, refl, Bool, true, false, ◌&&◌, not, List, [], ◌∷◌, T as Truth, eqb, ltb}
 use Rattle.std.proofs.Common.{sym, ap, subst, ◌∙◌, true≢false, arith, eq-eqb, lt-ltb}
 use Rattle.std.proofs.Math.Decide.{dec_lt}
 use Rattle.rules.specs.Kinds.{circuit_kind, box_kind}
@@ -40,10 +40,10 @@ use Rattle.program.proofs.Laws.Traversal.{traverse_none}
 term_closed : (f : List ℕ) (M : Term)
     → TermAt f (first_term f) M (entry_count f)
     → is_stopped (traverse_from Scope f (term_count f) (first_term f) (0 ∷ [])) ≡ false
-    → IsTrue (closed_under 0 M)
+    → Truth (closed_under 0 M)
 term_closed f M s h = go (closed_under 0 M) refl
   where
-    go : (b : Bool) → closed_under 0 M ≡ b → IsTrue (closed_under 0 M)
+    go : (b : Bool) → closed_under 0 M ≡ b → Truth (closed_under 0 M)
     go true q = of_true (closed_under 0 M) q
     go false q =
         let u = term_end s in
@@ -74,10 +74,10 @@ trees_of f p M s =
       closed = term_closed f M s p.all_bound;
     }
   where
-    formed_at : (q : ℕ) (A : Ty) → TypeAtPosition f q A → IsTrue (formed A)
+    formed_at : (q : ℕ) (A : Ty) → TypeAtPosition f q A → Truth (formed A)
     formed_at q A (at_position t l) = type_formed p t (omega arith) l
 
-    typed : (q : ℕ) → (A : Ty) × TypeAtPosition f q A → (A : Ty) × TypeAtPosition f q A × IsTrue (formed A)
+    typed : (q : ℕ) → (A : Ty) × TypeAtPosition f q A → (A : Ty) × TypeAtPosition f q A × Truth (formed A)
     typed q t = (t.0, t.1, formed_at q t.0 t.1)
 
 -- A file that `read` accepts has labels and a term: the trees that stand in it. The answer has its sizes.
@@ -131,7 +131,7 @@ kind_of_tree (circ_at k s t) = is_circ k
 
 -- The test for wire types passes where a type stands whose Circs are of wire types.
 type_wires : {f : List ℕ} {e n : ℕ} {A : Ty}
-    → TypeAt f e A n → n ≤ first_term f → IsTrue (formed A)
+    → TypeAt f e A n → n ≤ first_term f → Truth (formed A)
     → (eqb (kind_at f e) circuit_kind && circ_wrong f e) ≡ false
 type_wires {f} (bit_at {e = e} k) h w = ap (λ i. eqb i circuit_kind && circ_wrong f e) k
 type_wires {f} (qubit_at {e = e} k) h w = ap (λ i. eqb i circuit_kind && circ_wrong f e) k
@@ -143,7 +143,7 @@ type_wires {f} (circ_at {e = e} {A = A} {B = B} k s t) h w =
     ap (λ i. eqb i circuit_kind && circ_wrong f e) k ∙ circ_test s t h ∙ ap not (is_true (is_wire_type A && is_wire_type B) w)
 
 type_right_at : {f : List ℕ} {e n : ℕ} {A : Ty}
-    → TypeAt f e A n → label_count f ≤ e → n ≤ first_term f → IsTrue (formed A) → argument_at f e ≡ 0
+    → TypeAt f e A n → label_count f ≤ e → n ≤ first_term f → Truth (formed A) → argument_at f e ≡ 0
     → EntryRight f e × (type_wrong f e ≡ false)
 unfolding type_wrong
 type_right_at {f} {e} {n} {A} s h l w a =
@@ -167,7 +167,7 @@ type_right f labels M t e h l =
     here : label_count f + (e - label_count f) ≡ e
     here = omega arith
 
-    go : (A : Ty) → TypeAtPosition f (e - label_count f) A → IsTrue (formed A) → EntryRight f e × (type_wrong f e ≡ false)
+    go : (A : Ty) → TypeAtPosition f (e - label_count f) A → Truth (formed A) → EntryRight f e × (type_wrong f e ≡ false)
     go A (at_position {n = n} s q) w =
         type_right_at (subst (λ i. TypeAt f i A n) here s) h q w (t.arguments_zero e l)
 
@@ -191,9 +191,9 @@ position_below : {f : List ℕ} {q : ℕ} {A : Ty} → TypeAtPosition f q A → 
 position_below (at_position s h) = let z = type_nonempty s in omega arith
 
 allowed_first : (f : List ℕ) (M N : Term)
-    → IsTrue (labels_below (label_count f) M && labels_below (label_count f) N)
-    × IsTrue (gates_known M && gates_known N)
-    × IsTrue (boxes_wired M && boxes_wired N)
+    → Truth (labels_below (label_count f) M && labels_below (label_count f) N)
+    × Truth (gates_known M && gates_known N)
+    × Truth (boxes_wired M && boxes_wired N)
     → Allowed f M
 allowed_first f M N h = (
   and_left (labels_below (label_count f) M) (labels_below (label_count f) N) h.0,
@@ -202,9 +202,9 @@ allowed_first f M N h = (
 )
 
 allowed_second : (f : List ℕ) (M N : Term)
-    → IsTrue (labels_below (label_count f) M && labels_below (label_count f) N)
-    × IsTrue (gates_known M && gates_known N)
-    × IsTrue (boxes_wired M && boxes_wired N)
+    → Truth (labels_below (label_count f) M && labels_below (label_count f) N)
+    × Truth (gates_known M && gates_known N)
+    × Truth (boxes_wired M && boxes_wired N)
     → Allowed f N
 allowed_second f M N h = (
   and_right (labels_below (label_count f) M) (labels_below (label_count f) N) h.0,

@@ -1,5 +1,5 @@
 -- The file that is written for a program is accepted, and its trees are the program.
-use Rattle.std.specs.Prelude.{ℕ, zero, suc, ◌+◌, ◌*◌, ◌/◌, ◌%◌, ◌≤◌, ◌<◌, ◌≡◌, refl, List, [], ◌∷◌, ◌++◌, map, T as IsTrue, length, get_or, replicate}
+use Rattle.std.specs.Prelude.{ℕ, zero, suc, ◌+◌, ◌*◌, ◌/◌, ◌%◌, ◌≤◌, ◌<◌, ◌≡◌, refl, List, [], ◌∷◌, ◌++◌, map, T as Truth, length, get_or, replicate}
 use Rattle.std.proofs.Common.{sym, ap, ap₂, subst, ◌∙◌, append_assoc, arith, length-append}
 use Rattle.std.proofs.Math.Option.{some}
 use Rattle.std.proofs.Math.Decide.{dec_lt}
@@ -99,7 +99,7 @@ type_stands f (Circ A B) e n h q =
     (stand_second (kind_at f) (suc e) (suc e + entries A) (type_codes A) (type_codes B) (omega arith) h.1) (omega arith))
 
 -- A wire type has no Circ at all.
-wire_formed : (A : Ty) → IsTrue (is_wire_type A) → IsTrue (formed A)
+wire_formed : (A : Ty) → Truth (is_wire_type A) → Truth (formed A)
 wire_formed (wire α) h = tt
 wire_formed unit h = tt
 wire_formed (A ⊗ B) h =
@@ -111,14 +111,14 @@ wire_formed (Circ A B) h = absurd h
 
 -- At entry i stands a type that ends by n, and its Circs are of wire types.
 abbrev TypedBy : List ℕ → ℕ → ℕ → Type 0
-TypedBy f n i = (A : Ty) × (m : ℕ) × TypeAt f i A m × (m ≤ n) × IsTrue (formed A)
+TypedBy f n i = (A : Ty) × (m : ℕ) × TypeAt f i A m × (m ≤ n) × Truth (formed A)
 
 typed_later : (f : List ℕ) (m n i : ℕ) → m ≤ n → TypedBy f m i → TypedBy f n i
 typed_later f m n i h t = let l = t.3 in (t.0, t.1, t.2, omega arith, t.4)
 
 -- At each entry of a type stands one of its parts.
 typed_inside : {f : List ℕ} {e n : ℕ} {A : Ty}
-    → TypeAt f e A n → IsTrue (formed A)
+    → TypeAt f e A n → Truth (formed A)
     → (i : ℕ) → e ≤ i → i < n → TypedBy f n i
 typed_inside {f} (bit_at {e = e} k) w =
     range_leaf (TypedBy f (suc e)) e (wire Bit, suc e, bit_at k, omega arith, tt)
@@ -147,7 +147,7 @@ typed_inside {f} (circ_at {e = e} {m = m} {n = n} {A = A} {B = B} k s t) w =
 
 -- At each entry of a list of types stands a type.
 typed_row : (f : List ℕ) (As : List Ty) (e n : ℕ)
-    → Stand (kind_at f) e (codes_of As) → n ≡ e + entries_of As → IsTrue (all_formed As)
+    → Stand (kind_at f) e (codes_of As) → n ≡ e + entries_of As → Truth (all_formed As)
     → (i : ℕ) → e ≤ i → i < n → TypedBy f n i
 typed_row f [] e n h q w i k l = let z : ⊥ = omega arith in absurd z
 typed_row f (A ∷ As) e n h q w i k l =
@@ -190,7 +190,7 @@ position_stands f A p rest h l =
     refl)
     l
 
-kinds_count : (M : Term) → IsTrue (source M) → length (term_kinds M) ≡ nodes M
+kinds_count : (M : Term) → Truth (source M) → length (term_kinds M) ≡ nodes M
 kinds_count (variable x) h = refl
 kinds_count (label ℓ) h = refl
 kinds_count (gate x) h = refl
@@ -339,7 +339,7 @@ part_first f e p k M N w =
     (term_arguments p M ++ term_arguments (p + entries_of (types_in M)) N) (types_in M ++ types_in N) w)
 
 part_second : (f : List ℕ) (e p k m : ℕ) (M N : Term)
-    → IsTrue (source M) → m ≡ suc e + nodes M → WrittenParts f e p k M N
+    → Truth (source M) → m ≡ suc e + nodes M → WrittenParts f e p k M N
     → WrittenTerm f m (p + entries_of (types_in M)) N
 part_second f e p k m M N h q w =
     let c = kinds_count M h in
@@ -350,7 +350,7 @@ part_second f e p k m M N h q w =
 
 -- A term stands where its kinds, its arguments and its types are written.
 term_stands : (f : List ℕ) (M : Term) (e p n : ℕ)
-    → IsTrue (source M) → n ≡ e + nodes M → WrittenTerm f e p M
+    → Truth (source M) → n ≡ e + nodes M → WrittenTerm f e p M
     → TermAt f e M n
 term_stands f (variable x) e p n h q w =
     let r : suc e ≡ n = omega arith in
@@ -492,7 +492,7 @@ file_length l p n K G = let q = length-append K (words G) in let r = words_count
 
 -- How many kinds and arguments a program has.
 program_kinds_count : (labels : List Wire) (M : Term)
-    → IsTrue (source M)
+    → Truth (source M)
     → length (program_kinds labels M) ≡ length labels + entries_of (types_in M) + nodes M
 unfolding program_kinds
 program_kinds_count labels M h =
@@ -504,7 +504,7 @@ program_kinds_count labels M h =
     omega arith
 
 program_arguments_count : (labels : List Wire) (M : Term)
-    → IsTrue (source M)
+    → Truth (source M)
     → length (program_arguments labels M) ≡ length labels + entries_of (types_in M) + nodes M
 unfolding program_arguments
 program_arguments_count labels M h =
@@ -524,7 +524,7 @@ record Holds (f : List ℕ) (labels : List Wire) (M : Term) : Type 0 where
   kinds_are : Stand (kind_at f) 0 (program_kinds labels M)
   arguments_are : Stand (argument_at f) 0 (program_arguments labels M)
 
-encode_holds : (labels : List Wire) (M : Term) → IsTrue (source M) → Holds (encode labels M) labels M
+encode_holds : (labels : List Wire) (M : Term) → Truth (source M) → Holds (encode labels M) labels M
 unfolding encode
 encode_holds labels M h =
     let l = length labels in
@@ -639,9 +639,9 @@ nodes_some (box T M) = omega arith
 nodes_some (apply M N) = omega arith
 
 positions_typed : (f : List ℕ) (labels : List Wire) (M : Term)
-    → Holds f labels M → IsTrue (all_formed (types_in M))
+    → Holds f labels M → Truth (all_formed (types_in M))
     → (p : ℕ) → p < type_count f
-    → (A : Ty) × TypeAtPosition f p A × IsTrue (formed A)
+    → (A : Ty) × TypeAtPosition f p A × Truth (formed A)
 positions_typed f labels M h w p l =
     let b = h.types_are in
     let t =
@@ -675,7 +675,7 @@ holds_accepted f labels M h w =
       type_at = positions_typed f labels M h w.types_formed;
       term_at_lem = term_stands f M (first_term f) 0 (entry_count f) w.is_source (omega arith) (term_section f labels M h);
       is_source = w.is_source;
-      labels_below_lem = subst (λ l. IsTrue (labels_below l M)) (sym a) w.labels_below_lem;
+      labels_below_lem = subst (λ l. Truth (labels_below l M)) (sym a) w.labels_below_lem;
       gates_known_lem = w.gates_known_lem;
       boxes_wired_lem = w.boxes_wired_lem;
       closed = w.closed;

@@ -1,5 +1,5 @@
 -- What the program of an accepted file is known to be.
-use Rattle.std.specs.Prelude.{ℕ, suc, ◌+◌, ◌≤◌, ◌<◌, ◌≡◌, refl, Bool, true, ◌&&◌, List, [], ◌∷◌, ◌++◌, T as IsTrue, eqb, leb}
+use Rattle.std.specs.Prelude.{ℕ, suc, ◌+◌, ◌≤◌, ◌<◌, ◌≡◌, refl, Bool, true, ◌&&◌, List, [], ◌∷◌, ◌++◌, T as Truth, eqb, leb}
 use Rattle.std.proofs.Common.{ap, subst, arith, ltb→lt, le→leb, ne_eqb}
 use Rattle.rules.specs.Types.{Wire, Ty, entries, most_entries}
 use Rattle.rules.specs.Terms.{Term, variable, label, gate, constant, abstraction, application, pair, let_in, lift, force}
@@ -28,9 +28,9 @@ all_bounded (A ∷ As) = leb (entries A) most_entries && all_bounded As
 
 -- What is known of the types that a term names.
 abbrev pub GoodTypes : List Ty → Type 0
-GoodTypes As = IsTrue (all_formed As) × IsTrue (all_bounded As)
+GoodTypes As = Truth (all_formed As) × Truth (all_bounded As)
 
-good_first : (A : Ty) (As : List Ty) → IsTrue (formed A) → entries A ≤ most_entries → GoodTypes As → GoodTypes (A ∷ As)
+good_first : (A : Ty) (As : List Ty) → Truth (formed A) → entries A ≤ most_entries → GoodTypes As → GoodTypes (A ∷ As)
 good_first A As h k g = (
   and_both (formed A) (all_formed As) h g.0,
   and_both (leb (entries A) most_entries) (all_bounded As) (le→leb (entries A) most_entries k) g.1,
@@ -50,16 +50,16 @@ good_append (A ∷ As) Bs g h =
 -- A type at a position of an accepted file: its Circs are of wire types, and it has at most as many entries as the section.
 position_good : (f : List ℕ) (labels : List Wire) (M : Term) (p : ℕ) (A : Ty)
     → AcceptedFile f labels M → TypeAtPosition f p A
-    → IsTrue (formed A) × (entries A ≤ most_entries)
+    → Truth (formed A) × (entries A ≤ most_entries)
 position_good f labels M p A t (at_position s h) =
     let a = type_end s in
     let b = type_nonempty s in
     let c = t.types_fit in
     let r = t.type_at p (omega arith) in
-    (subst (λ B. IsTrue (formed B)) (position_unique r.1 (at_position s h)) r.2, omega arith)
+    (subst (λ B. Truth (formed B)) (position_unique r.1 (at_position s h)) r.2, omega arith)
 
 types_good : {f : List ℕ} {e n : ℕ} {N : Term}
-    → ((p : ℕ) (A : Ty) → TypeAtPosition f p A → IsTrue (formed A) × (entries A ≤ most_entries))
+    → ((p : ℕ) (A : Ty) → TypeAtPosition f p A → Truth (formed A) × (entries A ≤ most_entries))
     → TermAt f e N n
     → GoodTypes (types_in N)
 types_good g (variable_at_lem k a) = (tt, tt)
@@ -92,7 +92,7 @@ none_of_two : (m n : ℕ) → m ≡ 0 → n ≡ 0 → m + n ≡ 0
 none_of_two m n h k = omega arith
 
 -- A label that is none of the file's is not used.
-pub labels_unused : (M : Term) (l : ℕ) → IsTrue (labels_below l M) → (ℓ : ℕ) → l ≤ ℓ → label_uses ℓ M ≡ 0
+pub labels_unused : (M : Term) (l : ℕ) → Truth (labels_below l M) → (ℓ : ℕ) → l ≤ ℓ → label_uses ℓ M ≡ 0
 labels_unused (variable x) l h ℓ k = refl
 labels_unused (label x) l h ℓ k = not_used ℓ x l (ltb→lt x l h) k
 labels_unused (gate x) l h ℓ k = refl
@@ -120,7 +120,7 @@ labels_unused (apply M N) l h ℓ k =
     (labels_unused N l (and_right (labels_below l M) (labels_below l N) h) ℓ k)
 
 -- A variable from outside is not used in a term whose variables all have their binder.
-pub variables_unused : (M : Term) (b : ℕ) → IsTrue (closed_under b M) → (n : ℕ) → b ≤ n → uses n M ≡ 0
+pub variables_unused : (M : Term) (b : ℕ) → Truth (closed_under b M) → (n : ℕ) → b ≤ n → uses n M ≡ 0
 variables_unused (variable x) b h n k = not_used n x b (ltb→lt x b h) k
 variables_unused (label x) b h n k = refl
 variables_unused (gate x) b h n k = refl

@@ -1,5 +1,5 @@
 -- Theorems on circuits: the empty one, a gate as one, what one circuit appended to another gives, and where wires go.
-use Rattle.std.specs.Prelude.{ℕ, zero, suc, ◌+◌, ◌≤◌, ◌<◌, ◌≡◌, refl, ◌≢◌, Bool, true, false, ◌&&◌, List, [], ◌∷◌, ◌++◌, map, T as IsTrue, eqb, leb, length}
+use Rattle.std.specs.Prelude.{ℕ, zero, suc, ◌+◌, ◌≤◌, ◌<◌, ◌≡◌, refl, ◌≢◌, Bool, true, false, ◌&&◌, List, [], ◌∷◌, ◌++◌, map, T as Truth, eqb, leb, length}
 use Rattle.std.proofs.Common.{zero-le, sym, ap, ap₂, ◌∙◌, subst, subst₂, append-nil, append_assoc, arith, zero-add, add-zero, suc-add, leb→le, length-append}
 use Rattle.std.proofs.Math.Path.{fun_ext}
 use Rattle.std.proofs.Math.Option
@@ -113,7 +113,7 @@ segment_none (suc n) zero = refl
 segment_none (suc n) (suc k) = segment_none n k
 
 -- The tuple of T's wires, numbered from n on, has type T.
-pub tuple_from_typed : (n : ℕ) (T : Ty) → IsTrue (is_wire_type T) → Bounded T
+pub tuple_from_typed : (n : ℕ) (T : Ty) → Truth (is_wire_type T) → Bounded T
     → [] ∣ segment n (wires T) ⊢ tuple (tuple_from n T) ∶ T
 tuple_from_typed n (wire α) t b = by_label parameters_end (segment_single n α)
 tuple_from_typed n unit t b = by_unit parameters_end (segment_none n)
@@ -129,7 +129,7 @@ tuple_from_typed n (! A) t b = absurd t
 tuple_from_typed n (Circ T U) t b = absurd t
 
 -- 01, box entry: "one new label for each wire of T, left to right from 0": that tuple has type T.
-pub tuple_from_has : (T : Ty) → IsTrue (is_wire_type T) → Bounded T → [] ∣ nth (wires T) ⊢ tuple (tuple_from 0 T) ∶ T
+pub tuple_from_has : (T : Ty) → Truth (is_wire_type T) → Bounded T → [] ∣ nth (wires T) ⊢ tuple (tuple_from 0 T) ∶ T
 tuple_from_has T t b = tuple_from_typed 0 T t b
 
 -- How often a label context has a label: once or not.
@@ -608,7 +608,7 @@ append_has {I} {hs} {gs} k r {T} {U} {Q₁} {Q₂} sound splits has copied_sound
 abbrev fitting : GateType → Bool
 fitting (T to U) = is_wire_type T && (is_wire_type U && leb (entries (Circ T U)) most_entries)
 
-table_fitting : IsTrue (every fitting gate_table)
+table_fitting : Truth (every fitting gate_table)
 table_fitting = tt
 
 numbers_of_types : (types : List Wire) (n : ℕ) (αs : List Wire)
@@ -672,16 +672,16 @@ gate_has {n} {T} {U} e =
     (sym loose_are)
     (tuple_from_typed (length (wires T)) U output (omega (arith, bound))))
   where
-    fits : IsTrue (fitting (T to U))
+    fits : Truth (fitting (T to U))
     fits = every_nth fitting gate_table n e table_fitting
 
-    input : IsTrue (is_wire_type T)
+    input : Truth (is_wire_type T)
     input = and_left (is_wire_type T) (is_wire_type U && leb (entries (Circ T U)) most_entries) fits
 
-    rest : IsTrue (is_wire_type U && leb (entries (Circ T U)) most_entries)
+    rest : Truth (is_wire_type U && leb (entries (Circ T U)) most_entries)
     rest = and_right (is_wire_type T) (is_wire_type U && leb (entries (Circ T U)) most_entries) fits
 
-    output : IsTrue (is_wire_type U)
+    output : Truth (is_wire_type U)
     output = and_left (is_wire_type U) (leb (entries (Circ T U)) most_entries) rest
 
     bound : Bounded (Circ T U)

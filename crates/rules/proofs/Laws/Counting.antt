@@ -1,5 +1,5 @@
 -- Laws of specs/Counting.antt.
-use Rattle.std.specs.Prelude.{ℕ, ◌≡◌, List, [], ◌∷◌, T as IsTrue}
+use Rattle.std.specs.Prelude.{ℕ, ◌≡◌, List, [], ◌∷◌, T as Truth}
 use Rattle.std.proofs.Math.Option.{some}
 use Rattle.rules.specs.Types.{Wire, Ty, wire, ◌⊗◌, ◌⊸◌, !◌, Circ, is_wire_type, wires, unit}
 use Rattle.rules.specs.Gates.{◌to◌, nth, gate_type}
@@ -18,7 +18,7 @@ pub data Plain : List Ty → LabelContext → Term → Ty → Type 0 where
       → Plain Γ Q (gate n) (Circ T U)
   plain_unit : {Γ : List Ty} {Q : LabelContext} → Plain Γ Q unit_value unit
   plain_circ : {Γ : List Ty} {Q : LabelContext} {T U : Ty} {gs : List Gate} {r : Tuple}
-      → IsTrue (is_wire_type T) → Bounded (Circ T U) → Sound (wires T) gs
+      → Truth (is_wire_type T) → Bounded (Circ T U) → Sound (wires T) gs
       → [] ∣ loose (wires T) gs ⊢ tuple r ∶ U
       → Plain Γ Q (constant (boxed T gs r)) (Circ T U)
   plain_abs : {Γ : List Ty} {Q : LabelContext} {A B : Ty} {M : Term}
@@ -38,7 +38,7 @@ pub data Plain : List Ty → LabelContext → Term → Ty → Type 0 where
       → Plain Γ Q (lift M) (! A)
   plain_force : {Γ : List Ty} {Q : LabelContext} {A : Ty} {M : Term} → Plain Γ Q M (! A) → Plain Γ Q (force M) A
   plain_box : {Γ : List Ty} {Q : LabelContext} {T U : Ty} {M : Term}
-      → IsTrue (is_wire_type T) → IsTrue (is_wire_type U) → Plain Γ Q M (! (T ⊸ U))
+      → Truth (is_wire_type T) → Truth (is_wire_type U) → Plain Γ Q M (! (T ⊸ U))
       → Plain Γ Q (box T M) (Circ T U)
   plain_apply : {Γ : List Ty} {Q : LabelContext} {T U : Ty} {M N : Term}
       → Plain Γ Q M (Circ T U) → Plain Γ Q N T

@@ -1,5 +1,5 @@
 -- Laws of specs/Parts.antt and specs/PartsColumn.antt.
-use Rattle.std.specs.Prelude.{ℕ, ◌-◌, ◌≤◌, ◌<◌, ◌≡◌, refl, Bool, true, false, ◌&&◌, cond, List, [], ◌∷◌, T as IsTrue, eqb, leb, ltb, length, get_or}
+use Rattle.std.specs.Prelude.{ℕ, ◌-◌, ◌≤◌, ◌<◌, ◌≡◌, refl, Bool, true, false, ◌&&◌, cond, List, [], ◌∷◌, T as Truth, eqb, leb, ltb, length, get_or}
 use Rattle.std.proofs.Common.{arith, ap, ◌∙◌, leb→le, ne_eqb}
 use Rattle.std.proofs.Math.Option.{none, some}
 use Rattle.rules.specs.Kinds.{unit_kind, variable_kind, unit_value_kind}
@@ -42,7 +42,7 @@ abbrev all_below : ℕ → List (ℕ × ℕ) → Bool
 all_below m [] = true
 all_below m (row ∷ rows) = ltb row.0 m && all_below m rows
 
-none_above : (m : ℕ) (rows : List (ℕ × ℕ)) → IsTrue (all_below m rows) → (k : ℕ) → m ≤ k → parts_in rows k ≡ none
+none_above : (m : ℕ) (rows : List (ℕ × ℕ)) → Truth (all_below m rows) → (k : ℕ) → m ≤ k → parts_in rows k ≡ none
 none_above m [] t k least = refl
 none_above m (row ∷ rows) t k least =
     let below : row.0 < m = leb→le _ m (and_left (ltb row.0 m) (all_below m rows) t) in
@@ -58,7 +58,7 @@ abbrev at_most_two : List (ℕ × ℕ) → Bool
 at_most_two [] = true
 at_most_two (row ∷ rows) = leb row.1 2 && at_most_two rows
 
-two_in : (rows : List (ℕ × ℕ)) → IsTrue (at_most_two rows) → (k : ℕ) → or_zero (parts_in rows k) ≤ 2
+two_in : (rows : List (ℕ × ℕ)) → Truth (at_most_two rows) → (k : ℕ) → or_zero (parts_in rows k) ≤ 2
 two_in [] t k = omega arith
 two_in (row ∷ rows) t k = go (eqb k row.0) (two_in rows (and_right (leb row.1 2) (at_most_two rows) t) k)
   where

@@ -1,5 +1,5 @@
 -- Values, evaluation contexts and substitution (000, lemma 2.1 and theorem 2.4), as preservation and progress need them.
-use Rattle.std.specs.Prelude.{ℕ, zero, suc, ◌≡◌, refl, ◌⊎◌, Bool, true, ◌&&◌, List, [], ◌∷◌, T as IsTrue}
+use Rattle.std.specs.Prelude.{ℕ, zero, suc, ◌≡◌, refl, ◌⊎◌, Bool, true, ◌&&◌, List, [], ◌∷◌, T as Truth}
 use Rattle.std.proofs.Common.{sym, subst, inl, inr}
 use Rattle.std.proofs.Math.Option.{Option, none, some}
 use Rattle.rules.specs.Types.{Ty, wire, ◌⊗◌, ◌⊸◌, !◌, Circ, is_wire_type, copyable}
@@ -19,7 +19,7 @@ use Rattle.rules.proofs.Laws.Booleans.{and_parts}
 
 -- 000, lemma 2.1: a value of a type that may be copied holds no label.
 pub copyable_no_label : {Q : LabelContext} {W : Term} {A : Ty}
-    → IsTrue (value W) → Copyable A → [] ∣ Q ⊢ W ∶ A → NoLabel Q
+    → Truth (value W) → Copyable A → [] ∣ Q ⊢ W ∶ A → NoLabel Q
 copyable_no_label v c (by_var x n) = n
 copyable_no_label v c (by_label p o) = absurd c
 copyable_no_label v c (by_gate p n e) = n
@@ -114,7 +114,7 @@ plug_has (apply_right W v E) (by_apply split_end s t u) =
 -- If two tests together are passed, each is.
 -- The closed values of each kind of type: a function is an abstraction.
 pub canonical_function : {Q : LabelContext} {W : Term} {A B : Ty}
-    → IsTrue (value W) → [] ∣ Q ⊢ W ∶ A ⊸ B → (M : Term) × (W ≡ abstraction A M)
+    → Truth (value W) → [] ∣ Q ⊢ W ∶ A ⊸ B → (M : Term) × (W ≡ abstraction A M)
 canonical_function v (by_var x n) = absurd v
 canonical_function v (by_abs {M = M} b t) = (M, refl)
 canonical_function v (by_app g s t u) = absurd v
@@ -124,8 +124,8 @@ canonical_function v (by_apply g s t u) = absurd v
 
 -- A value of a pair type is a pair of values.
 pub canonical_pair : {Q : LabelContext} {W : Term} {A B : Ty}
-    → IsTrue (value W) → [] ∣ Q ⊢ W ∶ A ⊗ B
-    → (W₁ : Term) × (W₂ : Term) × (W ≡ pair W₁ W₂) × IsTrue (value W₁) × IsTrue (value W₂)
+    → Truth (value W) → [] ∣ Q ⊢ W ∶ A ⊗ B
+    → (W₁ : Term) × (W₂ : Term) × (W ≡ pair W₁ W₂) × Truth (value W₁) × Truth (value W₂)
 canonical_pair v (by_var x n) = absurd v
 canonical_pair v (by_app g s t u) = absurd v
 canonical_pair v (by_tuple {M = M} {N = N} b g s t u) =
@@ -136,7 +136,7 @@ canonical_pair v (by_apply g s t u) = absurd v
 
 -- A value of a reusable type is a lift.
 pub canonical_reusable : {Q : LabelContext} {W : Term} {A : Ty}
-    → IsTrue (value W) → [] ∣ Q ⊢ W ∶ ! A → (M : Term) × (W ≡ lift M)
+    → Truth (value W) → [] ∣ Q ⊢ W ∶ ! A → (M : Term) × (W ≡ lift M)
 canonical_reusable v (by_var x n) = absurd v
 canonical_reusable v (by_app g s t u) = absurd v
 canonical_reusable v (by_let g s t u) = absurd v
@@ -146,7 +146,7 @@ canonical_reusable v (by_apply g s t u) = absurd v
 
 -- A value of a circuit type is a gate or a boxed circuit.
 pub canonical_circ : {Q : LabelContext} {W : Term} {T U : Ty}
-    → IsTrue (value W) → [] ∣ Q ⊢ W ∶ Circ T U → ((n : ℕ) × (W ≡ gate n)) ⊎ ((b : Boxed) × (W ≡ constant b))
+    → Truth (value W) → [] ∣ Q ⊢ W ∶ Circ T U → ((n : ℕ) × (W ≡ gate n)) ⊎ ((b : Boxed) × (W ≡ constant b))
 canonical_circ v (by_var x n) = absurd v
 canonical_circ v (by_gate {n = n} p l e) = inl (n, refl)
 canonical_circ v (by_circ {T = T} {gs = gs} {r = r} p n w b h t) = inr (boxed T gs r, refl)
@@ -158,7 +158,7 @@ canonical_circ v (by_apply g s t u) = absurd v
 
 -- A value of a wire type is a label tuple.
 pub canonical_wires : {Q : LabelContext} {W : Term} {T : Ty}
-    → IsTrue (is_wire_type T) → IsTrue (value W) → [] ∣ Q ⊢ W ∶ T → (k : Tuple) × (W ≡ tuple k)
+    → Truth (is_wire_type T) → Truth (value W) → [] ∣ Q ⊢ W ∶ T → (k : Tuple) × (W ≡ tuple k)
 canonical_wires w v (by_var x n) = absurd v
 canonical_wires w v (by_label {ℓ = ℓ} p o) = (single ℓ, refl)
 canonical_wires w v (by_gate p n e) = absurd w
@@ -185,9 +185,9 @@ gates_on_wires ((T to U) ∷ l) = is_wire_type T && is_wire_type U && gates_on_w
 
 abbrev OnWires : Option GateType → Type 0
 OnWires none = Unit {0}
-OnWires (some (T to U)) = IsTrue (is_wire_type T) × IsTrue (is_wire_type U)
+OnWires (some (T to U)) = Truth (is_wire_type T) × Truth (is_wire_type U)
 
-on_wires_at : (l : List GateType) (n : ℕ) → IsTrue (gates_on_wires l) → OnWires (nth l n)
+on_wires_at : (l : List GateType) (n : ℕ) → Truth (gates_on_wires l) → OnWires (nth l n)
 on_wires_at [] n t = tt
 on_wires_at ((T to U) ∷ l) zero t =
     and_parts (is_wire_type T) (is_wire_type U) (and_parts (is_wire_type T && is_wire_type U) (gates_on_wires l) t).0
@@ -195,12 +195,12 @@ on_wires_at ((T to U) ∷ l) (suc n) t = on_wires_at l n (and_parts (is_wire_typ
 
 -- The input and the output of a gate have wire types.
 pub gate_wire_types : (n : ℕ) {T U : Ty}
-    → gate_type n ≡ some (T to U) → IsTrue (is_wire_type T) × IsTrue (is_wire_type U)
+    → gate_type n ≡ some (T to U) → Truth (is_wire_type T) × Truth (is_wire_type U)
 gate_wire_types n e = subst OnWires e (on_wires_at gate_table n tt)
 
 -- A closed value of a circuit type takes a wire type.
 pub circ_wire_types : {Q : LabelContext} {W : Term} {T U : Ty}
-    → IsTrue (value W) → [] ∣ Q ⊢ W ∶ Circ T U → IsTrue (is_wire_type T)
+    → Truth (value W) → [] ∣ Q ⊢ W ∶ Circ T U → Truth (is_wire_type T)
 circ_wire_types v (by_var x n) = absurd v
 circ_wire_types v (by_gate {n = n} p l e) = (gate_wire_types n e).0
 circ_wire_types v (by_circ p n w b h t) = w
@@ -318,7 +318,7 @@ pub data Values : Context → LabelContext → List Term → Type 0 where
   values_end : {R : LabelContext} → NoLabel R → Values [] R []
   unused : {Δ : Context} {R : LabelContext} {W : Term} {Ws : List Term} → Values Δ R Ws → Values (none ∷ Δ) R (W ∷ Ws)
   used : {Δ : Context} {R R₁ R₂ : LabelContext} {A : Ty} {W : Term} {Ws : List Term}
-      → SplitsLabels R R₁ R₂ → IsTrue (value W) → [] ∣ R₁ ⊢ W ∶ A → Values Δ R₂ Ws
+      → SplitsLabels R R₁ R₂ → Truth (value W) → [] ∣ R₁ ⊢ W ∶ A → Values Δ R₂ Ws
       → Values (some A ∷ Δ) R (W ∷ Ws)
 
 -- The values of parameters hold no label.
@@ -440,7 +440,7 @@ substitution e vs s (by_apply g s' t u) =
 
 -- Substitution of one closed value, as β-reduction does it.
 pub substitute_one : {A B : Ty} {Q Q₁ Q₂ : LabelContext} {M W : Term}
-    → IsTrue (value W)
+    → Truth (value W)
     → SplitsLabels Q Q₁ Q₂
     → (some A ∷ []) ∣ Q₁ ⊢ M ∶ B
     → [] ∣ Q₂ ⊢ W ∶ A
@@ -450,8 +450,8 @@ substitute_one {Q₂ = Q₂} v s t u =
 
 -- Substitution of two closed values, as let does it.
 pub substitute_two : {A B C : Ty} {Q Q₁ Q₂ R R' : LabelContext} {M W W' : Term}
-    → IsTrue (value W)
-    → IsTrue (value W')
+    → Truth (value W)
+    → Truth (value W')
     → SplitsLabels Q Q₁ Q₂
     → SplitsLabels Q₁ R R'
     → [] ∣ R ⊢ W ∶ A

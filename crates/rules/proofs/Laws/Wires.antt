@@ -1,5 +1,5 @@
 -- Laws of counting and of places in a list, which the theorems on circuits use.
-use Rattle.std.specs.Prelude.{ℕ, zero, suc, ◌+◌, ◌≤◌, ◌<◌, ◌≡◌, refl, ◌≢◌, Bool, true, false, ◌&&◌, List, [], ◌∷◌, ◌++◌, map, T as IsTrue, eqb, length}
+use Rattle.std.specs.Prelude.{ℕ, zero, suc, ◌+◌, ◌≤◌, ◌<◌, ◌≡◌, refl, ◌≢◌, Bool, true, false, ◌&&◌, List, [], ◌∷◌, ◌++◌, map, T as Truth, eqb, length}
 use Rattle.std.proofs.Common.{sym, ap, ap₂, ◌∙◌, subst, arith, zero-add, add-zero, suc-add, eqb→eq}
 use Rattle.std.proofs.Math.Option.{none, some, some-injective}
 use Rattle.std.proofs.Math.Dec.{eqb_refl}
@@ -19,8 +19,8 @@ compared m n = of_test (eqb m n) refl
     of_test true e = equal (eqb→eq m n (rw e tt))
     of_test false e =
         unequal λ p.
-        let t : IsTrue (eqb m n) = subst (λ k. IsTrue (eqb m k)) p (eqb_refl m) in
-        subst IsTrue e t
+        let t : Truth (eqb m n) = subst (λ k. Truth (eqb m k)) p (eqb_refl m) in
+        subst Truth e t
 
 -- A number counts once where it is equal, and not where it is another.
 pub one_if_equal : (m n : ℕ) → m ≡ n → one_if (eqb m n) ≡ 1
@@ -135,8 +135,8 @@ module _ {A : Type 0} (test : A → Bool) where
   every [] = true
   every (a ∷ l) = test a && every l
 
-  pub every_nth : (l : List A) (n : ℕ) {a : A} → nth l n ≡ some a → IsTrue (every l) → IsTrue (test a)
+  pub every_nth : (l : List A) (n : ℕ) {a : A} → nth l n ≡ some a → Truth (every l) → Truth (test a)
   every_nth [] n p t = let z : ◌≡◌ {A = ℕ} 0 1 = cc in absurd (omega arith)
   every_nth (b ∷ l) zero {a} p t =
-      subst (λ x. IsTrue (test x)) (some-injective b a p) (and_left (test b) (every l) t)
+      subst (λ x. Truth (test x)) (some-injective b a p) (and_left (test b) (every l) t)
   every_nth (b ∷ l) (suc n) p t = every_nth l n p (and_right (test b) (every l) t)

@@ -1,6 +1,6 @@
 -- The typing rules, which share a context out to the parts of a term, agree with plain typing and counting. 01, "Typing":
 -- "so it is used exactly once; none bound outside a lift is used inside it".
-use Rattle.std.specs.Prelude.{ℕ, zero, suc, ◌+◌, ◌≡◌, refl, ◌↔◌, ◌⊎◌, Bool, true, false, not, List, [], ◌∷◌, T as IsTrue, eqb}
+use Rattle.std.specs.Prelude.{ℕ, zero, suc, ◌+◌, ◌≡◌, refl, ◌↔◌, ◌⊎◌, Bool, true, false, not, List, [], ◌∷◌, T as Truth, eqb}
 use Rattle.std.proofs.Common.{sym, ◌∙◌, ap, subst, inl, inr, arith, eqb→eq, T_not}
 use Rattle.std.proofs.Math.Path.{fun_ext}
 use Rattle.std.proofs.Math.Option.{Option, none, some, some-ne-none}
@@ -194,7 +194,7 @@ linear_apart A c l = T_not (copyable A) l c
 copyable_or_linear : (A : Ty) → Copyable A ⊎ Linear A
 copyable_or_linear A = go (copyable A)
   where
-    go : (b : Bool) → IsTrue b ⊎ IsTrue (not b)
+    go : (b : Bool) → Truth b ⊎ Truth (not b)
     go true = inl tt
     go false = inr tt
 
@@ -278,10 +278,10 @@ only_label_right Q ℓ α o k = go (eqb k ℓ) refl
   where
     go : (b : Bool) → eqb k ℓ ≡ b → RightUses Always (Q k) (one_if b)
     go true e =
-        let h : Q k ≡ some α = ap Q (eqb→eq k ℓ (subst IsTrue (sym e) tt)) ∙ o.0 in
+        let h : Q k ≡ some α = ap Q (eqb→eq k ℓ (subst Truth (sym e) tt)) ∙ o.0 in
         subst (λ a. RightUses Always a 1) (sym h) (λ u. refl)
     go false e =
-        let h : Q k ≡ none = o.1 k (λ p. subst IsTrue (ap (eqb k) p ∙ e) (eqb_refl k)) in
+        let h : Q k ≡ none = o.1 k (λ p. subst Truth (ap (eqb k) p ∙ e) (eqb_refl k)) in
         subst (λ a. RightUses Always a 0) (sym h) refl
 
 labels_sum : (Q Q₁ Q₂ : LabelContext) (M N : Term)
@@ -542,7 +542,7 @@ plain_unused {Q = Q} (plain_label {ℓ = k} {α = α} e) ℓ n = go (eqb ℓ k) 
   where
     go : (b : Bool) → eqb ℓ k ≡ b → one_if b ≡ 0
     go true h =
-        let x : ℓ ≡ k = eqb→eq ℓ k (subst IsTrue (sym h) tt) in
+        let x : ℓ ≡ k = eqb→eq ℓ k (subst Truth (sym h) tt) in
         absurd (some-ne-none α (sym e ∙ ap Q (sym x) ∙ n))
     go false h = refl
 plain_unused (plain_gate e) ℓ n = refl

@@ -1,5 +1,5 @@
 -- The step function gives exactly the steps of the rules; so a configuration has at most one step.
-use Rattle.std.specs.Prelude.{ℕ, ◌≡◌, refl, ◌&&◌, List, [], ◌∷◌, T as IsTrue}
+use Rattle.std.specs.Prelude.{ℕ, ◌≡◌, refl, ◌&&◌, List, [], ◌∷◌, T as Truth}
 use Rattle.std.proofs.Common.{sym, ◌∙◌, ap, subst}
 use Rattle.std.proofs.Math.Option.{Option, none, some, some-injective, none-ne-some}
 use Rattle.std.proofs.Math.Dec.{T_prop}
@@ -21,21 +21,21 @@ use Rattle.rules.proofs.Laws.Booleans.{and_left, and_right}
 
 -- A proto-redex (000, definition 2.16): P ::= V W | let ⟨x, y⟩ = V in N | force V | box_T V | apply(V, W).
 pub data Proto : Term → Type 0 where
-  proto_application : {M N : Term} → IsTrue (value M) → IsTrue (value N) → Proto (application M N)
-  proto_let : {M N : Term} → IsTrue (value M) → Proto (let_in M N)
-  proto_force : {M : Term} → IsTrue (value M) → Proto (force M)
-  proto_box : {T : Ty} {M : Term} → IsTrue (value M) → Proto (box T M)
-  proto_apply : {M N : Term} → IsTrue (value M) → IsTrue (value N) → Proto (apply M N)
+  proto_application : {M N : Term} → Truth (value M) → Truth (value N) → Proto (application M N)
+  proto_let : {M N : Term} → Truth (value M) → Proto (let_in M N)
+  proto_force : {M : Term} → Truth (value M) → Proto (force M)
+  proto_box : {T : Ty} {M : Term} → Truth (value M) → Proto (box T M)
+  proto_apply : {M N : Term} → Truth (value M) → Truth (value N) → Proto (apply M N)
 
 -- The parts of a pair that is a value are values.
-pub first_value : (M N : Term) → IsTrue (value (pair M N)) → IsTrue (value M)
+pub first_value : (M N : Term) → Truth (value (pair M N)) → Truth (value M)
 first_value M N v = and_left (value M) (value N) v
 
-pub second_value : (M N : Term) → IsTrue (value (pair M N)) → IsTrue (value N)
+pub second_value : (M N : Term) → Truth (value (pair M N)) → Truth (value N)
 second_value M N v = and_right (value M) (value N) v
 
 -- In a value the step function finds nothing to reduce.
-pub find_value : (W : Term) (v : IsTrue (value W)) → find W ≡ is_value_lem v
+pub find_value : (W : Term) (v : Truth (value W)) → find W ≡ is_value_lem v
 find_value (variable n) v = absurd v
 find_value (label ℓ) v = refl
 find_value (gate n) v = refl
@@ -87,10 +87,10 @@ Finds M (reducible E R) = Proto R × (M ≡ plug E R)
 Finds M free = Unit {0}
 
 within_finds : {M N : Term} (inside : EvaluationContext → EvaluationContext) (f : Found M)
-    (then : IsTrue (value M) → Found N)
+    (then : Truth (value M) → Found N)
     → ((E : EvaluationContext) (R : Term) → M ≡ plug E R → N ≡ plug (inside E) R)
     → Finds M f
-    → ((v : IsTrue (value M)) → Finds N (then v))
+    → ((v : Truth (value M)) → Finds N (then v))
     → Finds N (within inside f then)
 within_finds inside (is_value_lem v) then h m n = n v
 within_finds inside (reducible E R) then h m n = (m.0, h E R m.1)
@@ -127,7 +127,7 @@ pub find_is_proto : (M : Term) (E : EvaluationContext) (R : Term) → find M ≡
 find_is_proto M E R e = (subst (Finds M) e (find_finds M)).0
 
 -- A label tuple is a value.
-pub tuple_value : (k : Tuple) → IsTrue (value (tuple k))
+pub tuple_value : (k : Tuple) → Truth (value (tuple k))
 tuple_value (single ℓ) = tt
 tuple_value empty = tt
 tuple_value (both t u) = both_values (tuple t) (tuple u) (tuple_value t) (tuple_value u)
@@ -192,7 +192,7 @@ module _ (C : Circuit) (E : EvaluationContext) (X : List Frame) (K : List Boxed)
   StepAt R = configuration (frame C (plug E R)) X K ⟶ d
 
   application_step : {M : Term} (m : View M) (N : Term)
-      → IsTrue (value N)
+      → Truth (value N)
       → step_application C E X K m N ≡ some d
       → StepAt (application M N)
   application_step (abstraction_view A M) N w e = step_to_lem _ d (β_reduction E A M N w) e
@@ -203,7 +203,7 @@ module _ (C : Circuit) (E : EvaluationContext) (X : List Frame) (K : List Boxed)
   application_step (other_view M) N w e = no_step d e
 
   let_in_step : {M : Term} (m : View M) (N : Term)
-      → IsTrue (value M)
+      → Truth (value M)
       → step_let C E X K m N ≡ some d
       → StepAt (let_in M N)
   let_in_step (abstraction_view A M) N v e = no_step d e
@@ -349,7 +349,7 @@ no_exit C (some r) K = refl
 
 -- No rule applies where the program is finished. 01: "Finished: one frame, its term a value."
 pub value_no_step : {C : Circuit} {M : Term} {K : List Boxed} {d : Configuration}
-    → IsTrue (value M)
+    → Truth (value M)
     → configuration (frame C M) [] K ⟶ d
     → ⊥
 value_no_step {C} {M} {K} {d} v s =

@@ -1,5 +1,5 @@
 -- The inference function agrees with plain typing on the terms of program files.
-use Rattle.std.specs.Prelude.{◌≡◌, refl, ◌↔◌, Bool, true, false, ◌&&◌, List, [], ◌∷◌, T as IsTrue, leb}
+use Rattle.std.specs.Prelude.{◌≡◌, refl, ◌↔◌, Bool, true, false, ◌&&◌, List, [], ◌∷◌, T as Truth, leb}
 use Rattle.std.proofs.Common.{sym, ◌∙◌, ap, subst, leb→le, le→leb}
 use Rattle.std.proofs.Math.Option.{Option, none, some, map, some-ne-none}
 use Rattle.rules.specs.Types.{Wire, Ty, wire, ◌⊗◌, ◌⊸◌, !◌, Circ, is_wire_type, entries, most_entries, Wire_discrete}
@@ -23,26 +23,26 @@ given_some : {X Y : Type 0} (o : Option X) (f : X → Option Y) (y : Y)
 given_some none f y e = absurd (some-ne-none y (sym e))
 given_some (some x) f y e = (x, refl, e)
 
-if_true_some : (b : Bool) (A B : Ty) → if_true b A ≡ some B → IsTrue b × (A ≡ B)
+if_true_some : (b : Bool) (A B : Ty) → if_true b A ≡ some B → Truth b × (A ≡ B)
 if_true_some true A B e = (tt, cc)
 if_true_some false A B e = absurd (some-ne-none B (sym e))
 
-true_some : (b : Bool) (A : Ty) → IsTrue b → if_true b A ≡ some A
+true_some : (b : Bool) (A : Ty) → Truth b → if_true b A ≡ some A
 true_some true A t = refl
 true_some false A t = absurd t
 
-yes_holds : {X : Type 0} (d : Dec X) → IsTrue (is_yes d) → X
+yes_holds : {X : Type 0} (d : Dec X) → Truth (is_yes d) → X
 yes_holds (yes x) t = x
 yes_holds (no f) t = absurd t
 
-holds_yes : {X : Type 0} (d : Dec X) → X → IsTrue (is_yes d)
+holds_yes : {X : Type 0} (d : Dec X) → X → Truth (is_yes d)
 holds_yes (yes x) y = tt
 holds_yes (no f) y = absurd (f y)
 
-same→equal : (A B : Ty) → IsTrue (same A B) → A ≡ B
+same→equal : (A B : Ty) → Truth (same A B) → A ≡ B
 same→equal A B t = yes_holds (Ty_discrete Wire_discrete A B) t
 
-same_refl : (A : Ty) → IsTrue (same A A)
+same_refl : (A : Ty) → Truth (same A A)
 same_refl A = holds_yes (Ty_discrete Wire_discrete A A) refl
 
 bounded_some : (A B : Ty) → if_bounded A ≡ some B → Bounded A × (A ≡ B)
@@ -108,7 +108,7 @@ abbrev type_of_box : Ty → Ty → Option Ty
 type_of_box T F = given (as_function F) (box_at T)
 
 box_inferred : (T A B : Ty) → given (as_reusable A) (type_of_box T) ≡ some B
-    → (U : Ty) × IsTrue (is_wire_type T) × IsTrue (is_wire_type U) × (A ≡ ! (T ⊸ U)) × (Circ T U ≡ B)
+    → (U : Ty) × Truth (is_wire_type T) × Truth (is_wire_type U) × (A ≡ ! (T ⊸ U)) × (Circ T U ≡ B)
 box_inferred T A B e =
     let f = given_some (as_reusable A) (type_of_box T) B e in
     let g = given_some (as_function f.0) (box_at T) B f.2 in
@@ -189,7 +189,7 @@ infer→plain Γ Q (apply M N) A e =
 
 -- The inference function gives a term of a program file its plain type.
 pub plain→infer : {Γ : List Ty} {Q : LabelContext} {M : Term} {A : Ty}
-    → IsTrue (source M) → Plain Γ Q M A → infer Γ Q M ≡ some A
+    → Truth (source M) → Plain Γ Q M A → infer Γ Q M ≡ some A
 plain→infer s (plain_var e) = e
 plain→infer s (plain_label e) = ap (map wire) e
 plain→infer s (plain_gate e) = ap (map gate_node_type) e
@@ -223,6 +223,6 @@ plain→infer s (plain_apply {T = T} {U = U} {M = M} {N = N} d e) =
 -- The typing rules by computation: a program file's term has a type by the rules exactly if the inference function gives
 -- that type and the counts are right.
 pub judgement_is_inference : (Q : LabelContext) (M : Term) (A : Ty)
-    → IsTrue (source M)
+    → Truth (source M)
     → ([] ∣ Q ⊢ M ∶ A) ↔ ((infer [] Q M ≡ some A) × Counted [] Q M A)
 judgement_is_inference Q M A s = (λ d. (plain→infer s (closed→plain d), has→counted d), λ p. counted→has p.1)

@@ -1,5 +1,5 @@
 -- What comes of taking steps one after another is what the rules say, in each of the three endings.
-use Rattle.std.specs.Prelude.{ℕ, zero, suc, ◌+◌, ◌-◌, ◌≤◌, ◌<◌, ◌≡◌, refl, ◌⊎◌, Bool, true, false, ◌&&◌, List, T as IsTrue, leb}
+use Rattle.std.specs.Prelude.{ℕ, zero, suc, ◌+◌, ◌-◌, ◌≤◌, ◌<◌, ◌≡◌, refl, ◌⊎◌, Bool, true, false, ◌&&◌, List, T as Truth, leb}
 use Rattle.std.proofs.Common.{arith, zero-add, suc-add, sym, ◌∙◌, ap, ap₂, subst, inl, inr, leb→le, le→leb}
 use Rattle.std.proofs.Math.Option.{Option, none, some, none-ne-some}
 use Rattle.rules.specs.Types.{Wire, Ty}
@@ -45,19 +45,19 @@ pub record EndingMeans (r : Reached) (e : Ending) (At : ℕ → Configuration �
   pub only : (n : ℕ) (d : Configuration) → At n d → r ≡ ended e n d
 
 -- Three tests together are passed if each is, and the other way round.
-three_true : (a b c : Bool) → IsTrue (a && (b && c)) → IsTrue a × IsTrue b × IsTrue c
+three_true : (a b c : Bool) → Truth (a && (b && c)) → Truth a × Truth b × Truth c
 three_true true true true h = (tt, tt, tt)
 three_true true true false h = absurd h
 three_true true false c h = absurd h
 three_true false b c h = absurd h
 
-true_three : (a b c : Bool) → IsTrue a → IsTrue b → IsTrue c → IsTrue (a && (b && c))
+true_three : (a b c : Bool) → Truth a → Truth b → Truth c → Truth (a && (b && c))
 true_three true true c h i j = j
 true_three true false c h i j = absurd i
 true_three false b c h i j = absurd h
 
 -- A configuration that passes the test `fits` fits.
-pub fits_true : (allowance : ℕ) (c : Configuration) → IsTrue (fits allowance c) → Fits allowance c
+pub fits_true : (allowance : ℕ) (c : Configuration) → Truth (fits allowance c) → Fits allowance c
 fits_true allowance c h =
     let t =
     three_true (leb (total_nodes c) most_nodes) (leb (total_gates c) allowance) (leb (boxes_closed c) most_boxes) h in
@@ -68,7 +68,7 @@ fits_true allowance c h =
     }
 
 -- A configuration that fits passes it.
-pub true_fits : (allowance : ℕ) (c : Configuration) → Fits allowance c → IsTrue (fits allowance c)
+pub true_fits : (allowance : ℕ) (c : Configuration) → Fits allowance c → Truth (fits allowance c)
 true_fits allowance c f =
     true_three (leb (total_nodes c) most_nodes) (leb (total_gates c) allowance) (leb (boxes_closed c) most_boxes)
     (le→leb (total_nodes c) most_nodes f.nodes_fit)
@@ -77,13 +77,13 @@ true_fits allowance c f =
 
 -- One that does not pass it does not fit, and the other way round.
 pub fits_false : (allowance : ℕ) (c : Configuration) → fits allowance c ≡ false → Fits allowance c → ⊥
-fits_false allowance c p f = subst IsTrue p (true_fits allowance c f)
+fits_false allowance c p f = subst Truth p (true_fits allowance c f)
 
 pub false_fits : (allowance : ℕ) (c : Configuration) → (Fits allowance c → ⊥) → fits allowance c ≡ false
 false_fits allowance c h = of (fits allowance c) refl
   where
     of : (a : Bool) → fits allowance c ≡ a → a ≡ false
-    of true p = absurd (h (fits_true allowance c (subst IsTrue (sym p) tt)))
+    of true p = absurd (h (fits_true allowance c (subst Truth (sym p) tt)))
     of false p = refl
 
 -- A step that fits is taken.
@@ -145,7 +145,7 @@ module _ (allowance limit k n : ℕ) (b c : Configuration) (row : Row allowance 
       → fits allowance d ≡ a
       → Ends allowance limit b (step_to a n c (advanced allowance k (suc n) d))
   fitting_ends d true p q =
-      later d (one_more row (next→step c d p) (fits_true allowance d (subst IsTrue (sym q) tt)))
+      later d (one_more row (next→step c d p) (fits_true allowance d (subst Truth (sym q) tt)))
   fitting_ends d false p q = (row, omega arith, (earlier, d, p, q))
 
   step_ends : (d : Option Configuration)
@@ -339,7 +339,7 @@ module _ (a b k n : ℕ) (c : Configuration) (less : a ≤ b)
       → ((step_to t n c (advanced a k (suc n) d)).ending ≡ does_not_fit → ⊥)
       → step_to t n c (advanced a k (suc n) d) ≡ step_to (fits b d) n c (advanced b k (suc n) d)
   same_if_fitting d true p h =
-      let fitting : Fits a d = fits_true a d (subst IsTrue (sym p) tt) in
+      let fitting : Fits a d = fits_true a d (subst Truth (sym p) tt) in
       let more : fits b d ≡ true = is_true (fits b d) (true_fits b d (fits_more less fitting)) in
       later d h ∙ ap (λ t. step_to t n c (advanced b k (suc n) d)) (sym more)
   same_if_fitting d false p h = absurd (h refl)

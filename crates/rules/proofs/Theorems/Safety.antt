@@ -1,5 +1,5 @@
 -- Preservation (000, theorem 2.17), progress (000, theorem 2.18) and demand 3, for stacked configurations.
-use Rattle.std.specs.Prelude.{ℕ, suc, ◌≡◌, refl, ◌⊎◌, List, [], ◌∷◌, T as IsTrue}
+use Rattle.std.specs.Prelude.{ℕ, suc, ◌≡◌, refl, ◌⊎◌, List, [], ◌∷◌, T as Truth}
 use Rattle.std.proofs.Common.{arith, sym, ◌∙◌, subst, inl, inr}
 use Rattle.std.proofs.Math.Path.{fun_ext}
 use Rattle.std.proofs.Math.Option.{none, some}
@@ -32,8 +32,8 @@ use Rattle.rules.proofs.Theorems.Deterministic.{deterministic, same_box, value_n
 
 -- The parts of a term at which a step happens.
 pub data Redex : Term → Type 0 where
-  at_application : (A : Ty) (M W : Term) → IsTrue (value W) → Redex (application (abstraction A M) W)
-  at_let : (M W W' : Term) → IsTrue (value W) → IsTrue (value W') → Redex (let_in (pair W W') M)
+  at_application : (A : Ty) (M W : Term) → Truth (value W) → Redex (application (abstraction A M) W)
+  at_let : (M W W' : Term) → Truth (value W) → Truth (value W') → Redex (let_in (pair W W') M)
   at_force : (M : Term) → Redex (force (lift M))
   at_gate : (n : ℕ) (T U : Ty) (k : Tuple) → gate_type n ≡ some (T to U) → Redex (apply (gate n) (tuple k))
   at_constant : (b : Boxed) (k : Tuple) → Redex (apply (constant b) (tuple k))
@@ -46,7 +46,7 @@ pub record Reduces (M : Term) : Type 0 where
   pub here : M ≡ plug context part
 
 abbrev Progress : Term → Type 0
-Progress M = IsTrue (value M) ⊎ Reduces M
+Progress M = Truth (value M) ⊎ Reduces M
 
 -- A part that goes on makes the whole go on.
 inside : (M N : Term) (into : EvaluationContext → EvaluationContext) (around : Term → Term)
@@ -68,22 +68,22 @@ at_root {M} r = record { context = hole; part = M; redex = r; here = refl }
 -- The redexes, from the forms that the values in them have.
 application_redex : {Q : LabelContext} {M N : Term} {A B : Ty}
     → [] ∣ Q ⊢ M ∶ A ⊸ B
-    → IsTrue (value M)
-    → IsTrue (value N)
+    → Truth (value M)
+    → Truth (value N)
     → Redex (application M N)
 application_redex {N = N} {A = A} d v w =
     let (M, p) = canonical_function v d in
     subst (λ P. Redex (application P N)) (sym p) (at_application A M N w)
 
-let_redex : {Q : LabelContext} {M N : Term} {A B : Ty} → [] ∣ Q ⊢ M ∶ A ⊗ B → IsTrue (value M) → Redex (let_in M N)
+let_redex : {Q : LabelContext} {M N : Term} {A B : Ty} → [] ∣ Q ⊢ M ∶ A ⊗ B → Truth (value M) → Redex (let_in M N)
 let_redex {N = N} d v =
     let (W, W', p, w, w') = canonical_pair v d in
     subst (λ P. Redex (let_in P N)) (sym p) (at_let N W W' w w')
 
-force_redex : {Q : LabelContext} {M : Term} {A : Ty} → [] ∣ Q ⊢ M ∶ ! A → IsTrue (value M) → Redex (force M)
+force_redex : {Q : LabelContext} {M : Term} {A : Ty} → [] ∣ Q ⊢ M ∶ ! A → Truth (value M) → Redex (force M)
 force_redex d v = let (M, p) = canonical_reusable v d in subst (λ P. Redex (force P)) (sym p) (at_force M)
 
-box_redex : {Q : LabelContext} {M : Term} {A : Ty} (T : Ty) → [] ∣ Q ⊢ M ∶ ! A → IsTrue (value M) → Redex (box T M)
+box_redex : {Q : LabelContext} {M : Term} {A : Ty} (T : Ty) → [] ∣ Q ⊢ M ∶ ! A → Truth (value M) → Redex (box T M)
 box_redex T d v = let (M, p) = canonical_reusable v d in subst (λ P. Redex (box T P)) (sym p) (at_box T M)
 
 gate_redex : {Q : LabelContext} (n : ℕ) (k : Tuple) {A : Ty} → [] ∣ Q ⊢ gate n ∶ A → Redex (apply (gate n) (tuple k))
@@ -92,8 +92,8 @@ gate_redex n k (by_gate {T = T} {U = U} p q g) = at_gate n T U k g
 apply_redex : {Q R : LabelContext} {M N : Term} {T U : Ty}
     → [] ∣ Q ⊢ M ∶ Circ T U
     → [] ∣ R ⊢ N ∶ T
-    → IsTrue (value M)
-    → IsTrue (value N)
+    → Truth (value M)
+    → Truth (value N)
     → Redex (apply M N)
 apply_redex {Q} {M = M} {N = N} {T = T} {U = U} d e v w =
     let (k, p) = canonical_wires (circ_wire_types v d) w e in
@@ -158,14 +158,14 @@ refilled : (E : EvaluationContext) {Q : LabelContext} {A : Ty} (M N : Term)
 refilled E {Q} M N f d = let p = plug_has E d in p.refill N Q p.Q₁ p.shared (f p.Q₁ p.B p.has)
 
 pub application_keeps : {Q : LabelContext} {A B : Ty} {M W : Term}
-    → IsTrue (value W)
+    → Truth (value W)
     → [] ∣ Q ⊢ application (abstraction A M) W ∶ B
     → [] ∣ Q ⊢ substitute (W ∷ []) M ∶ B
 application_keeps v (by_app split_end s (by_abs b d) e) = substitute_one v s d e
 
 pub let_keeps : {Q : LabelContext} {C : Ty} {M W W' : Term}
-    → IsTrue (value W)
-    → IsTrue (value W')
+    → Truth (value W)
+    → Truth (value W')
     → [] ∣ Q ⊢ let_in (pair W W') M ∶ C
     → [] ∣ Q ⊢ substitute (W' ∷ W ∷ []) M ∶ C
 let_keeps v w (by_let split_end s (by_tuple b split_end t d e) f) = substitute_two v w s t d e f
@@ -179,7 +179,7 @@ pub record Applying (Q : LabelContext) (F N : Term) (U : Ty) : Type 0 where
   pub circuit_has : [] ∣ (λ ℓ. none) ⊢ F ∶ Circ T U
   pub argument_has : [] ∣ Q ⊢ N ∶ T
 
-applying : {Q : LabelContext} {F N : Term} {U : Ty} → IsTrue (value F) → [] ∣ Q ⊢ apply F N ∶ U → Applying Q F N U
+applying : {Q : LabelContext} {F N : Term} {U : Ty} → Truth (value F) → [] ∣ Q ⊢ apply F N ∶ U → Applying Q F N U
 applying {Q} {F} {N} {U} v (by_apply {Q₁ = Q₁} {T = T} split_end s d e) =
     let n : NoLabel Q₁ = copyable_no_label v tt d in
     record {
@@ -258,8 +258,8 @@ pub record Boxing (Q : LabelContext) (T : Ty) (M : Term) (A : Ty) : Type 0 where
   pub U : Ty
   pub is_circ : A ≡ Circ T U
   pub no_label : NoLabel Q
-  pub input_wires_lem : IsTrue (is_wire_type T)
-  pub output_wires_lem : IsTrue (is_wire_type U)
+  pub input_wires_lem : Truth (is_wire_type T)
+  pub output_wires_lem : Truth (is_wire_type U)
   pub input_bounded : Bounded T
   pub box_bounded : Bounded (Circ T U)
   pub box_has : [] ∣ (λ ℓ. none) ⊢ box T (lift M) ∶ Circ T U
@@ -398,10 +398,10 @@ value_exit {C} {D = circuit I gs} {M} {P} {X} {K} E T N here r =
     (sym here)
     (_, box_exit r.0 E T N))
 
-box_has : {Q : LabelContext} {S T U : Ty} {M : Term} → [] ∣ Q ⊢ box S M ∶ Circ T U → IsTrue (is_wire_type U)
+box_has : {Q : LabelContext} {S T U : Ty} {M : Term} → [] ∣ Q ⊢ box S M ∶ Circ T U → Truth (is_wire_type U)
 box_has (by_box t u d) = u
 
-box_output : {Q : LabelContext} {T U : Ty} {M : Term} → [] ∣ Q ⊢ box T M ∶ Circ T U → IsTrue (is_wire_type U)
+box_output : {Q : LabelContext} {T U : Ty} {M : Term} → [] ∣ Q ⊢ box T M ∶ Circ T U → Truth (is_wire_type U)
 box_output = box_has
 
 -- 000, theorem 2.18, for stacked configurations: a typed program is finished or has a step.
@@ -466,7 +466,7 @@ program_gone (finished v) (program_has (outermost (frame_has {I = I} {gs = gs} s
 
 -- If the program has a wire type, to a gate or to the label tuple that it finished as.
 program_gone_to_tuple : {A : Ty} {c : Configuration}
-    → IsTrue (is_wire_type A)
+    → Truth (is_wire_type A)
     → Finished c
     → ProgramHas A c
     → GoneToTuple c

@@ -7,8 +7,6 @@ use Rattle.run_answers.specs.Lengths.{run_lengths}
 use Rattle.run_answers.proofs.Theorems.Running.{run_means, run_is_safe}
 use Rattle.run_parts.proofs.Laws.Running.{says_short}
 use Rattle.run.proofs.Laws.Cleared.{untouched, cleared}
-use borrow.Author.Rules.{rules}
-use Rattle.run.proofs.run.Lts as lts
 use Rattle.run.proofs.run.Goals as goal
 
 pub returns-then-too_short : goal.returns-then-too_short
@@ -96,13 +94,13 @@ returns c =
     let long : too_short run_lengths (s.out.now ∷ s.nodes.now ∷ s.stack.now ∷ s.types.now ∷ s.frames.now ∷ s.gates.now ∷ s.circuits.now ∷ s.results0.now ∷ s.results1.now ∷ s.results2.now ∷ s.results3.now ∷ []) ≡ false = sym c.too_short.ensures ∙ c.if-too_short.false in record {
       answer = u.ensures.answer;
       bytes =
-        cleared f s.limit s.out.now (s.nodes.now ∷ s.stack.now ∷ s.types.now ∷ s.frames.now ∷ s.gates.now ∷ s.circuits.now ∷ s.results0.now ∷ s.results1.now ∷ s.results2.now ∷ s.results3.now ∷ []) u.new.out
-            (u.new.nodes ∷ u.new.stack ∷ u.new.types ∷ u.new.frames ∷ u.new.gates ∷ u.new.circuits ∷ u.new.results0 ∷ u.new.results1 ∷ u.new.results2 ∷ u.new.results3 ∷ [])
-            (k.new.nodes ∷ k.new.stack ∷ k.new.types ∷ k.new.frames ∷ k.new.gates ∷ k.new.circuits ∷ k.new.results0 ∷ k.new.results1 ∷ k.new.results2 ∷ k.new.results3 ∷ [])
-            long
-            u.ensures.bytes
-            (ap₂ ◌∷◌ u.auto.nodes (ap₂ ◌∷◌ u.auto.stack (ap₂ ◌∷◌ u.auto.types (ap₂ ◌∷◌ u.auto.frames (ap₂ ◌∷◌ u.auto.gates (ap₂ ◌∷◌ u.auto.circuits (ap₂ ◌∷◌ u.auto.results0 (ap₂ ◌∷◌ u.auto.results1 (ap₂ ◌∷◌ u.auto.results2 (ap (λ n. n ∷ []) u.auto.results3))))))))))
-            k.ensures;
+          cleared f s.limit s.out.now (s.nodes.now ∷ s.stack.now ∷ s.types.now ∷ s.frames.now ∷ s.gates.now ∷ s.circuits.now ∷ s.results0.now ∷ s.results1.now ∷ s.results2.now ∷ s.results3.now ∷ []) u.new.out
+          (u.new.nodes ∷ u.new.stack ∷ u.new.types ∷ u.new.frames ∷ u.new.gates ∷ u.new.circuits ∷ u.new.results0 ∷ u.new.results1 ∷ u.new.results2 ∷ u.new.results3 ∷ [])
+          (k.new.nodes ∷ k.new.stack ∷ k.new.types ∷ k.new.frames ∷ k.new.gates ∷ k.new.circuits ∷ k.new.results0 ∷ k.new.results1 ∷ k.new.results2 ∷ k.new.results3 ∷ [])
+          long
+          u.ensures.bytes
+          (ap₂ ◌∷◌ u.auto.nodes (ap₂ ◌∷◌ u.auto.stack (ap₂ ◌∷◌ u.auto.types (ap₂ ◌∷◌ u.auto.frames (ap₂ ◌∷◌ u.auto.gates (ap₂ ◌∷◌ u.auto.circuits (ap₂ ◌∷◌ u.auto.results0 (ap₂ ◌∷◌ u.auto.results1 (ap₂ ◌∷◌ u.auto.results2 (ap (λ n. n ∷ []) u.auto.results3))))))))))
+          k.ensures;
       meaning = run_means f s.limit;
       safety = run_is_safe f s.limit;
     }

@@ -1,5 +1,5 @@
 -- What is known where an accepted program of wire type finishes.
-use Rattle.std.specs.Prelude.{ℕ, ◌+◌, ◌*◌, ◌≤◌, ◌≡◌, refl, List, [], T as IsTrue, length}
+use Rattle.std.specs.Prelude.{ℕ, ◌+◌, ◌*◌, ◌≤◌, ◌≡◌, refl, List, [], T as Truth, length}
 use Rattle.std.proofs.Common.{arith, sym, ◌∙◌, ap, subst, length-append}
 use Rattle.rules.specs.Types.{Wire, Ty, wire, ◌⊗◌, ◌⊸◌, !◌, Circ, is_wire_type, wires, entries, unit}
 use Rattle.rules.specs.Terms.{Tuple, single, both, labels, Gate, Boxed, Term, tuple, empty}
@@ -107,7 +107,7 @@ finish_facts {L} {A} (finished {K = K} v) (program_has (outermost (frame_has {I 
 -- The facts of the finish of any typed configuration of wire type.
 pub typed_finish : {A : Ty} (c : Configuration)
     → ProgramHas A c
-    → IsTrue (is_wire_type A)
+    → Truth (is_wire_type A)
     → Finished c
     → total_gates c ≤ most_gates
     → length (outermost_inputs c) ≤ most_labels
@@ -119,7 +119,7 @@ typed_finish c typed wire_type at_end few_gates few_inputs =
 -- The facts of the finish of an accepted program of wire type, after any row of steps that fit.
 pub finished_facts : (f : List ℕ) (A : Ty) (n : ℕ) (c : Configuration)
     → check_of f ≡ accepts A
-    → IsTrue (is_wire_type A)
+    → Truth (is_wire_type A)
     → Row most_gates (start (labels_of f) (term_of f)) n c
     → Finished c
     → FinishedRun (labels_of f) A c
@@ -133,7 +133,7 @@ finished_facts f A n c accepted wire_type row at_end =
 -- The same where the steps of a run, at most the limit's, end at a finish.
 pub reached_facts : (f : List ℕ) (A : Ty) (limit : ℕ)
     → check_of f ≡ accepts A
-    → IsTrue (is_wire_type A)
+    → Truth (is_wire_type A)
     → (advanced most_gates limit 0 (start (labels_of f) (term_of f))).ending ≡ at_finish
     → FinishedRun (labels_of f) A (advanced most_gates limit 0 (start (labels_of f) (term_of f))).reached
 reached_facts f A limit accepted wire_type p =

@@ -1,6 +1,6 @@
 -- Which refusals the reader and the check give, and how large the numbers of their answers are (01: "A refusal belongs to one of
 -- three families: form, typing or run (1 to 9, 16 to 18, the rest). It gives a number and a place, an entry number where named").
-use Rattle.std.specs.Prelude.{ℕ, zero, suc, ◌+◌, ◌*◌, ◌≤◌, ◌<◌, ◌≡◌, refl, ◌⊎◌, Bool, true, false, ◌&&◌, cond, List, [], ◌∷◌, T as IsTrue, eqb, leb, ltb, length}
+use Rattle.std.specs.Prelude.{ℕ, zero, suc, ◌+◌, ◌*◌, ◌≤◌, ◌<◌, ◌≡◌, refl, ◌⊎◌, Bool, true, false, ◌&&◌, cond, List, [], ◌∷◌, T as Truth, eqb, leb, ltb, length}
 use native.Mathlib.Omega.{arith}
 use Rattle.std.proofs.Common.{◌∙◌, ap, subst, inl, inr, leb→le}
 use Rattle.std.proofs.Math.Option.{Option, none, some}
@@ -211,7 +211,7 @@ all_gates_bounded [] = true
 all_gates_bounded ((T to U) ∷ gs) = leb (entries (Circ T U)) most_entries && all_gates_bounded gs
 
 nth_gate_bounded : (gs : List GateType) (n : ℕ) (T U : Ty)
-    → IsTrue (all_gates_bounded gs)
+    → Truth (all_gates_bounded gs)
     → nth gs n ≡ some (T to U)
     → Bounded (Circ T U)
 nth_gate_bounded [] n T U all h = let z : ◌≡◌ {A = ℕ} 0 1 = cc in absurd (omega arith)

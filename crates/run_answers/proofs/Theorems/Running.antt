@@ -1,5 +1,5 @@
 -- Demand 2 and demand 3 of a run: it answers what the rules say, and what it lists is sound.
-use Rattle.std.specs.Prelude.{ℕ, ◌+◌, ◌≤◌, ◌≡◌, refl, ◌↔◌, ◌⊎◌, Bool, true, false, cond, List, [], T as IsTrue, length}
+use Rattle.std.specs.Prelude.{ℕ, ◌+◌, ◌≤◌, ◌≡◌, refl, ◌↔◌, ◌⊎◌, Bool, true, false, cond, List, [], T as Truth, length}
 use Rattle.std.proofs.Common.{arith, sym, ◌∙◌, ap, ap₂, subst, inl, inr}
 use Rattle.rules.specs.Types.{Ty, is_wire_type}
 use Rattle.rules.specs.Terms.{labels, tuple}
@@ -117,10 +117,10 @@ typed_as : (f : List ℕ) (limit : ℕ) (A : Ty) (b : Bool)
     (cond b (ran_to (advanced most_gates limit 0 (start (labels_of f) (term_of f)))) (declines (Run 20 0)))
 typed_as f limit A true accepted p =
     let program : AcceptedWires f
-    = record { program_type = A; accepted = accepted; wire_type = subst IsTrue (sym p) tt } in
+    = record { program_type = A; accepted = accepted; wire_type = subst Truth (sym p) tt } in
     ended_as_lem f limit program (came f limit program).ending refl
 typed_as f limit A false accepted p =
-    by_type refl (record { program_type = A; accepted = accepted; no_wire_type = λ t. subst IsTrue p t })
+    by_type refl (record { program_type = A; accepted = accepted; no_wire_type = λ t. subst Truth p t })
 
 -- The answer for what the check says.
 judged_as_lem : (f : List ℕ) (limit : ℕ) (j : Judged) → check_of f ≡ j → AnswersAs f limit (ran_as f limit j)

@@ -1,5 +1,5 @@
 -- Laws of the end of the steps: the answer and the listing.
-use Rattle.std.specs.Prelude.{ℕ, ◌≤◌, ◌≡◌, refl, true, List, [], ◌∷◌, T as IsTrue, length}
+use Rattle.std.specs.Prelude.{ℕ, ◌≤◌, ◌≡◌, refl, true, List, [], ◌∷◌, T as Truth, length}
 use Rattle.std.proofs.Common.{arith, sym, ◌∙◌, ap, ap₂, subst}
 use Rattle.std.proofs.Math.Option.{some}
 use Rattle.rules.specs.Types.{Wire, Ty, is_wire_type}
@@ -136,11 +136,11 @@ module _ (types : ℕ → Ty) (positions : ℕ) (A : Ty) (allowance : ℕ) (m : 
     few_gates : Fits allowance the_end
     few_gates =
         fits_true allowance the_end
-        (subst IsTrue (sym (fits_state types positions allowance s held.ready.fits held.ready.sizes)) tt)
+        (subst Truth (sym (fits_state types positions allowance s held.ready.fits held.ready.sizes)) tt)
 
     facts : FinishedRun (outermost_inputs the_end) A the_end
     facts =
-        typed_finish the_end held.ready.typed (subst IsTrue (sym of_wires) tt)
+        typed_finish the_end held.ready.typed (subst Truth (sym of_wires) tt)
         (state_finished types positions s held.ready.fits stopped)
         (omega (arith, allowed, few_gates.gates_fit))
         held.few_inputs

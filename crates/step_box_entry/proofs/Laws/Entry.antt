@@ -1,5 +1,5 @@
 -- What box entry measures and writes, and that the memory then holds the next configuration.
-use Rattle.std.specs.Prelude.{ℕ, ◌+◌, ◌-◌, ◌%◌, ◌≤◌, ◌<◌, ◌≡◌, refl, Bool, true, false, List, [], ◌∷◌, ◌++◌, T as IsTrue, leb, length, set, take, drop}
+use Rattle.std.specs.Prelude.{ℕ, ◌+◌, ◌-◌, ◌%◌, ◌≤◌, ◌<◌, ◌≡◌, refl, Bool, true, false, List, [], ◌∷◌, ◌++◌, T as Truth, leb, length, set, take, drop}
 use Rattle.std.proofs.Common.{arith, sym, ◌∙◌, ap, ap₂, subst, inr, length-append, leb-true, leb-false}
 use Rattle.rules.specs.Kinds.{application_kind}
 use Rattle.rules.specs.Types.{Ty, is_wire_type, wires, entries, most_entries, type_codes}
@@ -118,7 +118,7 @@ exceeds_known ns rs ws p x h q = subst (Measures ns rs ws p) q h
 
 -- The nodes of the application.
 pub applied_nodes : (T : Ty) (t : Tree)
-    → IsTrue (is_wire_type T)
+    → Truth (is_wire_type T)
     → length (preorder (applied T t)) ≡ 1 + length (preorder t) + entries T
 applied_nodes T t w =
     omega (arith, length-append (preorder t) (preorder (tuple_tree (tuple_from 0 T))), tuple_entries 0 T w)
@@ -128,7 +128,7 @@ pub application_written : (T : Ty) (t : Tree) (ns ns₁ ns₂ ns₃ : List Node)
     → from + count ≤ to
     → Stands ns from (preorder t)
     → count ≡ length (preorder t)
-    → IsTrue (is_wire_type T)
+    → Truth (is_wire_type T)
     → to + (1 + count + entries T) ≤ length ns
     → TupleWritten T 0 ns ns₁ (to + 1 + count) size wide
     → (Clear from (to + 1) count → from + count ≤ length ns₁ → to + 1 + count ≤ length ns₁
@@ -166,7 +166,7 @@ module _ (types : ℕ → Ty) (positions : ℕ) (ns : List Node) (rs : List Quad
     (K : List Boxed)
     (held : HoldsParts types positions (memory ns rs gs cs fs ws results) r (returning (one m t) (only n ∷ hs)) (C ∷ Cs) K)
     (below : argument n < positions)
-    (wire_type : IsTrue (is_wire_type (types (argument n)))) where
+    (wire_type : Truth (is_wire_type (types (argument n)))) where
   -- Its node, its lift and the quadwords below stand in memory.
   redex : (at : ℕ)
       → at ≡ stack_node (quadword_at rs (r.place.depth - 1))

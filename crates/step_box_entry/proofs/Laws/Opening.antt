@@ -1,5 +1,5 @@
 -- Laws of specs/Opening.antt.
-use Rattle.std.specs.Prelude.{ℕ, ◌≤◌, ◌<◌, ◌≡◌, List, [], ◌∷◌, T as IsTrue, length}
+use Rattle.std.specs.Prelude.{ℕ, ◌≤◌, ◌<◌, ◌≡◌, List, [], ◌∷◌, T as Truth, length}
 use Rattle.rules.specs.Types.{Ty, is_wire_type, wires, entries, most_entries}
 use Rattle.rules.specs.Terms.{Boxed}
 use Rattle.rules.specs.Circuits.{Circuit, circuit}
@@ -17,7 +17,7 @@ pub record StoppedAtBox (types : ℕ → Ty) (positions allowance : ℕ) (m : Me
     (hs : List Hole) (C : Circuit) (Cs : List Circuit) (K : List Boxed) : Type 0 where
   pub held : HoldsParts types positions m r (returning (one k t) (only n ∷ hs)) (C ∷ Cs) K
   pub position : argument n < positions
-  pub wire_type : IsTrue (is_wire_type (types (argument n)))
+  pub wire_type : Truth (is_wire_type (types (argument n)))
   pub small : entries (types (argument n)) ≤ most_entries
   pub boxes : length Cs ≡ open_boxes hs
   pub sizes : PartsFit allowance (returning (one k t) (only n ∷ hs)) (C ∷ Cs) K

@@ -1,5 +1,5 @@
 -- `broken_at` gives the place where a wire rule is broken, and none exactly where each wire goes once to a gate or an output.
-use Rattle.std.specs.Prelude.{ℕ, zero, suc, ◌+◌, ◌≤◌, ◌<◌, ◌≡◌, refl, ◌↔◌, Bool, true, false, cond, List, [], ◌∷◌, ◌++◌, T as IsTrue, eqb, ltb, length}
+use Rattle.std.specs.Prelude.{ℕ, zero, suc, ◌+◌, ◌≤◌, ◌<◌, ◌≡◌, refl, ◌↔◌, Bool, true, false, cond, List, [], ◌∷◌, ◌++◌, T as Truth, eqb, ltb, length}
 use Rattle.std.proofs.Common.{ap, ◌∙◌, subst, inl, inr, append-nil, arith, length-append, ltb-true, ltb-false, lt-ltb, le-ltb}
 use Rattle.std.proofs.Math.Option.{Option, none, some, some-injective}
 use Rattle.rules.specs.Types.{Wire, Ty}
@@ -104,11 +104,11 @@ newest_rightly I n ws gs l no_wrong =
     of_test _ (rightly r) = r
     of_test _ (wrongly t) = absurd (no_wrong (length gs) (the_newest t))
 
-gate_types : (n : ℕ) → IsTrue (is_gate n) → (T : Ty) × (U : Ty) × (gate_type n ≡ some (T to U))
+gate_types : (n : ℕ) → Truth (is_gate n) → (T : Ty) × (U : Ty) × (gate_type n ≡ some (T to U))
 unfolding is_gate
 gate_types n h = by_cases (gate_type n) refl h
   where
-    by_cases : (o : Option GateType) → gate_type n ≡ o → IsTrue (is_some o)
+    by_cases : (o : Option GateType) → gate_type n ≡ o → Truth (is_some o)
         → (T : Ty) × (U : Ty) × (gate_type n ≡ some (T to U))
     by_cases none e k = absurd k
     by_cases (some (T to U)) e k = (T, U, e)

@@ -1,5 +1,5 @@
 -- Laws of specs/Names.antt.
-use Rattle.std.specs.Prelude.{ℕ, zero, suc, ◌+◌, ◌≤◌, ◌<◌, ◌≡◌, refl, Bool, true, ◌&&◌, List, [], ◌∷◌, map, T as IsTrue, leb, length, get_or}
+use Rattle.std.specs.Prelude.{ℕ, zero, suc, ◌+◌, ◌≤◌, ◌<◌, ◌≡◌, refl, Bool, true, ◌&&◌, List, [], ◌∷◌, map, T as Truth, leb, length, get_or}
 use Rattle.std.proofs.Common.{arith, ◌∙◌, ap, leb→le}
 use Rattle.std.proofs.Math.Decide.{dec_lt}
 use Rattle.std.proofs.Math.ListN.{get_or-eq_default}
@@ -29,7 +29,7 @@ abbrev all_short : List (List ℕ) → Bool
 all_short [] = true
 all_short (name ∷ names) = leb (length name) longest_name && all_short names
 
-short_at : (names : List (List ℕ)) → IsTrue (all_short names) → (n : ℕ) → length (get_or names n []) ≤ longest_name
+short_at : (names : List (List ℕ)) → Truth (all_short names) → (n : ℕ) → length (get_or names n []) ≤ longest_name
 short_at [] t n = omega arith
 short_at (name ∷ names) t zero = leb→le _ _ (and_left (leb (length name) longest_name) (all_short names) t)
 short_at (name ∷ names) t (suc n) =
