@@ -1,7 +1,6 @@
 -- `listcheck_io::print_all` meets its contract: the text holds the line. Assumes nothing.
-use Rattle.std.specs.Prelude.{◌≤◌}
+use Rattle.std.specs.Prelude.{◌≤◌, length}
 use Rattle.std.proofs.Common.{arith}
-use Rattle.std.specs.Prelude.{length}
 use Rattle.wirelist_lines.specs.Least.{refusal_bytes}
 use Rattle.text.proofs.Laws.Writing.{all_written}
 use Rattle.listcheck_io.proofs.print_all.Goals as goal

@@ -1,7 +1,6 @@
 -- `wirelist_io::print_all` meets its contract: the text has the least length. Assumes nothing.
-use Rattle.std.specs.Prelude.{◌≤◌}
+use Rattle.std.specs.Prelude.{◌≤◌, length}
 use Rattle.std.proofs.Common.{arith}
-use Rattle.std.specs.Prelude.{length}
 use Rattle.wirelist_lines.specs.Least.{least_text}
 use Rattle.text.proofs.Laws.Writing.{all_written}
 use Rattle.wirelist_io.proofs.print_all.Goals as goal
