@@ -1,4 +1,5 @@
 -- `machine_steps::step` meets its contract: the contract of the step at each stop. Assumes nothing.
+use borrow.Author.Rules.{rules}
 use Rattle.words.specs.Words.{words}
 use Rattle.words.specs.Quadwords.{quadwords_in}
 use Rattle.machine_circuits.specs.Layout.{four_results}
@@ -14,7 +15,7 @@ returns-in-AtApplication c = λ scratch labels.
     let ws = words s.types.now in
     let results =
     four_results (words s.results0.now) (words s.results1.now) (words s.results2.now) (words s.results3.now) in
-    rw c.in-AtApplication.is (c.application.ensures scratch gs cs fs ws results s.allowance)
+    rw c.in-AtApplication.is (search rules)
 
 pub returns-in-AtLet : goal.returns-in-AtLet
 returns-in-AtLet c = λ scratch labels.
@@ -25,7 +26,7 @@ returns-in-AtLet c = λ scratch labels.
     let ws = words s.types.now in
     let results =
     four_results (words s.results0.now) (words s.results1.now) (words s.results2.now) (words s.results3.now) in
-    rw c.in-AtLet.is (c.let_in.ensures scratch gs cs fs ws results s.allowance)
+    rw c.in-AtLet.is (search rules)
 
 pub returns-in-AtForce : goal.returns-in-AtForce
 returns-in-AtForce c = λ scratch labels.
