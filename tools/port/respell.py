@@ -1,5 +1,5 @@
 #!/usr/bin/env python3
-"""Brings a checkout that /opt/rattle/port/port.py has turned to this kit's spelling and places.
+"""Brings a checkout that the port.py of the kit has turned to this kit's spelling and places.
 
 usage: python3 tools/port/respell.py [--list]      at the top of the checkout, once, right after port.py
 

@@ -1,6 +1,6 @@
 // The answer of each operation in one number, for callers outside. What the fields do not hold is cut off.
 // Believe: specs/Packed, each answer in one number, and what a caller reads in it.
-// Main theorems: unpacked-read, unpacked-check, unpacked-run, unpacked-listing, unpacked-export, unpacked-import
+// Main theorems: unpacked_read_lem, unpacked_check_lem, unpacked_run_lem, unpacked_listing_lem, unpacked_export, unpacked_import
 // (proofs/Theorems/Unpacking), a caller gets back every answer.
 // Called by cabinet.
 #![tactic(auto)]

@@ -79,7 +79,7 @@ c3 =
     }
 
 -- "c4: an abstraction over Qubit applies H to its variable; it is lifted, boxed at Qubit, and the box is applied to label 0.
--- Limit 4 gives 21; 5 finishes with c2's listing." The nodes of its configurations, 8, 14, 11, 9, 3, 1: c4-totals of
+-- Limit 4 gives 21; 5 finishes with c2's listing." The nodes of its configurations, 8, 14, 11, 9, 3, 1: c4_totals of
 -- rules/proofs/Theorems/Cases.
 abbrev pub c4 : Case
 c4 =

@@ -95,8 +95,8 @@ copied_pairs =
 -- abstractions' types; the abstraction of the pair is the second term.
 
 -- This term, with a variable of type A for the argument N, is refused with a number and a place.
-abbrev pub refused_with_lem : Ty → Term → Term → ℕ → ℕ → Case
-refused_with_lem A N M number place =
+abbrev pub refused_case_with : Ty → Term → Term → ℕ → ℕ → Case
+refused_case_with A N M number place =
     let term = with_variable A M N in
     refused_case (encode one_label term) (some (one_label, term)) (Typing number place)
 
@@ -104,9 +104,9 @@ refused_with_lem A N M number place =
 -- this entry.
 abbrev pub linear_pair : Ty → Term → ℕ → List Case
 linear_pair A N at =
-    refused_with_lem A N (pair (variable 0) (variable 0)) 17 (at + 1)
-    ∷ refused_with_lem A N (gate H) 17 (at + 1)
-    ∷ refused_with_lem A N (lift (variable 0)) 18 (at + 3)
+    refused_case_with A N (pair (variable 0) (variable 0)) 17 (at + 1)
+    ∷ refused_case_with A N (gate H) 17 (at + 1)
+    ∷ refused_case_with A N (lift (variable 0)) 18 (at + 3)
     ∷ []
 
 -- A wire and a gate, in either order, alone and inside a further pair; and a gate and a function that holds the wire.

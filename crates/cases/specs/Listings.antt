@@ -373,8 +373,8 @@ one_left w v =
 
 -- 24 before 25 and before 26; 25 before 26. X takes 0, which has gone, and the output is never made; only the output is wrong; both
 -- are right.
-abbrev pub two_faults_lem : List ListingCase
-two_faults_lem =
+abbrev pub two_fault_listings : List ListingCase
+two_fault_listings =
     (with_kinds 9 0 ++ (0 ∷ [])) gives Refused (Run 24 0)
     ∷ (one_wire_twice ++ (0 ∷ [])) gives Refused (Run 24 0)
     ∷ wire_then_kind gives Refused (Run 25 2)
@@ -487,4 +487,4 @@ abbrev pub listing_cases : List ListingCase
 listing_cases =
     accepted_listings
     ++ (wrong_sizes
-    ++ (most_sizes ++ (wrong_entries ++ (wrong_gates ++ (wrong_ends ++ (two_faults_lem ++ (init_and_discard ++ three_wires)))))))
+    ++ (most_sizes ++ (wrong_entries ++ (wrong_gates ++ (wrong_ends ++ (two_fault_listings ++ (init_and_discard ++ three_wires)))))))

@@ -33,11 +33,11 @@ pub record Ready (f w : List ℕ) (e binders lifts cells : ℕ) (L : List Wire) 
     : Type 0 where
   pub length_is : length f ≡ 6 + 3 * entry_count f
   pub entries_fit : entry_count f ≤ most_file_entries
-  pub term_at_lem : TermAt f e M n
+  pub term_is_at : TermAt f e M n
   pub ends : n ≤ entry_count f
   pub closed : Truth (closed_under (length Γ) M)
-  pub labels_below_lem : Truth (labels_below (length L) M)
-  pub gates_known_lem : Truth (gates_known M)
+  pub labels_are_below : Truth (labels_below (length L) M)
+  pub gates_are_known : Truth (gates_known M)
   pub binders_are : binders ≡ length Γ
   pub cells_fit : cells + nodes M ≤ most_cells
   pub binders_fit : length Γ + 2 * nodes M ≤ most_binders

@@ -94,7 +94,7 @@ fn cell_copyable(work: &[u8], i: usize) -> bool
     COPYABLE_MARK <= column(work, i, 3)
 }
 
-// Quadword n becomes this cell; where the buffer has no such quadword, nothing changes. The words then: cell-put of
+// Quadword n becomes this cell; where the buffer has no such quadword, nothing changes. The words then: cell_put of
 // proofs/Laws/NewCell.antt. What the cell then denotes: wire_written, unit_written, one_part_written and two_parts_written there.
 pub fn new_cell(work: &mut [u8], n: usize, kind: usize, first: usize, second: usize, word: usize)
     ensures { work.new ≡ put_words 4 work.old n (kind ∷ first ∷ second ∷ word ∷ []) }

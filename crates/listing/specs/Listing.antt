@@ -4,7 +4,7 @@ use mathlib.Core.List.{List, [], ◌∷◌, ◌++◌, map, flat_map, reverse}
 use Rattle.rules.specs.Types.{Wire, Bit, Qubit}
 use Rattle.rules.specs.Terms.{Tuple, labels, Gate, ◌on◌}
 use Rattle.rules.specs.Circuits.{Circuit, circuit}
-use Rattle.rules.specs.Slots.{no_wire, gate_slots_lem}
+use Rattle.rules.specs.Slots.{no_wire, gate_slot_count}
 use Rattle.rules.specs.Sizes.{most_labels, most_gates}
 
 -- 16 bits, "low byte first".
@@ -22,7 +22,7 @@ gate_kind (n on ws) = n
 
 -- 02, ticket 6: "Every listing entry now has three slots".
 abbrev pub entry_slots : ℕ
-entry_slots = gate_slots_lem
+entry_slots = gate_slot_count
 
 -- "slots for wires taken (65,535 where none)": so many slots, with wires in their order.
 abbrev pub slots : ℕ → List ℕ → List ℕ

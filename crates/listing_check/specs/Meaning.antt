@@ -20,9 +20,9 @@ pub record SoundListing (b : List ℕ) (L G O : ℕ) : Type 0 where
   pub gates : List Gate
   pub outs : List ℕ
   pub bytes_are : b ≡ listing_bytes inputs gates outs
-  pub input_count_lem : L ≡ length inputs
-  pub gate_count_lem : G ≡ length gates
-  pub output_count_lem : O ≡ length outs
+  pub input_count_is : L ≡ length inputs
+  pub gate_count_is : G ≡ length gates
+  pub output_count_is : O ≡ length outs
   pub few_inputs : L ≤ most_labels
   pub few_gates : G ≤ most_gates
   pub few_outputs : O ≤ most_outputs
@@ -38,11 +38,11 @@ pub data SizesWrong (b : List ℕ) : Type 0 where
 
 -- "entry whose kind is not allowed there or whose unused slot is not 65,535".
 pub data EntryWrong (b : List ℕ) (i : ℕ) : Type 0 where
-  input_kind_lem : i < input_count b
+  input_kind_wrong : i < input_count b
       → (kind_at b i ≡ input_kind Bit → ⊥)
       → (kind_at b i ≡ input_kind Qubit → ⊥)
       → EntryWrong b i
-  gate_kind_lem : input_count b ≤ i → (Truth (is_gate (kind_at b i)) → ⊥) → EntryWrong b i
+  gate_kind_wrong : input_count b ≤ i → (Truth (is_gate (kind_at b i)) → ⊥) → EntryWrong b i
   unused_slot : {k : ℕ} → slots_used b i ≤ k → k < entry_slots → (slot_at b i k ≡ no_wire → ⊥) → EntryWrong b i
 
 -- Such an entry of the listing.

@@ -2,7 +2,7 @@
 use Rattle.std.specs.Prelude.{ℕ, ◌+◌, ◌*◌, ◌%◌, cond, List, [], ◌∷◌, ◌++◌, eqb, get_or}
 use Rattle.machine_terms.specs.Trees.{Node}
 use Rattle.words.specs.Quadwords.{Quadword, quadword_at, word_in}
-use Rattle.machine_circuits.specs.Layout.{gate_of, slot_of, labels_from_lem}
+use Rattle.machine_circuits.specs.Layout.{gate_of, slot_of, labels_start}
 use Rattle.rules.specs.Slots.{no_wire}
 use Rattle.machine_circuits.specs.Tuples.{labels_passed}
 use Rattle.listing.specs.Listing.{bytes_of, entry_slots}
@@ -14,7 +14,7 @@ input_byte code = cond (eqb code 0) 128 129
 
 -- What is written for input i: its kind.
 abbrev pub input_piece : List ℕ → ℕ → List ℕ
-input_piece ws i = input_byte (get_or ws (labels_from_lem + i) 0) ∷ []
+input_piece ws i = input_byte (get_or ws (labels_start + i) 0) ∷ []
 
 -- For the gate in quadword i: its kind.
 abbrev pub gate_piece : List Quadword → ℕ → List ℕ

@@ -20,7 +20,7 @@ ghost use Rattle.listing.specs.Listing.{bytes_of, entry_slots, listing};
 ghost use Rattle.listing.specs.Lengths.{KindsFit};
 ghost use Rattle.listing.specs.Pieces.{pieces};
 ghost use Rattle.listing_writer.specs.Parts.{input_byte, input_piece, gate_piece, slots_piece, unused_piece};
-ghost use Rattle.machine_circuits.specs.Layout.{labels_from_lem};
+ghost use Rattle.machine_circuits.specs.Layout.{labels_start};
 ghost use Rattle.listing_writer.specs.Parts.{kinds_read, slots_read, outputs_read};
 
 use listing::{BIT_INPUT, ENTRY_BYTES, ENTRY_SLOTS, GATES, INPUTS, OUTPUTS, QUBIT_INPUT, SIZES};
@@ -197,7 +197,7 @@ pub fn write_listing(
     out: &mut [u8],
 ) -> usize
     ensures out_after { (I : List Wire) (gs : List Gate) (v : Tree) (k : Tuple)
-        → Stands (words types.now) labels_from_lem (map wire_code I) → inputs ≡ length I
+        → Stands (words types.now) labels_start (map wire_code I) → inputs ≡ length I
         → gates_in (quadwords_in gates.now) 0 count ≡ gs → KindsFit gs
         → tuple_of_tree v ≡ some k → Stands (nodes_in nodes.now) 0 (preorder v) → size ≡ length (preorder v)
         → inputs < 65536 → count < 65536 → length (labels k) < 65536

@@ -5,12 +5,12 @@ use Rattle.rules.specs.Gates.{wires_in}
 use Rattle.rules.specs.Terms.{Tuple, single, both, Gate, ◌on◌, Boxed, boxed, empty}
 use Rattle.rules.specs.Circuits.{Circuit, circuit}
 use Rattle.rules.specs.Sizes.{closed_gates, most_types, most_gates, most_boxes}
-pub use Rattle.rules.specs.Slots.{no_wire, gate_slots_lem}
+pub use Rattle.rules.specs.Slots.{no_wire, gate_slot_count}
 use Rattle.machine_terms.specs.States.{open_gates}
 use Rattle.words.specs.Regions.{Stands}
 use Rattle.words.specs.Quadwords.{Quadword, quadword, word_in, quadword_at}
 
--- The gate in a quadword, in its `gate_slots_lem` slots: its number, then the wires that it takes, as many as a gate of that number takes.
+-- The gate in a quadword, in its `gate_slot_count` slots: its number, then the wires that it takes, as many as a gate of that number takes.
 abbrev pub gate_of : Quadword → Gate
 gate_of (quadword n u v w) = n on take (wires_in n) (u ∷ v ∷ w ∷ [])
 
@@ -44,8 +44,8 @@ HoldsOpen gs [] = Unit {0}
 HoldsOpen gs (circuit I hs ∷ Cs) = (gates_in gs (open_gates Cs) (length hs) ≡ hs) × HoldsOpen gs Cs
 
 -- The codes of the type section stand in the words of the types' buffer from 0 on, those of the labels' types from here on.
-abbrev pub labels_from_lem : ℕ
-labels_from_lem = most_types
+abbrev pub labels_start : ℕ
+labels_start = most_types
 
 -- The gates of the closed circuits stand in the quadwords from here on, in the order in which the circuits were closed.
 abbrev pub closed_from : ℕ

@@ -3,7 +3,7 @@ ghost use Rattle.std.specs.Prelude.{ℕ, ◌+◌, ◌-◌, ◌^◌, ◌≤◌, �
 ghost use Rattle.std.proofs.Math.Option.{some};
 ghost use Rattle.rules.specs.Types.{Ty, is_wire_type, wires, entries, type_codes};
 ghost use Rattle.rules.specs.Terms.{Tuple};
-ghost use Rattle.rules.specs.Gates.{gate_type, ◌to◌ as gate-from};
+ghost use Rattle.rules.specs.Gates.{gate_type, ◌to◌ as gate_from};
 ghost use Rattle.rules.specs.GateCodes.{circ_codes};
 ghost use Rattle.machine_terms.specs.Trees.{Tree, preorder, tuple_of_tree};
 ghost use Rattle.words.specs.Words.{words};
@@ -293,14 +293,14 @@ fn output_start(number: usize) -> usize
 // How many nodes the tuple of the wires that a gate makes has: one for each entry of its output's type, which takes all
 // entries of the gate's type from its start on.
 pub fn output_size(number: usize) -> usize
-    ensures { (T U : Ty) → gate_type number ≡ some (gate-from T U) → result ≡ entries U }
+    ensures { (T U : Ty) → gate_type number ≡ some (gate_from T U) → result ≡ entries U }
 {
     saturating_sub(rules::type_entries(number), output_start(number))
 }
 
 // The tuple of the wires that a gate makes is written from a node on, its labels numbered from the next number on.
 pub fn write_outputs(nodes: &mut [u8], to: usize, number: usize, next: usize) -> TupleSize
-    ensures { (T U : Ty) → gate_type number ≡ some (gate-from T U)
+    ensures { (T U : Ty) → gate_type number ≡ some (gate_from T U)
         → to + entries U ≤ length (nodes_in nodes.old) → next + length (wires U) ≤ no_wire
         → TupleWritten U next (nodes_in nodes.old) (nodes_in nodes.new) to result.nodes result.labels }
 {

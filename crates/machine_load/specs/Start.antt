@@ -15,7 +15,7 @@ use Rattle.machine_state.specs.Memory.{Memory, memory, Roomy, HoldsState}
 use Rattle.machine_state.specs.Outcomes.{SizesFit}
 use Rattle.machine_state.specs.declared.StateNumbers.{StateNumbers}
 use Rattle.machine_load.specs.Trees.{tree_of, types_of}
-use Rattle.machine_circuits.specs.Layout.{labels_from_lem}
+use Rattle.machine_circuits.specs.Layout.{labels_start}
 
 -- The least number of words of the types' buffer.
 abbrev pub least_types : ℕ
@@ -35,8 +35,8 @@ pub record Started (f : List ℕ) (positions : ℕ) (m : Memory) (r : StateNumbe
   pub held : HoldsState (types_of f) positions m r (start_state (labels_of f) (tree_of f))
   pub fits : StateFits positions (start_state (labels_of f) (tree_of f))
   pub means : decode (types_of f) (start_state (labels_of f) (tree_of f)) ≡ start (labels_of f) (term_of f)
-  pub sizes_fit_lem : (allowance : ℕ) → SizesFit allowance (start_state (labels_of f) (tree_of f))
-  pub labels_held : Stands m.types labels_from_lem (map wire_code (labels_of f))
+  pub start_sizes_fit : (allowance : ℕ) → SizesFit allowance (start_state (labels_of f) (tree_of f))
+  pub labels_held : Stands m.types labels_start (map wire_code (labels_of f))
 
 -- The contract of loading, for every accepted file and every memory of the least lengths.
 abbrev pub Loads : List ℕ → List Node → List ℕ → List Quadword → StateNumbers → Type 0

@@ -33,7 +33,7 @@ pub record Wrote (ns ns' : List Node) (source : Region) (values : Values) (to mo
   pub written : List Node
   pub nodes_are : ns' ≡ over ns to written
   pub within : length written ≤ most
-  pub answer_is_lem : answer ≡ size_within most (length (reduct ns source values))
+  pub answer_is_size : answer ≡ size_within most (length (reduct ns source values))
   pub whole : (size : ℕ) → answer ≡ Nodes size → written ≡ reduct ns source values
 
 -- What one turn finds at the node at a place, with the words before and after: what the node becomes, and the parts that

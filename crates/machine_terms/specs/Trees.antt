@@ -2,7 +2,7 @@
 use Rattle.std.specs.Prelude.{ℕ, zero, suc, ◌<◌, ◌≡◌, Bool, true, false, ◌&&◌, cond, List, [], ◌∷◌, ◌++◌, eqb, leb}
 use Rattle.std.proofs.Math.Option.{Option, none, some}
 use Rattle.rules.specs.Kinds.{variable_kind, label_kind, abstraction_kind, application_kind, pair_kind, let_kind}
-use Rattle.rules.specs.Kinds.{lift_kind, force_kind, gate_kind_lem, constant_kind, unit_value_kind}
+use Rattle.rules.specs.Kinds.{lift_kind, force_kind, gate_term_kind, constant_kind, unit_value_kind}
 use Rattle.rules.specs.Terms.{Tuple, single, both, empty}
 use Rattle.rules.specs.Parts.{parts_of_kind}
 use Rattle.rules.specs.Next.{joined}
@@ -42,7 +42,7 @@ unfoldable pub leaf_kind : ℕ → LeafKind
 leaf_kind k =
     cond (eqb k variable_kind) a_variable
     (cond (eqb k label_kind) a_label
-    (cond (eqb k gate_kind_lem) a_gate (cond (eqb k unit_value_kind) a_unit_value a_constant)))
+    (cond (eqb k gate_term_kind) a_gate (cond (eqb k unit_value_kind) a_unit_value a_constant)))
 
 -- The kinds with one part: 18 abstraction, 22 lift, 23 force, 24 box.
 pub data OneKind : Type 0 where

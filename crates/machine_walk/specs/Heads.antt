@@ -1,6 +1,6 @@
 -- What is to be done with a tree, by the kind of its first node.
 use Rattle.std.specs.Prelude.{ℕ, Bool, ◌||◌, cond, eqb}
-use Rattle.rules.specs.Kinds.{label_kind, abstraction_kind, lift_kind, gate_kind_lem, constant_kind, unit_value_kind}
+use Rattle.rules.specs.Kinds.{label_kind, abstraction_kind, lift_kind, gate_term_kind, constant_kind, unit_value_kind}
 use Rattle.machine_terms.specs.Trees.{parts}
 use Rattle.machine_walk.specs.declared.Head.{Head}
 use Rattle.machine_walk.specs.declared.Head.TheVariants.{Value, OnePart, TwoParts, Neither}
@@ -11,7 +11,7 @@ is_value k =
     eqb k label_kind
     || eqb k abstraction_kind
     || eqb k lift_kind
-    || eqb k gate_kind_lem
+    || eqb k gate_term_kind
     || eqb k unit_value_kind
     || eqb k constant_kind
 

@@ -40,9 +40,9 @@ assembled inputs gates outputs kinds slots =
 -- So many inputs, gates and outputs are stored, and the text is left from a place on.
 pub record Stored (p : Parts) (text : List ℕ) (at inputs gates outputs : ℕ) (kinds slots : List ℕ) : Type 0 where
   pub rest_is : p.rest ≡ drop at text
-  pub input_count_lem : inputs ≡ length p.inputs
-  pub gate_count_lem : gates ≡ length p.gates
-  pub output_count_lem : outputs ≡ length p.outs
+  pub input_count_is : inputs ≡ length p.inputs
+  pub gate_count_is : gates ≡ length p.gates
+  pub output_count_is : outputs ≡ length p.outs
   pub kinds_stand : Stands kinds 0 (kind_bytes_is p.inputs p.gates)
   pub slots_stand : Stands slots 0 (flat_map bytes_of (all_slots p.inputs p.gates ++ p.outs))
 

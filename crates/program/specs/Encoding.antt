@@ -1,8 +1,8 @@
 -- The file of a program (01, "Program file"): labels, types and terms in this order, types and terms in preorder. Each type that
--- the term names is written out at a position of its own. read-encode of Theorems.Encoding: the reader gives the program back.
+-- the term names is written out at a position of its own. read_encode of Theorems.Encoding: the reader gives the program back.
 use Rattle.std.specs.Prelude.{ℕ, ◌+◌, ◌/◌, ◌%◌, List, [], ◌∷◌, ◌++◌, map, length, replicate}
 use Rattle.rules.specs.Kinds.{variable_kind, label_kind, abstraction_kind, application_kind, pair_kind, let_kind}
-use Rattle.rules.specs.Kinds.{lift_kind, force_kind, box_kind, apply_kind, gate_kind_lem, unit_value_kind}
+use Rattle.rules.specs.Kinds.{lift_kind, force_kind, box_kind, apply_kind, gate_term_kind, unit_value_kind}
 use Rattle.rules.specs.Types.{Wire, Ty, entries, wire_code, type_codes}
 use Rattle.rules.specs.Terms.{Term, variable, label, gate, constant, abstraction, application, pair, let_in, lift, force}
 use Rattle.rules.specs.Terms.{unit_value, box, apply}
@@ -38,7 +38,7 @@ codes_of (A ∷ As) = type_codes A ++ codes_of As
 abbrev pub term_kinds : Term → List ℕ
 term_kinds (variable x) = variable_kind ∷ []
 term_kinds (label ℓ) = label_kind ∷ []
-term_kinds (gate x) = gate_kind_lem ∷ []
+term_kinds (gate x) = gate_term_kind ∷ []
 term_kinds unit_value = unit_value_kind ∷ []
 term_kinds (constant c) = []
 term_kinds (abstraction A M) = abstraction_kind ∷ term_kinds M

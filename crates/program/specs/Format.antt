@@ -3,7 +3,7 @@ use Rattle.std.specs.Prelude.{ℕ, ◌+◌, ◌*◌, Bool, true, false, ◌&&◌
 use Rattle.words.specs.Numbers.{word_at}
 use Rattle.rules.specs.Kinds.{qubit_kind, pair_type_kind, function_kind, reusable_kind, circuit_kind, unit_kind, variable_kind}
 use Rattle.rules.specs.Kinds.{label_kind, abstraction_kind, application_kind, let_kind, lift_kind, force_kind, box_kind}
-use Rattle.rules.specs.Kinds.{apply_kind, gate_kind_lem, unit_value_kind}
+use Rattle.rules.specs.Kinds.{apply_kind, gate_term_kind, unit_value_kind}
 use Rattle.rules.specs.Gates.{is_gate}
 use Rattle.program.specs.declared.format.Argument.{Argument}
 use Rattle.program.specs.declared.format.Argument.TheVariants.{Zero, LabelNumber, GateNumber, TypePosition}
@@ -68,7 +68,7 @@ term_shape k =
     (cond (within lift_kind force_kind k) (Node 1 Zero)
     (cond (eqb k box_kind) (Node 1 TypePosition)
     (cond (eqb k apply_kind) (Node 2 Zero)
-    (cond (eqb k gate_kind_lem) (Node 0 GateNumber) (cond (eqb k unit_value_kind) (Node 0 Zero) Unknown))))))))
+    (cond (eqb k gate_term_kind) (Node 0 GateNumber) (cond (eqb k unit_value_kind) (Node 0 Zero) Unknown))))))))
 
 -- The shape of an entry, by its section.
 unfoldable pub shape_at : List ℕ → ℕ → Shape

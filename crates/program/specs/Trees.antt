@@ -4,7 +4,7 @@ use Rattle.std.specs.Prelude.{ℕ, suc, ◌+◌, ◌*◌, ◌≤◌, ◌<◌, �
 use Rattle.std.proofs.Math.Option.{some}
 use Rattle.rules.specs.Kinds.{bit_kind, qubit_kind, pair_type_kind, function_kind, reusable_kind, circuit_kind, unit_kind}
 use Rattle.rules.specs.Kinds.{variable_kind, label_kind, abstraction_kind, application_kind, pair_kind, let_kind}
-use Rattle.rules.specs.Kinds.{lift_kind, force_kind, box_kind, apply_kind, gate_kind_lem, unit_value_kind}
+use Rattle.rules.specs.Kinds.{lift_kind, force_kind, box_kind, apply_kind, gate_term_kind, unit_value_kind}
 use Rattle.rules.specs.Types.{Wire, Bit, Qubit, Ty, wire, unit, ◌⊗◌, ◌⊸◌, !◌, Circ, is_wire_type, wire_code}
 use Rattle.rules.specs.Gates.{nth, is_gate}
 use Rattle.rules.specs.Terms.{Term, variable, label, gate, constant, abstraction, application, pair, let_in, lift, force}
@@ -40,7 +40,7 @@ pub data TypeAtPosition (f : List ℕ) (p : ℕ) (A : Ty) : Type 0 where
 -- its number. Abstraction and box have a type position, 0 to P−1. Every other argument is 0." 02, ticket 5: "its value (term
 -- kind 27)", without parts.
 pub data TermAt (f : List ℕ) : ℕ → Term → ℕ → Type 0 where
-  variable_at_lem : {e x : ℕ} → kind_at f e ≡ variable_kind → argument_at f e ≡ x → TermAt f e (variable x) (suc e)
+  variable_term_at : {e x : ℕ} → kind_at f e ≡ variable_kind → argument_at f e ≡ x → TermAt f e (variable x) (suc e)
   label_at : {e x : ℕ} → kind_at f e ≡ label_kind → argument_at f e ≡ x → TermAt f e (label x) (suc e)
   abstraction_at : {e n : ℕ} {A : Ty} {M : Term}
       → kind_at f e ≡ abstraction_kind → TypeAtPosition f (argument_at f e) A → TermAt f (suc e) M n
@@ -60,13 +60,13 @@ pub data TermAt (f : List ℕ) : ℕ → Term → ℕ → Type 0 where
   force_at : {e n : ℕ} {M : Term}
       → kind_at f e ≡ force_kind → argument_at f e ≡ 0 → TermAt f (suc e) M n
       → TermAt f e (force M) n
-  box_at_lem : {e n : ℕ} {T : Ty} {M : Term}
+  box_term_at : {e n : ℕ} {T : Ty} {M : Term}
       → kind_at f e ≡ box_kind → TypeAtPosition f (argument_at f e) T → TermAt f (suc e) M n
       → TermAt f e (box T M) n
   apply_at : {e m n : ℕ} {M N : Term}
       → kind_at f e ≡ apply_kind → argument_at f e ≡ 0 → TermAt f (suc e) M m → TermAt f m N n
       → TermAt f e (apply M N) n
-  gate_at_lem : {e x : ℕ} → kind_at f e ≡ gate_kind_lem → argument_at f e ≡ x → TermAt f e (gate x) (suc e)
+  gate_term_at : {e x : ℕ} → kind_at f e ≡ gate_term_kind → argument_at f e ≡ x → TermAt f e (gate x) (suc e)
   unit_value_at : {e : ℕ} → kind_at f e ≡ unit_value_kind → argument_at f e ≡ 0 → TermAt f e unit_value (suc e)
 
 -- Each Circ in a type has wire types for its parts. 01: "both parts of Circ must be wire types."
@@ -152,19 +152,19 @@ pub record AcceptedFile (f : List ℕ) (labels : List Wire) (M : Term) : Type 0 
   pub terms_fit : term_count f ≤ most_terms
   pub length_is : length f ≡ 6 + 3 * entry_count f
   -- 4: the label section.
-  pub label_count_lem : length labels ≡ label_count f
-  pub label_kinds_lem : (e : ℕ) (α : Wire) → nth labels e ≡ some α → kind_at f e ≡ wire_code α
+  pub label_count_is : length labels ≡ label_count f
+  pub label_kinds_are : (e : ℕ) (α : Wire) → nth labels e ≡ some α → kind_at f e ≡ wire_code α
   -- 5: the arguments of labels and types.
   pub arguments_zero : (e : ℕ) → e < first_term f → argument_at f e ≡ 0
   -- 4, 6 and 7: at each position of the type section stands a type, and its Circs are of wire types.
   pub type_at : (p : ℕ) → p < type_count f → (A : Ty) × TypeAtPosition f p A × Truth (formed A)
   -- 4, 5 and 8: the term section is one whole term.
-  pub term_at_lem : TermAt f (first_term f) M (entry_count f)
+  pub term_is_at : TermAt f (first_term f) M (entry_count f)
   pub is_source : Truth (source M)
   -- 5: the labels and gates that the term names are there.
-  pub labels_below_lem : Truth (labels_below (label_count f) M)
-  pub gates_known_lem : Truth (gates_known M)
+  pub labels_are_below : Truth (labels_below (label_count f) M)
+  pub gates_are_known : Truth (gates_known M)
   -- 7: its boxes are of wire types.
-  pub boxes_wired_lem : Truth (boxes_wired M)
+  pub boxes_are_wired : Truth (boxes_wired M)
   -- 9: each of its variables has a binder.
   pub closed : Truth (closed_under 0 M)

@@ -56,8 +56,8 @@ box_kind = 24
 abbrev pub apply_kind : ℕ
 apply_kind = 25
 
-abbrev pub gate_kind_lem : ℕ
-gate_kind_lem = 26
+abbrev pub gate_term_kind : ℕ
+gate_term_kind = 26
 
 abbrev pub unit_value_kind : ℕ
 unit_value_kind = 27

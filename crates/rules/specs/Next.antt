@@ -15,7 +15,7 @@ use Rattle.rules.specs.Values.{both_values}
 -- What evaluation finds in a term: a value; a part to reduce (000, definition 2.16) in its evaluation context; or a free
 -- variable, at which nothing goes on.
 pub data Found (M : Term) : Type 0 where
-  is_value_lem : Truth (value M) → Found M
+  found_value : Truth (value M) → Found M
   reducible : EvaluationContext → Term → Found M
   free : Found M
 
@@ -25,26 +25,26 @@ abbrev pub within : {M N : Term}
     → Found M
     → (Truth (value M) → Found N)
     → Found N
-within inside (is_value_lem v) then = then v
+within inside (found_value v) then = then v
 within inside (reducible E R) then = reducible (inside E) R
 within inside free then = free
 
 -- 01: "Evaluation goes left part first, then right .. never under abstraction or lift, nor in let's second part."
 abbrev pub find : (M : Term) → Found M
 find (variable n) = free
-find (label ℓ) = is_value_lem tt
-find (gate n) = is_value_lem tt
-find unit_value = is_value_lem tt
-find (constant b) = is_value_lem tt
-find (abstraction A M) = is_value_lem tt
+find (label ℓ) = found_value tt
+find (gate n) = found_value tt
+find unit_value = found_value tt
+find (constant b) = found_value tt
+find (abstraction A M) = found_value tt
 find (application M N) =
     within (λ E. application_left E N) (find M) λ v.
     within (application_right M v) (find N) λ w. reducible hole (application M N)
 find (pair M N) =
     within (λ E. pair_left E N) (find M) λ v.
-    within (pair_right M v) (find N) λ w. is_value_lem (both_values M N v w)
+    within (pair_right M v) (find N) λ w. found_value (both_values M N v w)
 find (let_in M N) = within (λ E. let_first E N) (find M) λ v. reducible hole (let_in M N)
-find (lift M) = is_value_lem tt
+find (lift M) = found_value tt
 find (force M) = within force_of (find M) λ v. reducible hole (force M)
 find (box T M) = within (box_of T) (find M) λ v. reducible hole (box T M)
 find (apply M N) =
@@ -210,7 +210,7 @@ module _ (gs : List Gate) (r : Tuple) (C : Circuit) (X : List Frame) (K : List B
 
   -- It is what evaluation finds there.
   abbrev pub close_found : {M : Term} → Found M → Option Configuration
-  close_found (is_value_lem v) = none
+  close_found (found_value v) = none
   close_found (reducible E R) = close_redex E R
   close_found free = none
 
@@ -222,7 +222,7 @@ exit (circuit I gs) (some r) (frame C M ∷ X) K = close_found gs r C X K (find 
 
 -- The step at what is found in the innermost frame: box exit at a value, else the step at the redex.
 abbrev pub step_found : Circuit → {M : Term} → List Frame → List Boxed → Found M → Option Configuration
-step_found C {M} X K (is_value_lem v) = exit C (tuple_of M) X K
+step_found C {M} X K (found_value v) = exit C (tuple_of M) X K
 step_found C X K (reducible E R) = step_redex C E X K R
 step_found C X K free = none
 

@@ -3,7 +3,7 @@ use Rattle.std.specs.Prelude.{ℕ, cond, List, [], ◌∷◌, eqb}
 use Rattle.std.proofs.Math.Option.{Option, none, some}
 use Rattle.rules.specs.Kinds.{bit_kind, qubit_kind, pair_type_kind, function_kind, reusable_kind, circuit_kind, unit_kind}
 use Rattle.rules.specs.Kinds.{variable_kind, label_kind, abstraction_kind, application_kind, pair_kind, let_kind}
-use Rattle.rules.specs.Kinds.{lift_kind, force_kind, box_kind, apply_kind, gate_kind_lem, unit_value_kind}
+use Rattle.rules.specs.Kinds.{lift_kind, force_kind, box_kind, apply_kind, gate_term_kind, unit_value_kind}
 use Rattle.rules.specs.Types.{Ty, wire, unit, ◌⊗◌, ◌⊸◌, !◌, Circ}
 use Rattle.rules.specs.Terms.{Term, variable, label, gate, unit_value, constant, abstraction, application, pair}
 use Rattle.rules.specs.Terms.{let_in, lift, force, box, apply}
@@ -57,7 +57,7 @@ parts_table =
     ∷ (force_kind, 1)
     ∷ (box_kind, 1)
     ∷ (apply_kind, 2)
-    ∷ (gate_kind_lem, 0)
+    ∷ (gate_term_kind, 0)
     ∷ (unit_value_kind, 0)
     ∷ []
 

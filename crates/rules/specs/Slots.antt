@@ -6,5 +6,5 @@ abbrev pub no_wire : ℕ
 no_wire = 65535
 
 -- 02, ticket 6: "Every listing entry now has three slots". No gate takes or makes more wires, and a gate in memory has as many slots.
-abbrev pub gate_slots_lem : ℕ
-gate_slots_lem = 3
+abbrev pub gate_slot_count : ℕ
+gate_slot_count = 3

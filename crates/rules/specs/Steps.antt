@@ -23,8 +23,8 @@ abbrev pub start : List Wire → Term → Configuration
 start L M = configuration (frame (circuit L []) M) [] []
 
 infix 20 ◌⟶◌
--- One step. The first five are 000's reductions in an evaluation context of the innermost frame (rule head), box-entry
--- is its rule step-in and box-exit its rule step-out. The frame below keeps its term until box-exit puts the constant in
+-- One step. The first five are 000's reductions in an evaluation context of the innermost frame (rule head), box_entry
+-- is its rule step-in and box_exit its rule step-out. The frame below keeps its term until box_exit puts the constant in
 -- the box's place.
 pub data ◌⟶◌ : Configuration → Configuration → Type 0 where
   β_reduction : {C : Circuit} {X : List Frame} {K : List Boxed} (E : EvaluationContext) (A : Ty) (M W : Term)

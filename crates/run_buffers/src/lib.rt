@@ -12,7 +12,7 @@ use listing::{ENTRY_BYTES, MOST_OUTPUTS, SIZES};
 use rules::sizes::{MOST_BOXES, MOST_ENTRIES, MOST_GATES, MOST_LABELS, MOST_NODES, MOST_TYPES};
 use words::clear;
 
-// The least lengths, as run-lengths has them.
+// The least lengths, as run_lengths has them.
 const LEAST_OUT: usize = SIZES + ENTRY_BYTES * (MOST_LABELS + MOST_GATES) + 2 * MOST_OUTPUTS;
 
 const LEAST_NODES: usize = 4 * (4 * MOST_NODES);

@@ -18,7 +18,7 @@ use Rattle.machine_state.specs.Memory.{Memory}
 use Rattle.machine.specs.declared.Advanced.{Advanced}
 use Rattle.machine.specs.Advancing.{ending_of, Ready, AtTheEnd}
 use Rattle.machine_load.specs.Start.{Loads}
-use Rattle.machine_circuits.specs.Layout.{labels_from_lem}
+use Rattle.machine_circuits.specs.Layout.{labels_start}
 use Rattle.listing.specs.Listing.{most_bytes}
 use Rattle.run_answers.specs.declared.RunAnswer.{RunAnswer}
 use Rattle.run_answers.specs.declared.RunAnswer.TheVariants.{Refused}
@@ -42,7 +42,7 @@ BegunAs f (refuses x) ns ws fs b = b ≡ NotBegun x
 pub record Complete (types : ℕ → Ty) (positions : ℕ) (A : Ty) (allowance : ℕ) (m : Memory) (r : StateNumbers) (s : State)
     : Type 0 where
   pub ready : Ready types positions A allowance m r s
-  pub inputs_held : Stands m.types labels_from_lem (map wire_code (outermost_inputs (decode types s)))
+  pub inputs_held : Stands m.types labels_start (map wire_code (outermost_inputs (decode types s)))
   -- 01, "Program file": "L labels (0 to 64)".
   pub few_inputs : length (outermost_inputs (decode types s)) ≤ most_labels
 

@@ -1,6 +1,6 @@
 -- What apply of a closed circuit reads before it writes, when there is room for it, and what it is to leave.
 use Rattle.std.specs.Prelude.{ℕ, ◌+◌, ◌-◌, ◌≤◌, ◌<◌, ◌^◌, ◌≡◌, false, List, length}
-use Rattle.rules.specs.Kinds.{gate_kind_lem}
+use Rattle.rules.specs.Kinds.{gate_term_kind}
 use Rattle.rules.specs.Types.{most_entries}
 use Rattle.rules.specs.Circuits.{outputs}
 use Rattle.rules.specs.Sizes.{most_nodes}
@@ -82,5 +82,5 @@ Applied ns ns' wide gs gs' fs fs' results x r r' =
     → RedexRead ns rs gs cs fs (r.place.depth - 1) (r.counts.frames - 1) x
     → Room x r (length ns) allowance
     → most_entries ≤ wide
-    → (kind (node_at ns (stack_node (quadword_at rs (r.place.depth - 1)) + 1)) ≡ gate_kind_lem → ⊥)
+    → (kind (node_at ns (stack_node (quadword_at rs (r.place.depth - 1)) + 1)) ≡ gate_term_kind → ⊥)
     → Steps at_apply allowance (memory ns rs gs cs fs ws results) (memory ns' rs gs' cs fs' ws results) r (Taken r')

@@ -6,7 +6,7 @@
 #![tactic(auto)]
 
 ghost use Rattle.std.specs.Prelude.{ℕ, ◌+◌, ◌-◌, ◌*◌, ◌/◌, ◌%◌, ◌≤◌, ◌<◌, ◌≡◌, true, false, List, ltb, length, take};
-ghost use Rattle.rules.specs.Kinds.{gate_kind_lem};
+ghost use Rattle.rules.specs.Kinds.{gate_term_kind};
 ghost use Rattle.rules.specs.Types.{most_entries};
 ghost use Rattle.rules.specs.Terms.{Tuple};
 ghost use Rattle.machine_terms.specs.Trees.{kind};
@@ -18,7 +18,7 @@ ghost use Rattle.words.specs.Quadwords.{quadword_at, quadwords_in};
 ghost use Rattle.machine_walk.specs.Stack.{stack_node};
 ghost use Rattle.machine_circuits.specs.Layout.{four_results, most_result, results_each};
 ghost use Rattle.machine_circuits.specs.Results.{ResultFits, result_nodes};
-ghost use Rattle.machine_state.specs.Memory.{memory as memoryOf};
+ghost use Rattle.machine_state.specs.Memory.{memory as memory_of};
 ghost use Rattle.machine_state.specs.Outcomes.{Steps};
 ghost use Rattle.step_apply_circuit.specs.Redexes.{RedexRead, Room, Writable, numbers_after, Applied};
 
@@ -257,12 +257,12 @@ pub fn apply_constant(
     allowance: usize,
 ) -> Stepped
     ensures { most_entries ≤ length (words labels.old) → (ws : List ℕ)
-        → (kind (node_at (nodes_in nodes.old) (stack_node (quadword_at (quadwords_in stack.now) (numbers.place.depth - 1)) + 1)) ≡ gate_kind_lem → ⊥)
+        → (kind (node_at (nodes_in nodes.old) (stack_node (quadword_at (quadwords_in stack.now) (numbers.place.depth - 1)) + 1)) ≡ gate_term_kind → ⊥)
         → Steps at_apply allowance
-        (memoryOf (nodes_in nodes.old) (quadwords_in stack.now) (quadwords_in gates.old) (quadwords_in circuits.now)
+        (memory_of (nodes_in nodes.old) (quadwords_in stack.now) (quadwords_in gates.old) (quadwords_in circuits.now)
         (quadwords_in frames.old) ws
         (four_results (words results0.now) (words results1.now) (words results2.now) (words results3.now)))
-        (memoryOf (nodes_in nodes.new) (quadwords_in stack.now) (quadwords_in gates.new) (quadwords_in circuits.now)
+        (memory_of (nodes_in nodes.new) (quadwords_in stack.now) (quadwords_in gates.new) (quadwords_in circuits.now)
         (quadwords_in frames.new) ws
         (four_results (words results0.now) (words results1.now) (words results2.now) (words results3.now)))
         numbers result }

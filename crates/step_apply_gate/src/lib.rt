@@ -6,7 +6,7 @@
 #![tactic(auto)]
 
 ghost use Rattle.std.specs.Prelude.{ℕ, ◌+◌, ◌-◌, ◌≤◌, ◌≡◌, List, ltb, length};
-ghost use Rattle.rules.specs.Kinds.{gate_kind_lem};
+ghost use Rattle.rules.specs.Kinds.{gate_term_kind};
 ghost use Rattle.rules.specs.Types.{most_entries};
 ghost use Rattle.rules.specs.Sizes.{most_nodes};
 ghost use Rattle.machine_terms.specs.Trees.{kind};
@@ -95,7 +95,7 @@ pub fn apply_gate(
     allowance: usize,
 ) -> Stepped
     ensures { most_entries ≤ length (words labels.old) → (cs : List Quadword) (ws : List ℕ) (results : ℕ → List ℕ)
-        → kind (node_at (nodes_in nodes.old) (stack_node (quadword_at (quadwords_in stack.now) (numbers.place.depth - 1)) + 1)) ≡ gate_kind_lem
+        → kind (node_at (nodes_in nodes.old) (stack_node (quadword_at (quadwords_in stack.now) (numbers.place.depth - 1)) + 1)) ≡ gate_term_kind
         → Steps at_apply allowance
         (memory (nodes_in nodes.old) (quadwords_in stack.now) (quadwords_in gates.old) cs (quadwords_in frames.old) ws results)
         (memory (nodes_in nodes.new) (quadwords_in stack.now) (quadwords_in gates.new) cs (quadwords_in frames.new) ws results)

@@ -1,7 +1,7 @@
 // Text in a lent buffer: ASCII and decimal numbers, byte behind byte, as many as the buffer holds. Each function takes the
 // place of the next byte and answers the place behind those that it wrote.
 // Believe: specs/Text (decimal, words, lines) and specs/Written (what the buffer holds then).
-// Main laws: puts_both and puts-first (proofs/Laws/Writing), length_decimal (proofs/Laws/Decimals).
+// Main laws: puts_both and puts_first (proofs/Laws/Writing), length_decimal (proofs/Laws/Decimals).
 // Called by wirelist's lines and by whatever writes an OpenQASM text or a listing read from one.
 #![tactic(auto)]
 

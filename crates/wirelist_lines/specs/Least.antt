@@ -1,7 +1,7 @@
 -- How long a buffer is at least that holds every text.
 use Rattle.std.specs.Prelude.{ℕ, ◌+◌, ◌*◌}
 use Rattle.rules.specs.Sizes.{most_gates, most_labels}
-use Rattle.rules.specs.Slots.{gate_slots_lem}
+use Rattle.rules.specs.Slots.{gate_slot_count}
 use Rattle.wirelist_lines.specs.Lines.{longest_name}
 use Rattle.listing.specs.Listing.{most_outputs}
 
@@ -18,7 +18,7 @@ input_bytes = 2 + wire_bytes + 6 + 1
 
 -- `gate`, name, wires taken, colon, wires made:
 abbrev pub gate_bytes : ℕ
-gate_bytes = 4 + (1 + longest_name) + gate_slots_lem * wire_bytes + 2 + gate_slots_lem * wire_bytes + 1
+gate_bytes = 4 + (1 + longest_name) + gate_slot_count * wire_bytes + 2 + gate_slot_count * wire_bytes + 1
 
 -- `out`, wires:
 abbrev pub out_bytes : ℕ

@@ -1,6 +1,6 @@
 // The lines that wirelist prints for a listing or a refusal (01, "Listing").
 // Believe: specs/Lines and specs/Least.
-// Main theorem: in-order (proofs/Theorems/Lines), of a circuit's listing these are the circuit's lines; no line ends in a space
+// Main theorem: in_order (proofs/Theorems/Lines), of a circuit's listing these are the circuit's lines; no line ends in a space
 // (lines_solid in proofs/Theorems/Spaces).
 // Called by wirelist_io.
 #![tactic(auto)]

@@ -18,6 +18,6 @@ bytes_of_words (v ∷ vs) = v % 256 ∷ v / 256 % 256 ∷ bytes_of_words vs
 unfoldable pub put_words : ℕ → List ℕ → ℕ → List ℕ → List ℕ
 put_words wide m i vs = cond (ltb i (length m / (2 * wide))) (sets m (2 * wide * i) (bytes_of_words vs)) m
 
--- The same of the words: the law put-view says so.
+-- The same of the words: the law put_view says so.
 unfoldable pub set_words : ℕ → List ℕ → ℕ → List ℕ → List ℕ
 set_words wide w i vs = cond (ltb i (length w / wide)) (sets w (wide * i) (map (λ v. v % 65536) vs)) w

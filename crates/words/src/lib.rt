@@ -1,6 +1,6 @@
 // Bytes and 16-bit numbers in lent buffers, low byte first: the one view of memory that the layers above have.
 // Believe: specs/Numbers, the number at a byte.
-// Main laws: put-view (proofs/Laws/Words) and quadword_put (proofs/Laws/Quadwords), what is put, seen as words and as quadwords.
+// Main laws: put_view (proofs/Laws/Words) and quadword_put (proofs/Laws/Quadwords), what is put, seen as words and as quadwords.
 // Called by the reader, the check, the machine, and whatever reads or writes a listing.
 #![tactic(auto)]
 
@@ -59,7 +59,7 @@ pub fn get(memory: &[u8], i: usize) -> usize
     word_at(memory, 2 * i)
 }
 
-// Word i becomes the value, of which the low 16 bits count; past the end nothing changes. The words then: word-put of
+// Word i becomes the value, of which the low 16 bits count; past the end nothing changes. The words then: word_put of
 // proofs/Laws/Words.antt.
 pub fn put(memory: &mut [u8], i: usize, value: usize)
     ensures { memory.new ≡ put_words 1 memory.old i (value ∷ []) }

@@ -17,7 +17,7 @@ use Rattle.listing_check.specs.declared.ListingAnswer.TheVariants.{Refused}
 use Rattle.listing_check.specs.Answers.{listing_check_of, most_wires, listing_lengths, listing_check_answer, listing_check_bytes}
 use Rattle.cases.specs.Listings.{ListingCase, judged, ListingsHold, ListingsAnswer, accepted_listings, wrong_sizes}
 use Rattle.cases.proofs.Laws.Tables.{both_hold}
-use Rattle.cases.specs.Listings.{most_sizes, wrong_entries, wrong_gates, wrong_ends, two_faults_lem, init_and_discard}
+use Rattle.cases.specs.Listings.{most_sizes, wrong_entries, wrong_gates, wrong_ends, two_fault_listings, init_and_discard}
 use Rattle.cases.specs.Listings.{three_wires, listing_cases}
 
 -- `listing_check_of` with every definition of the check open: a line `unfolding opened` below opens them all.
@@ -52,7 +52,7 @@ pub ends_hold : ListingsHold wrong_ends
 unfolding opened
 ends_hold = refl
 
-pub order_holds : ListingsHold two_faults_lem
+pub order_holds : ListingsHold two_fault_listings
 unfolding opened
 order_holds = refl
 
@@ -66,7 +66,7 @@ three_wires_hold = refl
 
 -- The parts of the table from one on.
 abbrev from_faults : List ListingCase
-from_faults = two_faults_lem ++ (init_and_discard ++ three_wires)
+from_faults = two_fault_listings ++ (init_and_discard ++ three_wires)
 
 abbrev from_ends : List ListingCase
 from_ends = wrong_ends ++ from_faults
@@ -88,7 +88,7 @@ listings_hold =
     (both_hold judged wrong_entries from_gates entries_hold
     (both_hold judged wrong_gates from_ends gates_hold
     (both_hold judged wrong_ends from_faults ends_hold
-    (both_hold judged two_faults_lem (init_and_discard ++ three_wires) order_holds
+    (both_hold judged two_fault_listings (init_and_discard ++ three_wires) order_holds
     (both_hold judged init_and_discard three_wires init_and_discard_hold three_wires_hold)))))))
 
 module _ (work : List ℕ) (room : most_wires ≤ length work) where

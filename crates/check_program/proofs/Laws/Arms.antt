@@ -113,11 +113,11 @@ module _ {f w : List ℕ} {e binders lifts cells : ℕ} {L : List Wire} {Γ : Li
       record {
         length_is = ready.length_is;
         entries_fit = ready.entries_fit;
-        term_at_lem = part;
+        term_is_at = part;
         ends = ready.ends;
         closed = one_closed h M lifts Γ ready.closed;
-        labels_below_lem = one_labels h M (length L) ready.labels_below_lem;
-        gates_known_lem = one_gates h M ready.gates_known_lem;
+        labels_are_below = one_labels h M (length L) ready.labels_are_below;
+        gates_are_known = one_gates h M ready.gates_are_known;
         binders_are = refl;
         cells_fit = omega arith;
         binders_fit = omega arith;
@@ -274,7 +274,7 @@ module _ {f w : List ℕ} {e binders lifts cells : ℕ} {L : List Wire} {Γ : Li
             ap (λ k. if_so (used_wrongly T k) e)
             (abstraction_uses (type_cell f (argument_at f e)) ready.binders_are (omega arith) (omega arith) (omega arith)
             ready.environment (ready.environment.loaded.types (argument_at f e) T t) g' closed
-            (one_labels h M (length L) ready.labels_below_lem))
+            (one_labels h M (length L) ready.labels_are_below))
         go of_lift t g' size closed = refl
         go of_force t g' size closed = refl
         go (of_box T) t g' size closed = refl

@@ -252,11 +252,11 @@ module _ {f w : List ℕ} {e binders lifts cells : ℕ} {L : List Wire} {Γ : Li
       record {
         length_is = ready.length_is;
         entries_fit = ready.entries_fit;
-        term_at_lem = d;
+        term_is_at = d;
         ends = omega arith;
         closed = (two_closed h M N (length Γ) ready.closed).0;
-        labels_below_lem = (two_labels h M N (length L) ready.labels_below_lem).0;
-        gates_known_lem = (two_gates h M N ready.gates_known_lem).0;
+        labels_are_below = (two_labels h M N (length L) ready.labels_are_below).0;
+        gates_are_known = (two_gates h M N ready.gates_are_known).0;
         binders_are = ready.binders_are;
         cells_fit = omega arith;
         binders_fit = omega arith;
@@ -306,12 +306,12 @@ module _ {f w : List ℕ} {e binders lifts cells : ℕ} {L : List Wire} {Γ : Li
           record {
             length_is = ready.length_is;
             entries_fit = ready.entries_fit;
-            term_at_lem = d';
+            term_is_at = d';
             ends = ready.ends;
             closed =
                 subst (λ k. Truth (closed_under k N)) (sym more_binders) (two_closed h M N (length Γ) ready.closed).1;
-            labels_below_lem = (two_labels h M N (length L) ready.labels_below_lem).1;
-            gates_known_lem = (two_gates h M N ready.gates_known_lem).1;
+            labels_are_below = (two_labels h M N (length L) ready.labels_are_below).1;
+            gates_are_known = (two_gates h M N ready.gates_are_known).1;
             binders_are = refl;
             cells_fit = omega arith;
             binders_fit = omega arith;
@@ -380,7 +380,7 @@ module _ {f w : List ℕ} {e binders lifts cells : ℕ} {L : List Wire} {Γ : Li
             counts_same
             (ap (λ x. sooner (coded x) (sooner (coded u) (coded u')))
             (uses_bound Γ binders lifts ready.binders_are start.environment g₂ e second_ready.closed
-            second_ready.labels_below_lem h A q start.fresh)
+            second_ready.labels_are_below h A q start.fresh)
             ∙ ap (λ x. sooner (coded own) x) (sym (coded_earlier u u'))
             ∙ sym (coded_earlier own (earlier u u')))
             (sym (coded_earlier v v'))

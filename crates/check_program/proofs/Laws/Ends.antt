@@ -257,7 +257,7 @@ small f w e binders lifts cells p =
     let b = r.binders_are in
     let c = r.binders_fit in
     let l = r.lifts_fit in
-    let at = term_end r.term_at_lem in
+    let at = term_end r.term_is_at in
     let one = some_node M in
     record {
       whole = record { length_is = r.length_is; entries_fit = r.entries_fit };

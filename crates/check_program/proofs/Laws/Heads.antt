@@ -4,7 +4,7 @@ use Rattle.std.proofs.Common.{add-zero, add-one, arith, sym, ◌∙◌, ap, subs
 use Rattle.std.proofs.Math.Numerals.{add-two}
 use Rattle.std.proofs.Math.Option.{Option, none, some, some-ne-none}
 use Rattle.rules.specs.Kinds.{variable_kind, label_kind}
-use Rattle.rules.specs.Kinds.{gate_kind_lem, unit_value_kind}
+use Rattle.rules.specs.Kinds.{gate_term_kind, unit_value_kind}
 use Rattle.rules.specs.Parts.{parts_of_kind}
 use Rattle.rules.specs.Types.{Wire, Ty}
 use Rattle.rules.specs.Terms.{Term, variable, label, gate, unit_value, abstraction, application, pair, let_in, lift, force}
@@ -13,8 +13,8 @@ use Rattle.rules.specs.Sizes.{nodes}
 use Rattle.rules.specs.Inference.{uses, as_pair, application_type, pair_type, apply_type}
 use Rattle.rules.proofs.Laws.Booleans.{and_left, and_right}
 use Rattle.program.specs.Format.{kind_at, argument_at}
-use Rattle.program.specs.Trees.{TypeAtPosition, TermAt, variable_at_lem, label_at, abstraction_at, application_at, pair_at}
-use Rattle.program.specs.Trees.{let_at, lift_at, force_at, box_at_lem, apply_at, gate_at_lem, unit_value_at, closed_under, labels_below, gates_known}
+use Rattle.program.specs.Trees.{TypeAtPosition, TermAt, variable_term_at, label_at, abstraction_at, application_at, pair_at}
+use Rattle.program.specs.Trees.{let_at, lift_at, force_at, box_term_at, apply_at, gate_term_at, unit_value_at, closed_under, labels_below, gates_known}
 use Rattle.check_program.specs.Checking.{Binder, ◌under◌, Checked, typed, fault, earlier, if_so, used_wrongly, followed}
 use Rattle.check_program.specs.Checking.{ruled, two_ruled, check_term}
 use Rattle.check_program.specs.Layout.{counted}
@@ -169,7 +169,7 @@ leaf of_unit = unit_value
 abbrev pub leaf_kind : Leaf → ℕ
 leaf_kind (of_variable x) = variable_kind
 leaf_kind (of_label ℓ) = label_kind
-leaf_kind (of_gate g) = gate_kind_lem
+leaf_kind (of_gate g) = gate_term_kind
 leaf_kind of_unit = unit_value_kind
 
 abbrev pub leaf_number : Leaf → ℕ
@@ -189,7 +189,7 @@ pub data Shaped (f : List ℕ) (e : ℕ) : Term → ℕ → Type 0 where
       → Shaped f e (two h M N) n
 
 pub shaped : {f : List ℕ} {e n : ℕ} {M : Term} → TermAt f e M n → Shaped f e M n
-shaped (variable_at_lem {x = x} k a) = shaped_leaf (of_variable x) k a
+shaped (variable_term_at {x = x} k a) = shaped_leaf (of_variable x) k a
 shaped (label_at {x = x} k a) = shaped_leaf (of_label x) k a
 shaped (abstraction_at {A = A} k t d) = shaped_one (of_abstraction A) k t d
 shaped (application_at k a d e) = shaped_two of_application k d e
@@ -197,9 +197,9 @@ shaped (pair_at k a d e) = shaped_two of_pair k d e
 shaped (let_at k a d e) = shaped_two of_let k d e
 shaped (lift_at k a d) = shaped_one of_lift k tt d
 shaped (force_at k a d) = shaped_one of_force k tt d
-shaped (box_at_lem {T = T} k t d) = shaped_one (of_box T) k t d
+shaped (box_term_at {T = T} k t d) = shaped_one (of_box T) k t d
 shaped (apply_at k a d e) = shaped_two of_apply k d e
-shaped (gate_at_lem {x = x} k a) = shaped_leaf (of_gate x) k a
+shaped (gate_term_at {x = x} k a) = shaped_leaf (of_gate x) k a
 shaped (unit_value_at k a) = shaped_leaf of_unit k a
 
 -- How many parts its kind has.

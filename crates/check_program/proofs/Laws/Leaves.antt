@@ -4,7 +4,7 @@ use Rattle.std.proofs.Common.{add-one, arith, sym, ◌∙◌, ap, subst, ltb→l
 use Rattle.std.proofs.Math.Option.{Option, none, some, map}
 use Rattle.std.proofs.lemmas.Bool.{eqb-false}
 use Rattle.rules.specs.Parts.{parts_of_kind}
-use Rattle.rules.specs.Kinds.{variable_kind, label_kind, gate_kind_lem, unit_value_kind}
+use Rattle.rules.specs.Kinds.{variable_kind, label_kind, gate_term_kind, unit_value_kind}
 use Rattle.rules.specs.Types.{Wire, wire}
 use Rattle.rules.specs.Gates.{GateType, ◌to◌, nth, gate_type, is_gate, is_some}
 use Rattle.rules.specs.Terms.{Term, variable, label, gate}
@@ -124,7 +124,7 @@ module _ {f w w' : List ℕ} {e binders lifts cells : ℕ} {L : List Wire} {Γ :
       (λ i. refl) ready says)
     where
       found : (α : Wire) × (nth L x ≡ some α)
-      found = nth_within L x (ltb→lt x (length L) ready.labels_below_lem)
+      found = nth_within L x (ltb→lt x (length L) ready.labels_are_below)
 
 -- A gate has its type.
 gate_answers : {f w : List ℕ} {e binders lifts cells : ℕ} {L : List Wire} {Γ : List Binder} {n : ℕ} (x : ℕ)
@@ -134,7 +134,7 @@ gate_answers : {f w : List ℕ} {e binders lifts cells : ℕ} {L : List Wire} {�
 gate_answers {f} {w} {e} {binders} {lifts} {cells} {L} {Γ} x ready = go found.0 found.1
   where
     found : (g : GateType) × (gate_type x ≡ some g)
-    found = known_gate x ready.gates_known_lem
+    found = known_gate x ready.gates_are_known
 
     go : (g : GateType) → gate_type x ≡ some g
         → Answered w w cells Γ (gate x) (suc e) (ruled e (map gate_node_type (gate_type x)) none none)
@@ -153,9 +153,9 @@ gate_answers {f} {w} {e} {binders} {lifts} {cells} {L} {Γ} x ready = go found.0
 
 -- A leaf answers what the check finds: a gate, unit's value, a variable or label.
 pub gate_meets : (f w : List ℕ) (e binders lifts cells : ℕ)
-    → kind_at f e ≡ gate_kind_lem
+    → kind_at f e ≡ gate_term_kind
     → Meets f w w e binders lifts cells (Typed (gate_cell (argument_at f e)) (e + 1) cells 0 0)
-gate_meets f w e binders lifts cells kind L Γ M n ready = go (shaped ready.term_at_lem) ready
+gate_meets f w e binders lifts cells kind L Γ M n ready = go (shaped ready.term_is_at) ready
   where
     go : {M' : Term} {n' : ℕ} → Shaped f e M' n' → Ready f w e binders lifts cells L Γ M' n'
         → Answered w w cells Γ M' n' (check_term L Γ lifts e M') (Typed (gate_cell (argument_at f e)) (e + 1) cells 0 0)
@@ -176,7 +176,7 @@ gate_meets f w e binders lifts cells kind L Γ M n ready = go (shaped ready.term
 pub unit_meets : (f w : List ℕ) (e binders lifts cells : ℕ)
     → kind_at f e ≡ unit_value_kind
     → Meets f w w e binders lifts cells (Typed cell_of_unit (e + 1) cells 0 0)
-unit_meets f w e binders lifts cells kind L Γ M n ready = go (shaped ready.term_at_lem) ready
+unit_meets f w e binders lifts cells kind L Γ M n ready = go (shaped ready.term_is_at) ready
   where
     go : {M' : Term} {n' : ℕ} → Shaped f e M' n' → Ready f w e binders lifts cells L Γ M' n'
         → Answered w w cells Γ M' n' (check_term L Γ lifts e M') (Typed cell_of_unit (e + 1) cells 0 0)
@@ -199,11 +199,11 @@ unit_meets f w e binders lifts cells kind L Γ M n ready = go (shaped ready.term
         absurd (omega (arith, no_parts (kind_at f e) of_unit kind, two_parts (kind_at f e) h k))
 
 module _ (f w : List ℕ) (e binders lifts cells : ℕ) (parts : parts_of_kind (kind_at f e) ≡ 0)
-    (no_gate : kind_at f e ≡ gate_kind_lem → ⊥) (no_unit : kind_at f e ≡ unit_value_kind → ⊥) where
+    (no_gate : kind_at f e ≡ gate_term_kind → ⊥) (no_unit : kind_at f e ≡ unit_value_kind → ⊥) where
   pub binding_meets : (w' : List ℕ) (r : Inferred)
       → SaysUsed w w' (binding_at f e binders) e lifts cells r
       → Meets f w w' e binders lifts cells r
-  binding_meets w' r says L Γ M n ready = go (shaped ready.term_at_lem) ready
+  binding_meets w' r says L Γ M n ready = go (shaped ready.term_is_at) ready
     where
       at_slot : (s : ℕ) → binding_at f e binders ≡ s → SaysUsed w w' s e lifts cells r
       at_slot s q = subst (λ i. SaysUsed w w' i e lifts cells r) q says
@@ -224,7 +224,7 @@ module _ (f w : List ℕ) (e binders lifts cells : ℕ) (parts : parts_of_kind (
   -- The binding is there, and its uses are few enough to be counted.
   pub binding_fits : Possible f w e binders lifts cells
       → (binding_at f e binders < most_labels + binders) × (binding_uses w (binding_at f e binders) ≤ e)
-  binding_fits p = go (shaped p.4.term_at_lem) p.4
+  binding_fits p = go (shaped p.4.term_is_at) p.4
     where
       fits : {M' : Term} {n' : ℕ} (s : ℕ)
           → binding_at f e binders ≡ s → s < most_labels + binders
@@ -242,7 +242,7 @@ module _ (f w : List ℕ) (e binders lifts cells : ℕ) (parts : parts_of_kind (
           let b = ready.binders_are in
           fits (variable_binding binders x) (binding_of_variable f e binders x k a) (omega arith) ready
       go (shaped_leaf (of_label x) k a) ready =
-          let below : x < length p.0 = ltb→lt x (length p.0) ready.labels_below_lem in
+          let below : x < length p.0 = ltb→lt x (length p.0) ready.labels_are_below in
           let few = ready.environment.labels_fit in
           fits x (binding_of_label f e binders x k a) (omega arith) ready
       go (shaped_one h k named d) ready = absurd (omega (arith, one_part (kind_at f e) h k))

@@ -223,7 +223,7 @@ module _ {f : List ℕ} {labels : List Wire} {M : Term} (file : AcceptedFile f l
 
   label_binding : (i : ℕ) (α : Wire) → i < most_labels → nth labels i ≡ some α → Binding w₃ cells i (wire α under 0)
   label_binding i α h q =
-      let k : kind_at f i ≡ wire_code α = file.label_kinds_lem i α q in
+      let k : kind_at f i ≡ wire_code α = file.label_kinds_are i α q in
       let fresh = binding_fresh i h in
       let fits = code_fits α in
       record {
@@ -236,7 +236,7 @@ module _ {f : List ℕ} {labels : List Wire} {M : Term} (file : AcceptedFile f l
   first_environment =
       record {
         room = room₃;
-        labels_fit = omega (arith, file.labels_fit, file.label_count_lem);
+        labels_fit = omega (arith, file.labels_fit, file.label_count_is);
         loaded = all_loaded;
         slots = λ i b q. slot_of i b (nth labels i) refl q;
         uses_fit = λ i h. omega (arith, (binding_fresh i (omega arith)).uses_are);
@@ -250,12 +250,12 @@ module _ {f : List ℕ} {labels : List Wire} {M : Term} (file : AcceptedFile f l
           let this : (wire α under 0) ≡ b = cc in
           let below : i < length labels = nth_some_within labels i n in
           subst (λ x. Binding w₃ cells i x) this
-          (label_binding i α (omega (arith, file.labels_fit, file.label_count_lem)) n)
+          (label_binding i α (omega (arith, file.labels_fit, file.label_count_is)) n)
 
   -- The program's term is ready to be checked.
   pub program_ready : Ready f w₃ (first_term f) 0 0 cells labels [] M (entry_count f)
   program_ready =
-      let end = term_end file.term_at_lem in
+      let end = term_end file.term_is_at in
       let few = gate_cells_lem in
       let l = file.labels_fit in
       let t = file.types_fit in
@@ -263,11 +263,11 @@ module _ {f : List ℕ} {labels : List Wire} {M : Term} (file : AcceptedFile f l
       record {
         length_is = file.length_is;
         entries_fit = omega arith;
-        term_at_lem = file.term_at_lem;
+        term_is_at = file.term_is_at;
         ends = omega arith;
         closed = file.closed;
-        labels_below_lem = subst (λ k. Truth (labels_below k M)) (sym file.label_count_lem) file.labels_below_lem;
-        gates_known_lem = file.gates_known_lem;
+        labels_are_below = subst (λ k. Truth (labels_below k M)) (sym file.label_count_is) file.labels_are_below;
+        gates_are_known = file.gates_are_known;
         binders_are = refl;
         cells_fit = omega arith;
         binders_fit = omega arith;

@@ -103,7 +103,7 @@ module _ {f w : List ℕ} {e binders lifts cells : ℕ} where
       subst
       (λ x. Possible f x (e + 1) (binders_inside (kind_at f e) binders) (lifts_inside (kind_at f e) lifts) cells)
       (sym is)
-      (first_ready_at parts (shaped p.4.term_at_lem) p.4)
+      (first_ready_at parts (shaped p.4.term_is_at) p.4)
 
   -- A node of one part answers what the check finds.
   pub one_meets : (w₁ w₂ w₃ : List ℕ) (first r : Inferred)
@@ -112,7 +112,7 @@ module _ {f w : List ℕ} {e binders lifts cells : ℕ} where
       → Meets f w₁ w₂ (e + 1) (binders_inside (kind_at f e) binders) (lifts_inside (kind_at f e) lifts) cells first
       → EndsOne f w₂ w₃ e binders first r
       → Meets f w w₃ e binders lifts cells r
-  one_meets w₁ w₂ w₃ first r parts is meets ends L Γ M n ready = go (shaped ready.term_at_lem) ready
+  one_meets w₁ w₂ w₃ first r parts is meets ends L Γ M n ready = go (shaped ready.term_is_at) ready
     where
       go : {M' : Term} {n' : ℕ} → Shaped f e M' n' → Ready f w e binders lifts cells L Γ M' n'
           → Answered w w₃ cells Γ M' n' (check_term L Γ lifts e M') r
@@ -175,7 +175,7 @@ module _ (f w : List ℕ) (e binders lifts cells : ℕ) (w₁ w₂ : List ℕ) (
       (λ h M N m n k d d' ready.
       subst (λ c. Answered w w₂ cells Γ (two h M N) n c first) (sym (check_two h L Γ lifts e M N))
       (go h M N m n (check_term L Γ lifts (suc e) M) (first_answered L Γ h M N m n k d d' ready)))
-      (shaped ready₀.term_at_lem)
+      (shaped ready₀.term_is_at)
       ready₀
     where
       go : (h : TwoParts) (M N : Term) (m n : ℕ) (c : Checked)
@@ -205,7 +205,7 @@ module _ (f w : List ℕ) (e binders lifts cells : ℕ) (w₁ w₂ : List ℕ) (
         (λ h M N m n k d d' ready.
         subst (λ c. Answered w w₃ cells Γ (two h M N) n c (Fault e)) (sym (check_two h L Γ lifts e M N))
         (go h M N m n k d d' ready (check_term L Γ lifts (suc e) M) (first_answered L Γ h M N m n k d d' ready)))
-        (shaped ready₀.term_at_lem)
+        (shaped ready₀.term_is_at)
         ready₀
       where
         behind_fault : (h : TwoParts) (M N : Term) (m n : ℕ) (A : Ty) (u v : Option ℕ)
@@ -239,7 +239,7 @@ module _ (f w : List ℕ) (e binders lifts cells : ℕ) (w₁ w₂ : List ℕ) (
         parts
         (λ h M N m n k d d' ready.
         go M m d (check_term p.0 p.1 lifts (suc e) M) (first_answered p.0 p.1 h M N m n k d d' ready))
-        (shaped p.4.term_at_lem)
+        (shaped p.4.term_is_at)
         p.4
       where
         go : (M : Term) (m : ℕ) → TermAt f (suc e) M m → (c : Checked) → Answered w w₂ cells p.1 M m c first → e < next
@@ -287,7 +287,7 @@ module _ (f w : List ℕ) (e binders lifts cells : ℕ) (w₁ w₂ : List ℕ) (
           (λ h M N m n k d d' ready.
           go h M N m n k d d' ready (check_term p.0 p.1 lifts (suc e) M)
           (first_answered p.0 p.1 h M N m n k d d' ready))
-          (shaped p.4.term_at_lem)
+          (shaped p.4.term_is_at)
           p.4
         where
           allowed : (h : TwoParts) (M N : Term) (m n : ℕ) (A : Ty) (u v : Option ℕ)
@@ -321,7 +321,7 @@ module _ (f w : List ℕ) (e binders lifts cells : ℕ) (w₁ w₂ : List ℕ) (
           (λ h M N m n k d d' ready.
           subst (λ c. Answered w w₅ cells Γ (two h M N) n c r) (sym (check_two h L Γ lifts e M N))
           (go h M N m n k d d' ready (check_term L Γ lifts (suc e) M) (first_answered L Γ h M N m n k d d' ready)))
-          (shaped ready₀.term_at_lem)
+          (shaped ready₀.term_is_at)
           ready₀
         where
           -- What the second part answered, as the check of that part.

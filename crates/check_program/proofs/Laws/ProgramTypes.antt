@@ -102,8 +102,8 @@ module _ (f : List ℕ) (labels types : ℕ) (work w₁ w₂ w₃ : List ℕ) (g
       let at : e ≡ first_term f = q ∙ ap₂ ◌+◌ readable.3 readable.4 in
       verdict_said (words w₃) w₄ cells (first_term f) (entry_count f) L M found r labels
       (subst (λ x. Meets f (words w₃) w₄ x 0 0 cells found) at meets L [] M (entry_count f) (ready file))
-      (readable.3 ∙ sym file.label_count_lem)
-      (omega (arith, file.label_count_lem, file.labels_fit))
+      (readable.3 ∙ sym file.label_count_is)
+      (omega (arith, file.label_count_is, file.labels_fit))
       (labels_fresh file (words work) (words w₁) (words w₂) (words w₃) cells long long₁ first loaded third cells_are)
       is
 

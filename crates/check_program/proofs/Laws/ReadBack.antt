@@ -9,8 +9,8 @@ use Rattle.rules.specs.Sizes.{nodes, most_types}
 use Rattle.rules.proofs.Laws.TypeCodes.{entries_positive}
 use Rattle.program.specs.Format.{type_count, term_count, kind_at, argument_at}
 use Rattle.program.specs.Trees.{TypeAt, bit_at, qubit_at, tensor_at, function_at, reusable_at, circ_at, TypeAtPosition}
-use Rattle.program.specs.Trees.{at_position, TermAt, variable_at_lem, label_at, abstraction_at, application_at, pair_at, let_at}
-use Rattle.program.specs.Trees.{lift_at, force_at, box_at_lem, apply_at, gate_at_lem, AcceptedFile, unit_at, unit_value_at}
+use Rattle.program.specs.Trees.{at_position, TermAt, variable_term_at, label_at, abstraction_at, application_at, pair_at, let_at}
+use Rattle.program.specs.Trees.{lift_at, force_at, box_term_at, apply_at, gate_term_at, AcceptedFile, unit_at, unit_value_at}
 use Rattle.program.proofs.Laws.TreeTraversal.{term_end, type_end}
 use Rattle.check_program.specs.Answers.{wire_of, labels_from, labels_of, one_part, two_parts, built, type_node, type_from}
 use Rattle.check_program.specs.Answers.{named_type, term_node, term_from, term_of}
@@ -75,15 +75,15 @@ at_term f most e k q = ap (λ k. built nodes (λ i. term_from most f i) e (term_
 pub term_read : {f : List ℕ} {e n : ℕ} {M : Term} (most : ℕ)
     → type_count f ≤ most_types → TermAt f e M n → nodes M ≤ most → term_from most f e ≡ M
 term_read {M = M} zero t d h = absurd (omega (arith, some_node M))
-term_read {f} (suc most) t (variable_at_lem {e = e} k a) h = at_term f most e 16 k ∙ ap variable a
+term_read {f} (suc most) t (variable_term_at {e = e} k a) h = at_term f most e 16 k ∙ ap variable a
 term_read {f} (suc most) t (label_at {e = e} k a) h = at_term f most e 17 k ∙ ap label a
-term_read {f} (suc most) t (gate_at_lem {e = e} k a) h = at_term f most e 26 k ∙ ap gate a
+term_read {f} (suc most) t (gate_term_at {e = e} k a) h = at_term f most e 26 k ∙ ap gate a
 term_read {f} (suc most) t (unit_value_at {e = e} k a) h = at_term f most e 27 k
 term_read {f} (suc most) t (abstraction_at {e = e} {A = A} {M = M} k p d) h =
     at_term f most e 18 k
     ∙ built_one nodes (λ i. term_from most f i) e (λ M. abstraction (named_type f e) M) M (term_read most t d (omega arith))
     ∙ ap (λ A. abstraction A M) (named_read e t p)
-term_read {f} (suc most) t (box_at_lem {e = e} {T = T} {M = M} k p d) h =
+term_read {f} (suc most) t (box_term_at {e = e} {T = T} {M = M} k p d) h =
     at_term f most e 24 k
     ∙ built_one nodes (λ i. term_from most f i) e (λ M. box (named_type f e) M) M (term_read most t d (omega arith))
     ∙ ap (λ A. box A M) (named_read e t p)
@@ -129,14 +129,14 @@ labels_from_lem f e (α ∷ labels) kinds =
 
 pub labels_read : {f : List ℕ} {labels : List Wire} {M : Term} → AcceptedFile f labels M → labels_of f ≡ labels
 labels_read {f} {labels} file =
-    ap (λ n. labels_from f 0 n) (sym file.label_count_lem)
+    ap (λ n. labels_from f 0 n) (sym file.label_count_is)
     ∙ labels_from_lem f 0 labels (λ i α q.
     let same : 0 + i ≡ i = omega arith in
-    ap (kind_at f) same ∙ file.label_kinds_lem i α q)
+    ap (kind_at f) same ∙ file.label_kinds_are i α q)
 
 pub program_read : {f : List ℕ} {labels : List Wire} {M : Term} → AcceptedFile f labels M → term_of f ≡ M
 program_read {f} {labels} {M} file =
-    term_read (term_count f) file.types_fit file.term_at_lem (omega (arith, term_end file.term_at_lem))
+    term_read (term_count f) file.types_fit file.term_is_at (omega (arith, term_end file.term_is_at))
 
 -- So these are its labels and its term.
 pub file_read : {f : List ℕ} {labels : List Wire} {M : Term}

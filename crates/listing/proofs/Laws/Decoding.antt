@@ -61,8 +61,8 @@ first_known b form (suc j) few =
       first_known b form j (omega arith),
     )
 
-pub gates_known_lem : (b : List ℕ) → InForm b → KnownGates (gates_of b)
-gates_known_lem b form = first_known b form (gate_count b) (omega arith)
+pub gates_are_known : (b : List ℕ) → InForm b → KnownGates (gates_of b)
+gates_are_known b form = first_known b form (gate_count b) (omega arith)
 
 -- These bytes stand between two places.
 abbrev Between : List ℕ → ℕ → ℕ → List ℕ → Type 0

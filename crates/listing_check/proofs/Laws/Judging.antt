@@ -18,7 +18,7 @@ use Rattle.listing.specs.Listing.{input_kind, entry_slots, listing_length, most_
 use Rattle.listing.specs.Reading.{input_count, gate_count, output_count, entry_count, kind_at, slots_from, slot_at, outputs_from}
 use Rattle.listing.specs.Reading.{inputs_of, gates_of, outputs_of}
 use Rattle.listing.proofs.Laws.ReadBack.{one_counted}
-use Rattle.listing.proofs.Laws.Decoding.{InForm, length_words, length_inputs, length_first, gates_known_lem, in_form}
+use Rattle.listing.proofs.Laws.Decoding.{InForm, length_words, length_inputs, length_first, gates_are_known, in_form}
 use Rattle.listing.proofs.Laws.Decoding.{inputs_back, gates_back, outputs_back}
 use Rattle.wire_table.specs.Wires.{first_where, broken_at}
 use Rattle.wire_table.specs.WireRules.{GoesOnce, First, NoSuch, BrokenAt}
@@ -29,7 +29,7 @@ use Rattle.listing_check.specs.declared.ListingAnswer.TheVariants.{Accepted, Ref
 use Rattle.listing_check.specs.Answers.{sizes_wrong, kind_allowed, slots_used, any_wire, entry_wrong, wires_judged}
 use Rattle.listing_check.specs.Answers.{entries_judged, listing_check_of}
 use Rattle.listing_check.specs.Meaning.{SoundListing, SizesWrong, no_sizes, many_inputs, many_gates, many_outputs}
-use Rattle.listing_check.specs.Meaning.{other_length, EntryWrong, input_kind_lem, gate_kind_lem, unused_slot, WrongEntry}
+use Rattle.listing_check.specs.Meaning.{other_length, EntryWrong, input_kind_wrong, gate_kind_wrong, unused_slot, WrongEntry}
 
 -- What a test says of a statement.
 data Says (P : Type 0) : Bool → Type 0 where
@@ -234,16 +234,16 @@ entry_told b i =
     used = slots_used b i
 
     onward : KindWrong b i ⊎ SomeWire b (slots_from b i) used (entry_slots - used) → EntryWrong b i
-    onward (inl (inl w)) = input_kind_lem w.0 w.1 w.2
-    onward (inl (inr w)) = gate_kind_lem w.0 w.1
+    onward (inl (inl w)) = input_kind_wrong w.0 w.1 w.2
+    onward (inl (inr w)) = gate_kind_wrong w.0 w.1
     onward (inr s) = unused_slot {k = s.0} s.1 (inside used s.0 s.1 s.2) s.3
       where
         inside : (u m : ℕ) → u ≤ m → m < u + (entry_slots - u) → m < entry_slots
         inside u m l h = omega arith
 
     back : EntryWrong b i → KindWrong b i ⊎ SomeWire b (slots_from b i) used (entry_slots - used)
-    back (input_kind_lem h f g) = inl (inl (h, f, g))
-    back (gate_kind_lem h f) = inl (inr (h, f))
+    back (input_kind_wrong h f g) = inl (inl (h, f, g))
+    back (gate_kind_wrong h f) = inl (inr (h, f))
     back (unused_slot {k = k} l h f) = inr (k, l, inside used l h, f)
       where
         inside : (u : ℕ) → u ≤ k → k < entry_slots → k < u + (entry_slots - u)
@@ -293,8 +293,8 @@ form_right b form i h = of_wrong h.0 h.1
         inside)
 
     of_wrong : i < entry_count b → EntryWrong b i → ⊥
-    of_wrong below (input_kind_lem l f g) = of_kind f g (form.input_kinds i l)
-    of_wrong below (gate_kind_lem l f) =
+    of_wrong below (input_kind_wrong l f g) = of_kind f g (form.input_kinds i l)
+    of_wrong below (gate_kind_wrong l f) =
         f (subst (λ m. Truth (is_gate (kind_at b m))) (as_gate l) (form.gate_kinds (i - input_count b) (omega arith)))
     of_wrong below (unused_slot {k = k} least inside f) =
         f (of_slot k below least inside (ltb i (input_count b)) (less_told i (input_count b)))
@@ -328,13 +328,13 @@ right_form b sizes entries =
         → (kind_at b i ≡ input_kind Bit) ⊎ (kind_at b i ≡ input_kind Qubit)
     of_kind i below _ t (says_yes e) q = inl e
     of_kind i below _ _ (says_no f) (says_yes e) = inr e
-    of_kind i below _ _ (says_no f) (says_no g) = absurd (entries i (omega arith, input_kind_lem below f g))
+    of_kind i below _ _ (says_no f) (says_no g) = absurd (entries i (omega arith, input_kind_wrong below f g))
 
     of_gate : (j : ℕ) → j < gate_count b → (t : Bool) → is_gate (kind_at b (input_count b + j)) ≡ t
         → Truth (is_gate (kind_at b (input_count b + j)))
     of_gate j below true e = subst Truth (sym e) tt
     of_gate j below false e =
-        absurd (entries (input_count b + j) (omega arith, gate_kind_lem (omega arith) (λ g. subst Truth e g)))
+        absurd (entries (input_count b + j) (omega arith, gate_kind_wrong (omega arith) (λ g. subst Truth e g)))
 
 -- THE ANSWER
 
@@ -354,7 +354,7 @@ pub data Judged (b : List ℕ) : ListingAnswer → Type 0 where
 
 -- The gates of bytes with right sizes and entries are known.
 right_known : (b : List ℕ) → (SizesWrong b → ⊥) → NoSuch (WrongEntry b) → KnownGates (gates_of b)
-right_known b sizes entries = gates_known_lem b (right_form b sizes entries)
+right_known b sizes entries = gates_are_known b (right_form b sizes entries)
 
 -- The check of any bytes finds one of these.
 pub listing_judged : (b : List ℕ) → Judged b (listing_check_of b)
@@ -424,9 +424,9 @@ pub record ReadBack (b : List ℕ) (L G O : ℕ) (I : List Wire) (gs : List Gate
   pub inputs_are : inputs_of b ≡ I
   pub gates_are : gates_of b ≡ gs
   pub outputs_are : outputs_of b ≡ outs
-  pub input_count_lem : input_count b ≡ L
-  pub gate_count_lem : gate_count b ≡ G
-  pub output_count_lem : output_count b ≡ O
+  pub input_count_is : input_count b ≡ L
+  pub gate_count_is : gate_count b ≡ G
+  pub output_count_is : output_count b ≡ O
 
 pub sound_read : (b : List ℕ) {L G O : ℕ} (x : SoundListing b L G O)
     → ReadBack b L G O x.inputs x.gates x.outs
@@ -440,26 +440,26 @@ sound_read b x =
       inputs_are = inputs;
       gates_are = gates;
       outputs_are = outs;
-      input_count_lem = sym (length_inputs b 0 (input_count b)) ∙ ap length inputs ∙ sym x.input_count_lem;
-      gate_count_lem = sym (length_first b (gate_count b)) ∙ ap length gates ∙ sym x.gate_count_lem;
-      output_count_lem = sym (length_words b (outputs_from b) (output_count b)) ∙ ap length outs ∙ sym x.output_count_lem;
+      input_count_is = sym (length_inputs b 0 (input_count b)) ∙ ap length inputs ∙ sym x.input_count_is;
+      gate_count_is = sym (length_first b (gate_count b)) ∙ ap length gates ∙ sym x.gate_count_is;
+      output_count_is = sym (length_words b (outputs_from b) (output_count b)) ∙ ap length outs ∙ sym x.output_count_is;
     }
 
 -- A sound listing is accepted, with its numbers of inputs, gates and outputs.
 pub sound_accepted : (b : List ℕ) {L G O : ℕ} → SoundListing b L G O → listing_check_of b ≡ Accepted L G O
 sound_accepted b {L} {G} {O} x =
     judged_answer b (all_right sizes (form_right b r.form) goes)
-    ∙ ap₂ (λ l m. Accepted l m (output_count b)) r.input_count_lem r.gate_count_lem
-    ∙ ap (Accepted L G) r.output_count_lem
+    ∙ ap₂ (λ l m. Accepted l m (output_count b)) r.input_count_is r.gate_count_is
+    ∙ ap (Accepted L G) r.output_count_is
   where
     r : ReadBack b L G O x.inputs x.gates x.outs
     r = sound_read b x
 
     sizes : SizesWrong b → ⊥
     sizes (no_sizes h) = omega (arith, h, r.form.whole)
-    sizes (many_inputs h) = omega (arith, h, r.input_count_lem, x.few_inputs)
-    sizes (many_gates h) = omega (arith, h, r.gate_count_lem, x.few_gates)
-    sizes (many_outputs h) = omega (arith, h, r.output_count_lem, x.few_outputs)
+    sizes (many_inputs h) = omega (arith, h, r.input_count_is, x.few_inputs)
+    sizes (many_gates h) = omega (arith, h, r.gate_count_is, x.few_gates)
+    sizes (many_outputs h) = omega (arith, h, r.output_count_is, x.few_outputs)
     sizes (other_length f) = f r.form.whole
 
     goes : GoesOnce (inputs_of b) (gates_of b) (outputs_of b)

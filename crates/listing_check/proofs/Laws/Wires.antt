@@ -135,12 +135,12 @@ module _ (b : List ℕ) (i made : ℕ) (m m₁ : List ℕ) (from : ℕ) (here : 
       let I = inputs_of b in
       let gs = first_gates b i in
       let a = takes_slots in
-      let All_there = sym a.answers ∙ e in
+      let each_there = sym a.answers ∙ e in
       let x = makes (I ++ outputs gs) _ (a.holds e) t.made_is in
       let joined = append_assoc I (outputs gs) (gate_outputs (kind_at b (input_count b + i))) in
       subst (λ j. GatesSoFar b m₂ j made') next
       (record {
-        none_wrong = ap₂ (λ o t. or_else o (cond t none (some (length gs)))) t.none_wrong All_there;
+        none_wrong = ap₂ (λ o t. or_else o (cond t none (some (length gs)))) t.none_wrong each_there;
         held = subst (λ l. Holds m₂ l (taken (first_gates b (suc i)))) joined x.holds;
         made_is = x.count_is ∙ ap length joined;
       })

@@ -55,9 +55,9 @@ module _ (b : List ℕ) where
         gates = gates_of b;
         outs = outputs_of b;
         bytes_are = decoded b small (right_form b f n);
-        input_count_lem = sym (length_inputs b 0 (input_count b) ∙ l);
-        gate_count_lem = sym (length_first b (gate_count b) ∙ g);
-        output_count_lem = sym (length_words b (outputs_from b) (output_count b) ∙ o);
+        input_count_is = sym (length_inputs b 0 (input_count b) ∙ l);
+        gate_count_is = sym (length_first b (gate_count b) ∙ g);
+        output_count_is = sym (length_words b (outputs_from b) (output_count b) ∙ o);
         few_inputs = at_most (λ h. f (many_inputs (omega arith)));
         few_gates = at_most (λ h. f (many_gates (omega arith)));
         few_outputs = at_most (λ h. f (many_outputs (omega arith)));

@@ -27,7 +27,7 @@ use Rattle.listing.specs.Lengths.{KindsFit}
 use Rattle.listing.proofs.Laws.Lengths.{length_slots}
 use Rattle.listing.specs.Pieces.{pieces}
 use Rattle.listing_writer.specs.Parts.{input_byte, input_piece, gate_piece, slot_piece, slots_piece}
-use Rattle.machine_circuits.specs.Layout.{labels_from_lem}
+use Rattle.machine_circuits.specs.Layout.{labels_start}
 use Rattle.listing_writer.specs.Parts.{unused_piece, kinds_read, slots_read, outputs_read}
 use Rattle.listing_writer.proofs.Laws.Parts.{listing_read}
 use Rattle.listing.proofs.Laws.Pieces.{pieces_list, pieces_more, flat_append, length_pieces}
@@ -43,7 +43,7 @@ single_flat f [] = refl
 single_flat f (x ∷ xs) = ap (λ l. f x ∷ l) (single_flat f xs)
 
 inputs_read : (I : List Wire) (ws : List ℕ)
-    → Stands ws labels_from_lem (map wire_code I)
+    → Stands ws labels_start (map wire_code I)
     → pieces (input_piece ws) (length I) ≡ map input_kind I
 inputs_read I ws stands =
     pieces_list (λ α. input_kind α ∷ []) Bit I (input_piece ws) each ∙ single_flat input_kind I
@@ -51,7 +51,7 @@ inputs_read I ws stands =
     each : (i : ℕ) → i < length I → input_piece ws i ≡ input_kind (get_or I i Bit) ∷ []
     each i below =
         ap (λ c. input_byte c ∷ []) (
-        stands_at ws labels_from_lem (map wire_code I) i 0 stands (omega (arith, length-map I wire_code))
+        stands_at ws labels_start (map wire_code I) i 0 stands (omega (arith, length-map I wire_code))
         ∙ get_or-map wire_code I i Bit
         )
         ∙ ap (λ b. b ∷ []) (input_byte_lem (get_or I i Bit))
@@ -176,7 +176,7 @@ outputs_read_lem v k ns size e stands whole =
 -- What stands in memory is the listing of the circuit that it holds.
 pub listing_read_lem : (I : List Wire) (v : Tree) (k : Tuple) (ws : List ℕ) (rs : List Quadword) (G : ℕ) (ns : List Node)
     (size : ℕ)
-    → Stands ws labels_from_lem (map wire_code I)
+    → Stands ws labels_start (map wire_code I)
     → KindsFit (gates_in rs 0 G)
     → tuple_of_tree v ≡ some k
     → Stands ns 0 (preorder v)

@@ -21,7 +21,7 @@ use Rattle.listing.specs.Lengths.{KindsFit}
 use Rattle.listing.proofs.Laws.Lengths.{length_bytes, length_listing}
 use Rattle.listing.specs.Pieces.{pieces}
 use Rattle.listing_writer.specs.Parts.{input_piece, gate_piece, slots_piece, unused_piece, kinds_read}
-use Rattle.machine_circuits.specs.Layout.{labels_from_lem}
+use Rattle.machine_circuits.specs.Layout.{labels_start}
 use Rattle.listing_writer.specs.Parts.{slots_read, outputs_read}
 use Rattle.listing_writer.proofs.Laws.Parts.{listing_read}
 use Rattle.listing.proofs.Laws.Pieces.{length_pieces, written_behind, over_start, flat_append}
@@ -214,7 +214,7 @@ sizes_read I gs v k rs L G ns size found many held e stands whole outputs =
 -- The whole listing is written.
 pub listing_written : (I : List Wire) (gs : List Gate) (v : Tree) (k : Tuple) (ws : List ℕ) (rs : List Quadword) (L G : ℕ)
     (ns : List Node) (size : ℕ) (l l' : List ℕ)
-    → Stands ws labels_from_lem (map wire_code I)
+    → Stands ws labels_start (map wire_code I)
     → L ≡ length I
     → gates_in rs 0 G ≡ gs
     → KindsFit gs

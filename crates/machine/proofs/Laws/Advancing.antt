@@ -357,7 +357,7 @@ module _ (ns ns' : List Node) (rs rs' : List Quadword) (gs cs fs : List Quadword
       → last ≡ true
       → AdvancesOnce last allowance (memory ns rs gs cs fs ws results) (memory ns' rs' gs cs fs ws results) r
       (Ends Running (moved_to r p))
-  once_running e None_more = λ types positions A s₀ k n few le m u.
+  once_running e none_more = λ types positions A s₀ k n few le m u.
       progress_running types positions A allowance k n (memory ns' rs' gs cs fs ws results) (moved_to r p) s₀
       (walk_state u.state_now)
       (stop_of p.stop)
@@ -365,7 +365,7 @@ module _ (ns ns' : List Node) (rs rs' : List Quadword) (gs cs fs : List Quadword
       (now_stopped types positions A s₀ k n u)
       (now_rest types positions A s₀ k n u)
       (not_end (stop_of p.stop) e)
-      (let all = leb-true k n (sym m ∙ None_more) in omega arith)
+      (let all = leb-true k n (sym m ∙ none_more) in omega arith)
 
   pub once_taken : (m'' : Memory) (r' : StateNumbers)
       → is_end (stop_of p.stop) ≡ false

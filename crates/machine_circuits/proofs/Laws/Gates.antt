@@ -10,14 +10,14 @@ use Rattle.rules.specs.Circuits.{outputs, rename, rename_gate}
 use Rattle.rules.proofs.Laws.KnownGates.{few_wires}
 use Rattle.words.specs.Quadwords.{Quadword, quadword, quadword_at, word_in}
 use Rattle.machine_circuits.specs.Layout.{gate_of, slot_of, gate_words, gates_in}
-use Rattle.rules.specs.Slots.{no_wire, gate_slots_lem}
+use Rattle.rules.specs.Slots.{no_wire, gate_slot_count}
 
 -- No gate takes or makes more wires than a quadword has slots.
-pub few_in : (n : ℕ) → wires_in n ≤ gate_slots_lem
-few_in n = (few_wires gate_slots_lem tt n).0
+pub few_in : (n : ℕ) → wires_in n ≤ gate_slot_count
+few_in n = (few_wires gate_slot_count tt n).0
 
-pub few_out : (n : ℕ) → wires_out n ≤ gate_slots_lem
-few_out n = (few_wires gate_slots_lem tt n).1
+pub few_out : (n : ℕ) → wires_out n ≤ gate_slot_count
+few_out n = (few_wires gate_slot_count tt n).1
 
 -- A gate in a quadword takes as many wires as its number says.
 pub wires_counted : (r : Quadword) → length (wires_of (gate_of r)) ≡ wires_in (word_in r 0)

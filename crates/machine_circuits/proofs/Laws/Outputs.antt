@@ -65,12 +65,12 @@ module _ (n : ℕ) (T U : Ty) (e : gate_type n ≡ some (T to U)) where
       )
 
   -- So many entries are left behind the input's.
-  pub output_count_lem : {end start count : ℕ}
+  pub output_count_is : {end start count : ℕ}
       → end ≡ type_entries n
       → start ≡ 1 + code_span (drop 1 (gate_codes n)) 1
       → count ≡ end - start
       → count ≡ entries U
-  output_count_lem ends starts counts =
+  output_count_is ends starts counts =
       omega (arith, ends, entries_of_lem n, starts, input_span, counts, codes_length)
 
   pub output_stands : Stands (gate_codes n) (1 + entries T) (type_codes U)

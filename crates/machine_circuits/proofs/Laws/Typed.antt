@@ -12,7 +12,7 @@ use Rattle.rules.specs.Typing.{by_circ, by_tuple, by_unit}
 use Rattle.rules.proofs.Laws.Wires.{nth_some_within}
 use Rattle.machine_terms.specs.Trees.{preorder, tuple_tree}
 use Rattle.machine_terms.proofs.Laws.Typed.{nodes_typed}
-use Rattle.rules.specs.Slots.{gate_slots_lem}
+use Rattle.rules.specs.Slots.{gate_slot_count}
 use Rattle.rules.proofs.Laws.Appending.{shares_some_left, shares_some_right}
 use Rattle.machine_circuits.proofs.Laws.Gates.{few_out}
 use Rattle.machine_circuits.specs.Copies.{AllBelow, WiresBelow}
@@ -43,13 +43,13 @@ takes_below {I} (next_gate {n = n} {ws = ws} {gs = gs} e o t) =
     (all_below_more m m' ws more (of_types_below o), wires_below_more m m' gs more (takes_below t))
 
 -- A circuit makes at most so many wires.
-pub few_outputs : (gs : List Gate) → length (outputs gs) ≤ gate_slots_lem * length gs
+pub few_outputs : (gs : List Gate) → length (outputs gs) ≤ gate_slot_count * length gs
 unfolding wires_out
 few_outputs [] = omega arith
 few_outputs ((n on ws) ∷ gs) =
     omega (arith, length-append (outputs gs) (gate_outputs n), few_outputs gs, few_out n)
 
-pub few_wires : (I : List Wire) (gs : List Gate) → length (I ++ outputs gs) ≤ length I + gate_slots_lem * length gs
+pub few_wires : (I : List Wire) (gs : List Gate) → length (I ++ outputs gs) ≤ length I + gate_slot_count * length gs
 few_wires I gs = omega (arith, length-append I (outputs gs), few_outputs gs)
 
 -- A loose wire is one that the circuit has made.
@@ -67,16 +67,16 @@ all_below_append m [] ys h k = k
 all_below_append m (x ∷ xs) ys h k = (h.0, all_below_append m xs ys h.1 k)
 
 -- The labels of a typed tuple are labels of its context.
-pub labels_below_lem : (k : Tuple) {Q : LabelContext} {T : Ty} (m : ℕ)
+pub labels_are_below : (k : Tuple) {Q : LabelContext} {T : Ty} (m : ℕ)
     → ((ℓ : ℕ) (α : Wire) → Q ℓ ≡ some α → ℓ < m)
     → [] ∣ Q ⊢ tuple k ∶ T
     → AllBelow m (labels k)
-labels_below_lem (single ℓ) m known (by_label {α = α} p o) = (known ℓ α o.0, tt)
-labels_below_lem empty m known (by_unit p n) = tt
-labels_below_lem (both k l) m known (by_tuple b split_end s d e) =
+labels_are_below (single ℓ) m known (by_label {α = α} p o) = (known ℓ α o.0, tt)
+labels_are_below empty m known (by_unit p n) = tt
+labels_are_below (both k l) m known (by_tuple b split_end s d e) =
     all_below_append m (labels k) (labels l)
-    (labels_below_lem k m (λ ℓ α p. known ℓ α (shares_some_left (s ℓ) p)) d)
-    (labels_below_lem l m (λ ℓ α p. known ℓ α (shares_some_right (s ℓ) p)) e)
+    (labels_are_below k m (λ ℓ α p. known ℓ α (shares_some_left (s ℓ) p)) d)
+    (labels_are_below l m (λ ℓ α p. known ℓ α (shares_some_right (s ℓ) p)) e)
 
 -- A circuit constant's gates take wires that it has made, and the labels of its result are such wires.
 pub record ConstantBelow (T U : Ty) (gs : List Gate) (r : Tuple) : Type 0 where
@@ -91,7 +91,7 @@ pub constant_below : {T S U : Ty} {Q : LabelContext} {gs : List Gate} {r : Tuple
 constant_below {T} {gs = gs} {r = r} (by_circ p no_label t b sound d) =
     record {
       takes = sound.takes_earlier;
-      below = labels_below_lem r (length (wires T ++ outputs gs)) (loose_below (wires T) gs) d;
+      below = labels_are_below r (length (wires T ++ outputs gs)) (loose_below (wires T) gs) d;
       result_nodes_lem = nodes_typed r d;
       bounded = omega (arith, b);
     }

@@ -27,7 +27,7 @@ use Rattle.machine_load.proofs.Laws.Values.{length_values}
 use Rattle.machine_load.proofs.Laws.Start.{accepted, sizes_are, tree_kinded, tree_nodes, tree_size, types_codes}
 use Rattle.machine_load.proofs.Laws.Start.{labels_codes, start_means}
 use Rattle.machine_load.specs.Start.{least_types, numbers_at, Started, Loads}
-use Rattle.machine_circuits.specs.Layout.{labels_from_lem}
+use Rattle.machine_circuits.specs.Layout.{labels_start}
 
 -- What stands in a part of what stands at the front, stands.
 part_stands : {A : Type 0} (l xs ys : List A) (i : ℕ) → Stands l 0 xs → Stands xs i ys → i ≤ length xs → Stands l i ys
@@ -57,7 +57,7 @@ module _ (f : List ℕ) (L P N : ℕ) (read : read_of f ≡ Accepted L P N) wher
   -- The words: first the kinds of the types, then those of the labels.
   module _ (ws ws₁ ws₂ : List ℕ)
       (first : ws₁ ≡ over ws 0 (type_kinds f))
-      (second : ws₂ ≡ over ws₁ labels_from_lem (label_kinds f))
+      (second : ws₂ ≡ over ws₁ labels_start (label_kinds f))
       (room : least_types ≤ length ws) where
     -- The types' kinds are as many as the file says.
     type_count_lem : length (type_kinds f) ≡ type_count f
@@ -74,7 +74,7 @@ module _ (f : List ℕ) (L P N : ℕ) (read : read_of f ≡ Accepted L P N) wher
     kinds_stand =
         let few = (accepted f L P N read).types_fit in
         subst (λ w. Stands w 0 (type_kinds f)) (sym second)
-        (stands_before ws₁ labels_from_lem (label_kinds f) 0 (type_kinds f) (omega (arith, room₁)) (omega (arith, type_count_lem))
+        (stands_before ws₁ labels_start (label_kinds f) 0 (type_kinds f) (omega (arith, room₁)) (omega (arith, type_count_lem))
         (subst (λ w. Stands w 0 (type_kinds f)) (sym first) (stands_written ws 0 (type_kinds f) (omega arith))))
 
     -- So the codes of the type at a position stand from that position on.
@@ -85,18 +85,18 @@ module _ (f : List ℕ) (L P N : ℕ) (read : read_of f ≡ Accepted L P N) wher
         (omega (arith, type_count_lem))
 
     -- The labels' wires stand behind the types.
-    labels_stand : Stands ws₂ labels_from_lem (map wire_code (labels_of f))
+    labels_stand : Stands ws₂ labels_start (map wire_code (labels_of f))
     labels_stand =
-        subst (Stands ws₂ labels_from_lem) (sym (labels_codes f L P N read))
-        (subst (λ w. Stands w labels_from_lem (label_kinds f)) (sym second)
-        (stands_written ws₁ labels_from_lem (label_kinds f) (omega (arith, room₁))))
+        subst (Stands ws₂ labels_start) (sym (labels_codes f L P N read))
+        (subst (λ w. Stands w labels_start (label_kinds f)) (sym second)
+        (stands_written ws₁ labels_start (label_kinds f) (omega (arith, room₁))))
 
   -- The quadword of the one frame.
   frame_held : (fs : List Quadword)
       → 0 < length fs
       → quadword_at (set fs 0 (quadword 0 (label_count f) (label_count f) 0)) 0 ≡ frame_words (circuit (labels_of f) []) []
   frame_held fs h =
-      let many : length (labels_of f) ≡ label_count f = (accepted f L P N read).label_count_lem in
+      let many : length (labels_of f) ≡ label_count f = (accepted f L P N read).label_count_is in
       get_or-set_same fs 0 (quadword 0 (label_count f) (label_count f) 0) (quadword 0 0 0 0) h
       ∙ ap₂ (λ a b. quadword 0 a b 0) (sym (ap length (append-nil (labels_of f)) ∙ many)) (sym many)
 
@@ -106,7 +106,7 @@ module _ (f : List ℕ) (L P N : ℕ) (read : read_of f ≡ Accepted L P N) wher
       → right + term_count f ≡ length ns
       → ns' ≡ over ns right (term_nodes f)
       → ws₁ ≡ over ws 0 (type_kinds f)
-      → ws₂ ≡ over ws₁ labels_from_lem (label_kinds f)
+      → ws₂ ≡ over ws₁ labels_start (label_kinds f)
       → fs' ≡ set fs 0 (quadword 0 (label_count f) (label_count f) 0)
       → least_nodes ≤ length ns
       → most_nodes ≤ length rs
@@ -131,7 +131,7 @@ module _ (f : List ℕ) (L P N : ℕ) (read : read_of f ≡ Accepted L P N) wher
                     circuits_held = nothing_built (types_of f) P gs cs results (labels_of f);
                     frames_held = (
                       ap (λ l. quadword_at l 0) e' ∙ frame_held fs rows,
-                      omega (arith, file.label_count_lem, file.labels_fit),
+                      omega (arith, file.label_count_is, file.labels_fit),
                       tt,
                     );
                     counted =
@@ -146,7 +146,7 @@ module _ (f : List ℕ) (L P N : ℕ) (read : read_of f ≡ Accepted L P N) wher
             subst (λ n. StateFits n (start_state (labels_of f) (tree_of f))) (sym (sizes_are f L P N read).1)
             (start_fits (type_count f) (labels_of f) (tree_of f) (tree_kinded f L P N read));
         means = start_means f L P N read;
-        sizes_fit_lem =
+        start_sizes_fit =
             λ allowance.
             record {
               nodes_fit = omega (arith, ap length (append-nil (preorder (tree_of f))));
@@ -174,7 +174,7 @@ pub loaded : (f : List ℕ) (ns ns' : List Node) (ws ws₁ ws₂ : List ℕ) (fs
     → right + terms ≡ length ns
     → ns' ≡ over ns right (values_from (node_from f) (labels + positions) terms)
     → (0 + positions ≤ length ws → ws₁ ≡ over ws 0 (values_from (kind_at f) labels positions))
-    → (labels_from_lem + labels ≤ length ws₁ → ws₂ ≡ over ws₁ labels_from_lem (values_from (kind_at f) 0 labels))
+    → (labels_start + labels ≤ length ws₁ → ws₂ ≡ over ws₁ labels_start (values_from (kind_at f) 0 labels))
     → length ns' ≡ length ns
     → length ws₁ ≡ length ws
     → length ws₂ ≡ length ws₁
@@ -192,7 +192,7 @@ loaded f ns ns' ws ws₁ ws₂ fs fs' r labels positions terms right eL eP eN lo
     (ap (λ n. right + n) (sym eN) ∙ all)
     (e ∙ ap (over ns right) (ap₂ (values_from (node_from f)) (ap₂ ◌+◌ eL eP) eN))
     (e₁ (omega arith) ∙ ap (over ws 0) (ap₂ (values_from (kind_at f)) eL eP))
-    (e₂ (omega arith) ∙ ap (λ n. over ws₁ labels_from_lem (values_from (kind_at f) 0 n)) eL)
+    (e₂ (omega arith) ∙ ap (λ n. over ws₁ labels_start (values_from (kind_at f) 0 n)) eL)
     (e' ∙ ap (λ n. set fs 0 (quadword 0 n n 0)) count)
     (omega arith)
     deep

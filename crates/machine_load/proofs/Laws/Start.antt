@@ -14,8 +14,8 @@ use Rattle.rules.proofs.Laws.TypeCodes.{entries_positive}
 use Rattle.program.specs.Format.{label_count, type_count, term_count, first_term, kind_at, argument_at}
 use Rattle.program.specs.Reading.{read_of}
 use Rattle.program.specs.Trees.{TypeAt, bit_at, qubit_at, tensor_at, function_at, reusable_at, circ_at, TypeAtPosition}
-use Rattle.program.specs.Trees.{at_position, TermAt, variable_at_lem, label_at, abstraction_at, application_at, pair_at, let_at}
-use Rattle.program.specs.Trees.{lift_at, force_at, box_at_lem, apply_at, gate_at_lem, AcceptedFile, unit_at, unit_value_at}
+use Rattle.program.specs.Trees.{at_position, TermAt, variable_term_at, label_at, abstraction_at, application_at, pair_at, let_at}
+use Rattle.program.specs.Trees.{lift_at, force_at, box_term_at, apply_at, gate_term_at, AcceptedFile, unit_at, unit_value_at}
 use Rattle.program.proofs.Theorems.Accepting.{read_sound}
 use Rattle.program.proofs.Theorems.Programs.{accepted_nodes}
 use Rattle.program.specs.declared.ReadAnswer.TheVariants.{Accepted}
@@ -135,14 +135,14 @@ position_inside f p A (at_position d h) = omega (arith, type_end d, entries_posi
 tree_at_lem : {f : List ℕ} {e n : ℕ} {M : Term} (most : ℕ)
     → type_count f ≤ most_types → TermAt f e M n → nodes M ≤ most → TreeAt f e M (tree_from most f e)
 tree_at_lem {M = M} zero t d h = absurd (omega (arith, some_node M))
-tree_at_lem {f} (suc most) t (variable_at_lem {e = e} {x = x} k a) h = leaf_at f e most a_variable (variable x) k tt (ap variable a) refl
+tree_at_lem {f} (suc most) t (variable_term_at {e = e} {x = x} k a) h = leaf_at f e most a_variable (variable x) k tt (ap variable a) refl
 tree_at_lem {f} (suc most) t (label_at {e = e} {x = x} k a) h = leaf_at f e most a_label (label x) k tt (ap label a) refl
-tree_at_lem {f} (suc most) t (gate_at_lem {e = e} {x = x} k a) h = leaf_at f e most a_gate (gate x) k tt (ap gate a) refl
+tree_at_lem {f} (suc most) t (gate_term_at {e = e} {x = x} k a) h = leaf_at f e most a_gate (gate x) k tt (ap gate a) refl
 tree_at_lem {f} (suc most) t (unit_value_at {e = e} k a) h = leaf_at f e most a_unit_value unit_value k tt refl refl
 tree_at_lem {f} (suc most) t (abstraction_at {e = e} {A = A} {M = M} k p d) h =
     one_at f e most an_abstraction M (abstraction A M) k (position_inside f (argument_at f e) A p)
     (tree_at_lem most t d (omega arith)) (ap (λ A. abstraction A M) (named_read e t p)) (omega arith)
-tree_at_lem {f} (suc most) t (box_at_lem {e = e} {T = T} {M = M} k p d) h =
+tree_at_lem {f} (suc most) t (box_term_at {e = e} {T = T} {M = M} k p d) h =
     one_at f e most a_box M (box T M) k (position_inside f (argument_at f e) T p)
     (tree_at_lem most t d (omega arith)) (ap (λ A. box A M) (named_read e t p)) (omega arith)
 tree_at_lem {f} (suc most) t (lift_at {e = e} {M = M} k a d) h =
@@ -198,14 +198,14 @@ type_kinds_lem {f} (circ_at {e = e} {m = m} {A = A} {B = B} k d d') =
 type_kinds_lem {f} (reusable_at {e = e} {A = A} k d) = first_kind f e 4 (entries A) (type_codes A) k (type_kinds_lem d)
 
 -- The wires of labels are the kinds of their entries.
-label_kinds_lem : (f : List ℕ) (e : ℕ) (labels : List Wire)
+label_kinds_are : (f : List ℕ) (e : ℕ) (labels : List Wire)
     → ((i : ℕ) (α : Wire) → nth labels i ≡ some α → kind_at f (e + i) ≡ wire_code α)
     → map wire_code labels ≡ values_from (kind_at f) e (length labels)
-label_kinds_lem f e [] kinds = sym (no_values (kind_at f) e)
-label_kinds_lem f e (α ∷ labels) kinds =
+label_kinds_are f e [] kinds = sym (no_values (kind_at f) e)
+label_kinds_are f e (α ∷ labels) kinds =
     let here : e + 0 ≡ e = omega arith in
     first_kind f e (wire_code α) (length labels) (map wire_code labels) (ap (kind_at f) (sym here) ∙ kinds 0 α refl)
-    (label_kinds_lem f (suc e) labels (λ i β q.
+    (label_kinds_are f (suc e) labels (λ i β q.
     let next : suc e + i ≡ e + suc i = omega arith in
     ap (kind_at f) next ∙ kinds (suc i) β q))
     ∙ ap (values_from (kind_at f) e) (omega arith)
@@ -238,7 +238,7 @@ module _ (f : List ℕ) (L P N : ℕ) (read : read_of f ≡ Accepted L P N) wher
 
   -- The tree of the whole term section.
   whole_tree : TreeAt f (first_term f) (term_of f) (tree_of f)
-  whole_tree = tree_at_lem (term_count f) accepted.types_fit accepted.term_at_lem (omega (arith, accepted_nodes accepted))
+  whole_tree = tree_at_lem (term_count f) accepted.types_fit accepted.term_is_at (omega (arith, accepted_nodes accepted))
 
   -- Each node of the tree has the parts that its kind asks for, its type positions are those of the file, and it has no
   -- circuit constant.
@@ -287,10 +287,10 @@ module _ (f : List ℕ) (L P N : ℕ) (read : read_of f ≡ Accepted L P N) wher
   -- The kinds of the label section are the wires of the labels.
   pub labels_codes : map wire_code (labels_of f) ≡ label_kinds f
   labels_codes =
-      label_kinds_lem f 0 (labels_of f) (λ i α q.
+      label_kinds_are f 0 (labels_of f) (λ i α q.
       let same : 0 + i ≡ i = omega arith in
-      ap (kind_at f) same ∙ accepted.label_kinds_lem i α q)
-      ∙ ap (values_from (kind_at f) 0) accepted.label_count_lem
+      ap (kind_at f) same ∙ accepted.label_kinds_are i α q)
+      ∙ ap (values_from (kind_at f) 0) accepted.label_count_is
 
   -- The start of the machine stands for the start of the rules.
   pub start_means : decode (types_of f) (start_state (labels_of f) (tree_of f)) ≡ start (labels_of f) (term_of f)

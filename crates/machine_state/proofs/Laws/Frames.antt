@@ -14,7 +14,7 @@ use Rattle.machine_walk.specs.Places.{Holds}
 use Rattle.machine_walk.proofs.Laws.Places.{holes_few}
 use Rattle.machine_walk.specs.declared.Place.{Place}
 use Rattle.words.specs.Quadwords.{Quadword, quadword, quadword_at, word_in}
-use Rattle.rules.specs.Slots.{gate_slots_lem}
+use Rattle.rules.specs.Slots.{gate_slot_count}
 use Rattle.machine_circuits.proofs.Laws.Held.{SameBelow}
 use Rattle.machine_circuits.proofs.Laws.Typed.{few_wires}
 use Rattle.machine_state.specs.Memory.{frame_words, inputs, most_inputs, HoldsFrames}
@@ -73,7 +73,7 @@ next_held fs I hs Cs held = ap (λ r. word_in r 1) held.0
 pub wires_few : (fs : List Quadword) (I : List Wire) (hs : List Gate) (Cs : List Circuit)
     → HoldsFrames fs (circuit I hs ∷ Cs)
     → open_gates (circuit I hs ∷ Cs) ≤ most_gates
-    → wire_count (circuit I hs) ≤ most_inputs + gate_slots_lem * most_gates
+    → wire_count (circuit I hs) ≤ most_inputs + gate_slot_count * most_gates
 wires_few fs I hs Cs held few = omega (arith, few_wires I hs, held.1)
 
 -- There are no more open boxes than holes.

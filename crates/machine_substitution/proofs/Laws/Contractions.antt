@@ -64,7 +64,7 @@ reduct_moved ns ns₁ ns' rs p h hs v t source values at next size to most held 
     fits to_is copied =
     let walk = returning v (h ∷ hs) in
     let room = gap_wide ns rs p walk held in
-    let known = size_known most (length (reduct ns source values)) size wrote.answer_is_lem in
+    let known = size_known most (length (reduct ns source values)) size wrote.answer_is_size in
     let all : wrote.written ≡ preorder t = wrote.whole size refl ∙ same in
     let long : size ≡ length (preorder t) = known.0 ∙ ap length same in
     let short : size ≤ most = known.1 in

@@ -211,7 +211,7 @@ writing_end ns ns' ws source values to most i depth size w e h =
       written = w.done;
       nodes_are = w.nodes_are;
       within = omega (arith, w.size_is);
-      answer_is_lem = fits_within most size h ∙ ap (size_within most) (w.size_is ∙ ap length all);
+      answer_is_size = fits_within most size h ∙ ap (size_within most) (w.size_is ∙ ap length all);
       whole = λ _ _. all;
     }
 
@@ -281,7 +281,7 @@ module _ (ns : List Node) (words : ℕ) (source : Region) (values : Values) (to 
           written = w.done;
           nodes_are = w.nodes_are;
           within = omega (arith, w.size_is);
-          answer_is_lem =
+          answer_is_size =
               exceeds most (length (reduct ns source values))
               (omega (
                 arith,

@@ -3,7 +3,7 @@ use Rattle.std.specs.Prelude.{ℕ, ◌≤◌, ◌<◌, ◌≡◌, refl, Bool, tr
 use Rattle.std.proofs.Common.{arith, sym, ◌∙◌, ap, ap₂, subst, ne_eqb, le-leb, leb-true, leb-false}
 use Rattle.std.proofs.lemmas.Bool.{lt-leb}
 use Rattle.rules.specs.Kinds.{variable_kind, label_kind, abstraction_kind, application_kind, pair_kind, let_kind}
-use Rattle.rules.specs.Kinds.{lift_kind, force_kind, box_kind, apply_kind, gate_kind_lem, constant_kind, unit_value_kind}
+use Rattle.rules.specs.Kinds.{lift_kind, force_kind, box_kind, apply_kind, gate_term_kind, constant_kind, unit_value_kind}
 use Rattle.rules.specs.Parts.{parts_of_kind}
 use Rattle.rules.proofs.Laws.Ranges.{try, ◌and◌, no_more, in_range}
 use Rattle.machine_terms.specs.Trees.{LeafKind, a_variable, a_label, a_gate, a_constant, leaf_kind, OneKind}
@@ -14,7 +14,7 @@ use Rattle.machine_terms.specs.Trees.{a_let, an_apply, two_kind, parts, a_unit_v
 abbrev pub leaf_number : LeafKind → ℕ
 leaf_number a_variable = variable_kind
 leaf_number a_label = label_kind
-leaf_number a_gate = gate_kind_lem
+leaf_number a_gate = gate_term_kind
 leaf_number a_unit_value = unit_value_kind
 leaf_number a_constant = constant_kind
 

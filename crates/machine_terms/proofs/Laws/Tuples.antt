@@ -2,7 +2,7 @@
 use Rattle.std.specs.Prelude.{ℕ, ◌≡◌, refl, ◌⊎◌, Bool, true, false, cond, eqb, length}
 use Rattle.std.proofs.Common.{arith, sym, ◌∙◌, ap, subst, inl, inr, length-append, eqb-true}
 use Rattle.std.proofs.Math.Option.{Option, none, some, some-injective, none-ne-some}
-use Rattle.rules.specs.Kinds.{variable_kind, label_kind, application_kind, pair_kind, let_kind, gate_kind_lem, unit_value_kind}
+use Rattle.rules.specs.Kinds.{variable_kind, label_kind, application_kind, pair_kind, let_kind, gate_term_kind, unit_value_kind}
 use Rattle.rules.specs.Terms.{Tuple, single, both, empty}
 use Rattle.rules.specs.Next.{joined}
 use Rattle.machine_terms.specs.Trees.{Node, kind, argument, Tree, leaf, one, two, preorder, LeafKind, a_variable}
@@ -23,18 +23,18 @@ pub data IsTuple : Tree → Tuple → Type 0 where
 -- A number that is not read as a circuit constant is that of the kind read.
 leaf_read : (k : ℕ) → (leaf_kind k ≡ a_constant) ⊎ (k ≡ leaf_number (leaf_kind k))
 unfolding leaf_kind
-leaf_read k = of (eqb k variable_kind) (eqb k label_kind) (eqb k gate_kind_lem) (eqb k unit_value_kind) refl refl refl refl
+leaf_read k = of (eqb k variable_kind) (eqb k label_kind) (eqb k gate_term_kind) (eqb k unit_value_kind) refl refl refl refl
   where
     of : (a b c d : Bool)
         → eqb k variable_kind ≡ a
         → eqb k label_kind ≡ b
-        → eqb k gate_kind_lem ≡ c
+        → eqb k gate_term_kind ≡ c
         → eqb k unit_value_kind ≡ d
         → (cond a a_variable (cond b a_label (cond c a_gate (cond d a_unit_value a_constant))) ≡ a_constant)
         ⊎ (k ≡ leaf_number (cond a a_variable (cond b a_label (cond c a_gate (cond d a_unit_value a_constant)))))
     of true b c d p q r s = inr (eqb-true k variable_kind p)
     of false true c d p q r s = inr (eqb-true k label_kind q)
-    of false false true d p q r s = inr (eqb-true k gate_kind_lem r)
+    of false false true d p q r s = inr (eqb-true k gate_term_kind r)
     of false false false true p q r s = inr (eqb-true k unit_value_kind s)
     of false false false false p q r s = inl refl
 

@@ -2,7 +2,7 @@
 use Rattle.std.specs.Prelude.{ℕ, ◌≡◌, List, ◌∷◌}
 use Rattle.std.proofs.Math.Path.{refl}
 use Rattle.std.proofs.Common.{subst, ne_eqb}
-use Rattle.rules.specs.Kinds.{label_kind, abstraction_kind, lift_kind, gate_kind_lem, constant_kind, unit_value_kind}
+use Rattle.rules.specs.Kinds.{label_kind, abstraction_kind, lift_kind, gate_term_kind, constant_kind, unit_value_kind}
 use Rattle.rules.specs.Parts.{parts_of_kind}
 use Rattle.machine_terms.specs.Trees.{Node, node, kind, Tree, leaf, one, two, leaf_kind, one_kind, parts, WellKinded}
 use Rattle.machine_terms.specs.Holes.{Hole, only}
@@ -17,7 +17,7 @@ use Rattle.machine_walk.specs.Heads.{head_with, head_of}
 -- A kind of no value.
 pub head_no_value : (k : ℕ)
     → (k ≡ label_kind → ⊥) → (k ≡ abstraction_kind → ⊥) → (k ≡ lift_kind → ⊥)
-    → (k ≡ gate_kind_lem → ⊥) → (k ≡ unit_value_kind → ⊥) → (k ≡ constant_kind → ⊥)
+    → (k ≡ gate_term_kind → ⊥) → (k ≡ unit_value_kind → ⊥) → (k ≡ constant_kind → ⊥)
     → head_of k ≡ head_with (parts k)
 unfolding head_of
 head_no_value k h17 h18 h22 h26 h27 h32 =
@@ -26,7 +26,7 @@ head_no_value k h17 h18 h22 h26 h27 h32 =
       ne_eqb k label_kind h17,
       ne_eqb k abstraction_kind h18,
       ne_eqb k lift_kind h22,
-      ne_eqb k gate_kind_lem h26,
+      ne_eqb k gate_term_kind h26,
       ne_eqb k unit_value_kind h27,
       ne_eqb k constant_kind h32,
     )

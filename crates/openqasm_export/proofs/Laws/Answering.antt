@@ -88,8 +88,8 @@ module _ (b : List ℕ) where
   accepted_whole work x long =
       let r = sound_read b x in
       record {
-        few_inputs = omega (arith, r.input_count_lem, x.few_inputs);
-        few_gates = omega (arith, r.gate_count_lem, x.few_gates);
+        few_inputs = omega (arith, r.input_count_is, x.few_inputs);
+        few_gates = omega (arith, r.gate_count_is, x.few_gates);
         room = long;
       }
 

@@ -167,7 +167,7 @@ length_joined (l ∷ ls) = omega (arith, length-append l (joined ls), length_joi
 two_digits : (r : ℕ) → r < most_labels → length (decimal r) ≤ 2
 two_digits r few = length_decimal 1 r (omega arith)
 
--- The declaration of a bit register has at most 13 bytes, and an input at most declaration-bytes of declarations.
+-- The declaration of a bit register has at most 13 bytes, and an input at most declaration_bytes of declarations.
 bit_register_fits : (k : ℕ) → k < most_labels → length (bit_register k) ≤ 13
 bit_register_fits k few =
     omega (arith, length_joined (ascii "creg c" ∷ decimal k ∷ ascii "[1];\n" ∷ []), two_digits k few)
@@ -204,7 +204,7 @@ short measurement = true
 short (under_bit name) = leb (length (ascii name)) 2
 short unwritten = true
 
--- A line with such a name has at most statement-bytes.
+-- A line with such a name has at most statement_bytes.
 statement_fits : (s : Statement) (r r' r'' : ℕ)
     → Truth (short s)
     → r < most_labels
@@ -339,5 +339,5 @@ sound_fits b x written =
     = ap₂ (λ I gs. export_text I gs (outputs_of b)) r.inputs_are r.gates_are
     ∙ ap (export_text x.inputs x.gates) r.outputs_are in
     subst (λ t. length t ≤ most_text) (sym same)
-    (text_fits x.inputs x.gates x.outs (omega (arith, x.few_inputs, x.input_count_lem))
-    (omega (arith, x.few_gates, x.gate_count_lem)) (omega arith))
+    (text_fits x.inputs x.gates x.outs (omega (arith, x.few_inputs, x.input_count_is))
+    (omega (arith, x.few_gates, x.gate_count_is)) (omega arith))

@@ -64,9 +64,9 @@ module _ (text : List ℕ) where
         gates = p.gates;
         outs = p.outs;
         bytes_are = refl;
-        input_count_lem = refl;
-        gate_count_lem = refl;
-        output_count_lem = refl;
+        input_count_is = refl;
+        gate_count_is = refl;
+        output_count_is = refl;
         few_inputs = few.0;
         few_gates = few.1;
         few_outputs = few.2;
@@ -111,9 +111,9 @@ module _ (text : List ℕ) where
       = sym (ap₂ (λ I gs. export_text I gs (outputs_of c)) r.inputs_are r.gates_are
       ∙ ap (export_text s.inputs s.gates) r.outputs_are)
       ∙ x.text_is in
-      let few_inputs = subst (λ n. n ≤ most_labels) s.input_count_lem s.few_inputs in
-      let few_gates = subst (λ n. n ≤ most_gates) s.gate_count_lem s.few_gates in
-      let few_outputs = subst (λ n. n ≤ most_outputs) s.output_count_lem s.few_outputs in
+      let few_inputs = subst (λ n. n ≤ most_labels) s.input_count_is s.few_inputs in
+      let few_gates = subst (λ n. n ≤ most_gates) s.gate_count_is s.few_gates in
+      let few_outputs = subst (λ n. n ≤ most_outputs) s.output_count_is s.few_outputs in
       let known = sound_known s.gates s.goes_once.sound.takes_earlier in
       let written = subst AllWritten r.gates_are x.written in
       let back = parts_back s.inputs s.gates s.outs few_inputs few_gates few_outputs known written s.goes_once in

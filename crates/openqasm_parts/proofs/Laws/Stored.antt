@@ -211,21 +211,21 @@ module _ {p : Parts} {text kinds slots kinds' slots' : List ℕ} {at : ℕ} (ite
       let gs = p.gates in
       let α = input_type item.kind in
       let many : length (kind_bytes_is I gs) ≡ i
-      = omega (arith, length_kinds I gs, s.input_count_lem, s.gate_count_lem) in
+      = omega (arith, length_kinds I gs, s.input_count_is, s.gate_count_is) in
       let many' : length (all_slots I gs ++ p.outs) ≡ entry_slots * i
-      = omega (arith, length_words_stored I gs p.outs, s.input_count_lem, s.gate_count_lem, s.output_count_lem) in
+      = omega (arith, length_words_stored I gs p.outs, s.input_count_is, s.gate_count_is, s.output_count_is) in
       record {
         rest_is = rest_behind p.rest text at item.length s.rest_is;
-        input_count_lem = omega (arith, length-append I (α ∷ []), s.input_count_lem);
-        gate_count_lem = s.gate_count_lem;
-        output_count_lem = s.output_count_lem;
+        input_count_is = omega (arith, length-append I (α ∷ []), s.input_count_is);
+        gate_count_is = s.gate_count_is;
+        output_count_is = s.output_count_is;
         kinds_stand = subst
             (Stands kinds' 0)
-            (ap (λ k. kind_bytes_is I gs ++ (k ∷ [])) (type_kind item.kind wants) ∙ kinds_input I α gs s.gate_count_lem)
+            (ap (λ k. kind_bytes_is I gs ++ (k ∷ [])) (type_kind item.kind wants) ∙ kinds_input I α gs s.gate_count_is)
             (kind.behind (kind_bytes_is I gs) (omega arith) s.kinds_stand (omega arith));
         slots_stand = subst
             (λ ws. Stands slots' 0 (flat_map bytes_of ws))
-            (slots_input I α gs p.outs s.gate_count_lem s.output_count_lem)
+            (slots_input I α gs p.outs s.gate_count_is s.output_count_is)
             (words_add (all_slots I gs ++ p.outs) (slots_for entry_slots []) (omega arith) wires s.slots_stand (omega arith));
       }
 
@@ -242,21 +242,21 @@ module _ {p : Parts} {text kinds slots kinds' slots' : List ℕ} {at : ℕ} (ite
       let gs = p.gates in
       let g = item.kind on wires_taken p item in
       let many : length (kind_bytes_is I gs) ≡ inputs + i
-      = omega (arith, length_kinds I gs, s.input_count_lem, s.gate_count_lem) in
+      = omega (arith, length_kinds I gs, s.input_count_is, s.gate_count_is) in
       let many' : length (all_slots I gs ++ p.outs) ≡ entry_slots * (inputs + i)
-      = omega (arith, length_words_stored I gs p.outs, s.input_count_lem, s.gate_count_lem, s.output_count_lem) in
+      = omega (arith, length_words_stored I gs p.outs, s.input_count_is, s.gate_count_is, s.output_count_is) in
       record {
         rest_is = rest_behind p.rest text at item.length s.rest_is;
-        input_count_lem = s.input_count_lem;
-        gate_count_lem = omega (arith, s.gate_count_lem);
-        output_count_lem = s.output_count_lem;
+        input_count_is = s.input_count_is;
+        gate_count_is = omega (arith, s.gate_count_is);
+        output_count_is = s.output_count_is;
         kinds_stand = subst
             (Stands kinds' 0)
             (kinds_gate I g gs)
             (kind.behind (kind_bytes_is I gs) (omega arith) s.kinds_stand (omega arith));
         slots_stand = subst
             (λ ws. Stands slots' 0 (flat_map bytes_of ws))
-            (slots_gate I g gs p.outs s.output_count_lem)
+            (slots_gate I g gs p.outs s.output_count_is)
             (words_add (all_slots I gs ++ p.outs) (gate_slots g) (omega arith) wires s.slots_stand
             (omega (arith, length_slots entry_slots (wires_taken p item))));
       }
@@ -271,12 +271,12 @@ stored_output {p} {text} {slots' = slots'} {at} {inputs} {gates} {i} item s room
     let gs = p.gates in
     let w = get_or p.held item.first 0 in
     let many : length (all_slots I gs ++ p.outs) ≡ entry_slots * (inputs + gates) + i
-    = omega (arith, length_words_stored I gs p.outs, s.input_count_lem, s.gate_count_lem, s.output_count_lem) in
+    = omega (arith, length_words_stored I gs p.outs, s.input_count_is, s.gate_count_is, s.output_count_is) in
     record {
       rest_is = rest_behind p.rest text at item.length s.rest_is;
-      input_count_lem = s.input_count_lem;
-      gate_count_lem = s.gate_count_lem;
-      output_count_lem = omega (arith, length-append p.outs (w ∷ []), s.output_count_lem);
+      input_count_is = s.input_count_is;
+      gate_count_is = s.gate_count_is;
+      output_count_is = omega (arith, length-append p.outs (w ∷ []), s.output_count_is);
       kinds_stand = s.kinds_stand;
       slots_stand = subst
           (λ ws. Stands slots' 0 (flat_map bytes_of ws))
@@ -295,9 +295,9 @@ inputs_start labels text kinds slots =
       then_all = refl;
       stored = record {
         rest_is = refl;
-        input_count_lem = refl;
-        gate_count_lem = refl;
-        output_count_lem = refl;
+        input_count_is = refl;
+        gate_count_is = refl;
+        output_count_is = refl;
         kinds_stand = refl;
         slots_stand = refl;
       };
@@ -455,9 +455,9 @@ outputs_start {labels} {gates} {text} {at = at} outputs w =
           w.then_all
           record {
             rest_is = rest_behind p.rest text at 6 s.rest_is;
-            input_count_lem = s.input_count_lem;
-            gate_count_lem = s.gate_count_lem;
-            output_count_lem = s.output_count_lem;
+            input_count_is = s.input_count_is;
+            gate_count_is = s.gate_count_is;
+            output_count_is = s.output_count_is;
             kinds_stand = s.kinds_stand;
             slots_stand = s.slots_stand;
           };
@@ -542,13 +542,13 @@ stored_listing {p} {kinds = kinds} {slots = slots} {inputs = inputs} {gates} {ou
     let gs = p.gates in
     let ws = all_slots I gs ++ p.outs in
     let here = length_words_stored I gs p.outs in
-    ap (λ n. bytes_of n ++ (bytes_of gates ++ (bytes_of outputs ++ rest))) s.input_count_lem
-    ∙ ap₂ (λ m n. bytes_of (length I) ++ (bytes_of m ++ (bytes_of n ++ rest))) s.gate_count_lem s.output_count_lem
+    ap (λ n. bytes_of n ++ (bytes_of gates ++ (bytes_of outputs ++ rest))) s.input_count_is
+    ∙ ap₂ (λ m n. bytes_of (length I) ++ (bytes_of m ++ (bytes_of n ++ rest))) s.gate_count_is s.output_count_is
     ∙ ap₂ (λ k t. bytes_of (length I) ++ (bytes_of (length gs) ++ (bytes_of (length p.outs) ++ (k ++ t))))
     (first_bytes_lem kinds (kind_bytes_is I gs) (inputs + gates) s.kinds_stand
-    (omega (arith, length_kinds I gs, s.input_count_lem, s.gate_count_lem)))
+    (omega (arith, length_kinds I gs, s.input_count_is, s.gate_count_is)))
     (first_bytes_lem slots (flat_map bytes_of ws) (2 * entry_slots * (inputs + gates) + 2 * outputs) s.slots_stand
-    (omega (arith, here, length_bytes ws, s.input_count_lem, s.gate_count_lem, s.output_count_lem))
+    (omega (arith, here, length_bytes ws, s.input_count_is, s.gate_count_is, s.output_count_is))
     ∙ flat_append bytes_of (all_slots I gs) p.outs)
   where
     rest : List ℕ

@@ -243,6 +243,6 @@ encode_bytes labels M w =
       binders_small = omega arith;
       positions_small = omega arith;
       is_closed = w.closed;
-      are_labels = w.labels_below_lem;
-      are_gates = w.gates_known_lem;
+      are_labels = w.labels_are_below;
+      are_gates = w.gates_are_known;
     })))))

@@ -4,7 +4,7 @@ use Rattle.std.proofs.Common.{sym, ap, subst, arith, lt-ltb, le-ltb, le-leb, leb
 use Rattle.std.proofs.Math.Decide.{dec_le}
 use Rattle.rules.specs.Kinds.{pair_type_kind, function_kind, reusable_kind, circuit_kind, unit_kind, variable_kind, label_kind}
 use Rattle.rules.specs.Kinds.{abstraction_kind, application_kind, pair_kind, let_kind, lift_kind, force_kind, box_kind}
-use Rattle.rules.specs.Kinds.{apply_kind, gate_kind_lem, unit_value_kind}
+use Rattle.rules.specs.Kinds.{apply_kind, gate_term_kind, unit_value_kind}
 use Rattle.rules.proofs.Laws.Ranges.{◌and◌, no_more, in_range}
 use Rattle.program.specs.Format.{label_count, type_count, first_term, kind_at, label_shape, type_shape, term_shape, shape_at}
 use Rattle.program.specs.Format.{is_known, shape_allows, argument_at}
@@ -40,7 +40,7 @@ pub data TermKind (k : ℕ) : Type 0 where
   is_force : k ≡ force_kind → TermKind k
   is_box : k ≡ box_kind → TermKind k
   is_apply : k ≡ apply_kind → TermKind k
-  is_gate_lem : k ≡ gate_kind_lem → TermKind k
+  is_gate_lem : k ≡ gate_term_kind → TermKind k
   is_unit_value : k ≡ unit_value_kind → TermKind k
 
 -- An unknown shape is not known.

@@ -4,7 +4,7 @@ use Rattle.std.proofs.Common.{add-one, arith}
 use borrow.Author.Tests.{lt-ltb, le-ltb, le-leb, lt-leb, ne_eqb}
 use Rattle.rules.specs.Kinds.{qubit_kind, pair_type_kind, function_kind, reusable_kind, circuit_kind, unit_kind, variable_kind}
 use Rattle.rules.specs.Kinds.{label_kind, abstraction_kind, application_kind, let_kind, lift_kind, force_kind, box_kind}
-use Rattle.rules.specs.Kinds.{apply_kind, gate_kind_lem, unit_value_kind}
+use Rattle.rules.specs.Kinds.{apply_kind, gate_term_kind, unit_value_kind}
 use Rattle.rules.specs.Parts.{parts_of_kind}
 use Rattle.rules.proofs.Laws.Ranges.{◌and◌, no_more, in_range}
 use Rattle.program.specs.Format.{label_count, first_term, kind_at, label_shape, type_shape}
@@ -107,7 +107,7 @@ no_terms_below k h =
       lt-leb lift_kind k (omega arith),
       below k box_kind (omega arith),
       below k apply_kind (omega arith),
-      below k gate_kind_lem (omega arith),
+      below k gate_term_kind (omega arith),
       below k unit_value_kind (omega arith),
     )
 
@@ -124,6 +124,6 @@ no_terms_above k h =
       lt-leb k force_kind (omega arith),
       above k box_kind (omega arith),
       above k apply_kind (omega arith),
-      above k gate_kind_lem (omega arith),
+      above k gate_term_kind (omega arith),
       above k unit_value_kind h,
     )

@@ -15,8 +15,8 @@ use Rattle.program.specs.Traversal.{traverse_from}
 use Rattle.program.specs.Reading.{runs_out, kind_wrong, argument_wrong, type_wrong, circ_wrong, box_wrong, wires_wrong}
 use Rattle.program.specs.Trees.{TypeAt, bit_at, qubit_at, unit_at, tensor_at, function_at, reusable_at, circ_at}
 use Rattle.program.specs.Trees.{TypeAtPosition}
-use Rattle.program.specs.Trees.{at_position, formed, TermAt, variable_at_lem, label_at, abstraction_at, application_at}
-use Rattle.program.specs.Trees.{pair_at, let_at, lift_at, force_at, box_at_lem, apply_at, gate_at_lem, labels_below, gates_known}
+use Rattle.program.specs.Trees.{at_position, formed, TermAt, variable_term_at, label_at, abstraction_at, application_at}
+use Rattle.program.specs.Trees.{pair_at, let_at, lift_at, force_at, box_term_at, apply_at, gate_term_at, labels_below, gates_known}
 use Rattle.program.specs.Trees.{unit_value_at, boxes_wired}
 use Rattle.program.proofs.Laws.Kinds.{of_true, TypeKind, is_bit, is_qubit, is_tensor, is_function, is_reusable}
 use Rattle.program.proofs.Laws.Kinds.{is_circ, is_unit, type_kind, label_range, shape_of_label, shape_of_type, shape_of_term}
@@ -275,7 +275,7 @@ term_entry : (f : List ℕ)
     → TermsAt f e (b ∷ waiting) n
 unfolding term_shape
 term_entry f p left e b n waiting h l (is_variable k) o ih =
-    next_term (variable_at_lem k refl)
+    next_term (variable_term_at k refl)
     (ih waiting (sym (traverse_entry TermEnd f left e b waiting Leaf (term_parts_lem f e b 16 h k)) ∙ o))
 term_entry f p left e b n waiting h l (is_label k) o ih =
     next_term (label_at k refl)
@@ -314,14 +314,14 @@ term_entry f p left e b n waiting h l (is_box k) o ih =
     let r =
     ih (b ∷ waiting) (sym (traverse_entry TermEnd f left e b waiting (One b) (term_parts_lem f e b 24 h k)) ∙ o) in
     let t = position_typed f p (argument_at f e) (ltb→lt (argument_at f e) (type_count f) (argument_of_term f p e 24 h l k)) in
-    terms_one_at (box t.0) (λ M m s. box_at_lem k t.1 s) r
+    terms_one_at (box t.0) (λ M m s. box_term_at k t.1 s) r
 term_entry f p left e b n waiting h l (is_apply k) o ih =
     let r =
     ih (b ∷ b ∷ waiting) (sym (traverse_entry TermEnd f left e b waiting (Two b b) (term_parts_lem f e b 25 h k)) ∙ o) in
     let z = eqb→eq (argument_at f e) 0 (argument_of_term f p e 25 h l k) in
     terms_two_at apply (λ M N m j s t. apply_at k z s t) r
 term_entry f p left e b n waiting h l (is_gate_lem k) o ih =
-    next_term (gate_at_lem k refl)
+    next_term (gate_term_at k refl)
     (ih waiting (sym (traverse_entry TermEnd f left e b waiting Leaf (term_parts_lem f e b 26 h k)) ∙ o))
 term_entry f p left e b n waiting h l (is_unit_value k) o ih =
     next_term (unit_value_at k (eqb→eq (argument_at f e) 0 (argument_of_term f p e 27 h l k)))
@@ -383,7 +383,7 @@ pub term_allowed : {f : List ℕ} {e n : ℕ} {M : Term}
     → Passed f → TermAt f e M n → first_term f ≤ e → n ≤ entry_count f
     → Allowed f M
 unfolding term_shape
-term_allowed p (variable_at_lem k a) h l = (tt, tt, tt)
+term_allowed p (variable_term_at k a) h l = (tt, tt, tt)
 term_allowed {f} p (label_at {e = e} k a) h l =
     (subst (λ x. Truth (ltb x (label_count f))) a (argument_of_term f p e 17 h l k), tt, tt)
 term_allowed p (abstraction_at k a s) h l = term_allowed p s (omega arith) l
@@ -401,7 +401,7 @@ term_allowed {f} p (let_at {M = M} {N = N} k a s t) h l =
     allowed_two f M N (term_allowed p s (omega arith) (omega arith)) (term_allowed p t (omega arith) l)
 term_allowed p (lift_at k a s) h l = term_allowed p s (omega arith) l
 term_allowed p (force_at k a s) h l = term_allowed p s (omega arith) l
-term_allowed {f} p (box_at_lem {e = e} {T = T} {M = M} k a s) h l =
+term_allowed {f} p (box_term_at {e = e} {T = T} {M = M} k a s) h l =
     let u = term_end s in
     let r = term_allowed p s (omega arith) l in (
       r.0,
@@ -415,5 +415,5 @@ term_allowed {f} p (apply_at {M = M} {N = N} k a s t) h l =
     let u = term_end s in
     let v = term_end t in
     allowed_two f M N (term_allowed p s (omega arith) (omega arith)) (term_allowed p t (omega arith) l)
-term_allowed p (gate_at_lem {e = e} k a) h l = (tt, subst (λ x. Truth (is_gate x)) a (argument_of_term _ p e 26 h l k), tt)
+term_allowed p (gate_term_at {e = e} k a) h l = (tt, subst (λ x. Truth (is_gate x)) a (argument_of_term _ p e 26 h l k), tt)
 term_allowed p (unit_value_at k a) h l = (tt, tt, tt)

@@ -12,8 +12,8 @@ use Rattle.rules.specs.Counting.{source}
 use Rattle.rules.proofs.Laws.Booleans.{and_left, and_right, and_both, is_true}
 use Rattle.rules.proofs.Laws.TypeCodes.{entries_positive}
 use Rattle.program.specs.Trees.{TypeAt, bit_at, qubit_at, unit_at, tensor_at, function_at, reusable_at, circ_at, TermAt}
-use Rattle.program.specs.Trees.{variable_at_lem, label_at, abstraction_at, application_at, pair_at, let_at, lift_at}
-use Rattle.program.specs.Trees.{force_at, box_at_lem, apply_at, gate_at_lem, unit_value_at, closed_under}
+use Rattle.program.specs.Trees.{variable_term_at, label_at, abstraction_at, application_at, pair_at, let_at, lift_at}
+use Rattle.program.specs.Trees.{force_at, box_term_at, apply_at, gate_term_at, unit_value_at, closed_under}
 use Rattle.program.proofs.Laws.Kinds.{shape_of_type, shape_of_term}
 use Rattle.program.specs.declared.traversal.Subject.{Subject}
 use Rattle.program.specs.declared.traversal.Subject.TheVariants.{TypeEnd, WireType, TermEnd, Scope}
@@ -239,7 +239,7 @@ stop_wire {f} (circ_at {e = e} {A = A} {B = B} k s t) b w =
 
 -- A term that stands in the entries e to n − 1 has n − e nodes.
 pub term_end : {f : List ℕ} {e n : ℕ} {M : Term} → TermAt f e M n → n ≡ e + nodes M
-term_end (variable_at_lem k a) = omega arith
+term_end (variable_term_at k a) = omega arith
 term_end (label_at k a) = omega arith
 term_end (abstraction_at k a s) = let p = term_end s in omega arith
 term_end (application_at k a s t) = let p = term_end s in let q = term_end t in omega arith
@@ -247,14 +247,14 @@ term_end (pair_at k a s t) = let p = term_end s in let q = term_end t in omega a
 term_end (let_at k a s t) = let p = term_end s in let q = term_end t in omega arith
 term_end (lift_at k a s) = let p = term_end s in omega arith
 term_end (force_at k a s) = let p = term_end s in omega arith
-term_end (box_at_lem k a s) = let p = term_end s in omega arith
+term_end (box_term_at k a s) = let p = term_end s in omega arith
 term_end (apply_at k a s t) = let p = term_end s in let q = term_end t in omega arith
-term_end (gate_at_lem k a) = omega arith
+term_end (gate_term_at k a) = omega arith
 term_end (unit_value_at k a) = omega arith
 
 -- A term that stands in a file has no circuit constant.
 pub term_source : {f : List ℕ} {e n : ℕ} {M : Term} → TermAt f e M n → Truth (source M)
-term_source (variable_at_lem k a) = tt
+term_source (variable_term_at k a) = tt
 term_source (label_at k a) = tt
 term_source (abstraction_at k a s) = term_source s
 term_source (application_at {M = M} {N = N} k a s t) = and_both (source M) (source N) (term_source s) (term_source t)
@@ -262,9 +262,9 @@ term_source (pair_at {M = M} {N = N} k a s t) = and_both (source M) (source N) (
 term_source (let_at {M = M} {N = N} k a s t) = and_both (source M) (source N) (term_source s) (term_source t)
 term_source (lift_at k a s) = term_source s
 term_source (force_at k a s) = term_source s
-term_source (box_at_lem k a s) = term_source s
+term_source (box_term_at k a s) = term_source s
 term_source (apply_at {M = M} {N = N} k a s t) = and_both (source M) (source N) (term_source s) (term_source t)
-term_source (gate_at_lem k a) = tt
+term_source (gate_term_at k a) = tt
 term_source (unit_value_at k a) = tt
 
 -- The parts of an entry of the term section.
@@ -279,7 +279,7 @@ pub pass_term : {f : List ℕ} {e n : ℕ} {M : Term}
     → (b : ℕ) → first_term f ≤ e
     → Passes TermEnd f e b (nodes M) n
 unfolding term_shape
-pass_term {f} (variable_at_lem {e = e} k a) b h = pass_leaf TermEnd f e b (term_parts_lem f e b 16 h k)
+pass_term {f} (variable_term_at {e = e} k a) b h = pass_leaf TermEnd f e b (term_parts_lem f e b 16 h k)
 pass_term {f} (label_at {e = e} k a) b h = pass_leaf TermEnd f e b (term_parts_lem f e b 17 h k)
 pass_term {f} (abstraction_at {e = e} {n = n} {M = M} k a s) b h =
     pass_one TermEnd f e b b (nodes M) n (term_parts_lem f e b 18 h k) (pass_term s b (omega arith))
@@ -302,14 +302,14 @@ pass_term {f} (lift_at {e = e} {n = n} {M = M} k a s) b h =
     pass_one TermEnd f e b b (nodes M) n (term_parts_lem f e b 22 h k) (pass_term s b (omega arith))
 pass_term {f} (force_at {e = e} {n = n} {M = M} k a s) b h =
     pass_one TermEnd f e b b (nodes M) n (term_parts_lem f e b 23 h k) (pass_term s b (omega arith))
-pass_term {f} (box_at_lem {e = e} {n = n} {M = M} k a s) b h =
+pass_term {f} (box_term_at {e = e} {n = n} {M = M} k a s) b h =
     pass_one TermEnd f e b b (nodes M) n (term_parts_lem f e b 24 h k) (pass_term s b (omega arith))
 pass_term {f} (apply_at {e = e} {m = m} {n = n} {M = M} {N = N} k a s t) b h =
     let p = term_end s in
     pass_two TermEnd f e b b b (nodes M) (nodes N) m n (term_parts_lem f e b 25 h k)
     (pass_term s b (omega arith))
     (pass_term t b (omega arith))
-pass_term {f} (gate_at_lem {e = e} k a) b h = pass_leaf TermEnd f e b (term_parts_lem f e b 26 h k)
+pass_term {f} (gate_term_at {e = e} k a) b h = pass_leaf TermEnd f e b (term_parts_lem f e b 26 h k)
 pass_term {f} (unit_value_at {e = e} k a) b h = pass_leaf TermEnd f e b (term_parts_lem f e b 27 h k)
 
 -- The parts of an entry of kind k with argument a in the traversal over binders.
@@ -342,7 +342,7 @@ pub pass_scope : {f : List ℕ} {e n : ℕ} {M : Term}
     → (b : ℕ) → first_term f ≤ e → Truth (closed_under b M)
     → Passes Scope f e b (nodes M) n
 unfolding term_shape
-pass_scope {f} (variable_at_lem {e = e} {x = x} k a) b h c =
+pass_scope {f} (variable_term_at {e = e} {x = x} k a) b h c =
     pass_leaf Scope f e b (variable_parts f e b x true h k a (is_true (ltb x b) c))
 pass_scope {f} (label_at {e = e} k a) b h c = pass_leaf Scope f e b (scope_parts_lem f e b 17 h k)
 pass_scope {f} (abstraction_at {e = e} {n = n} {M = M} k a s) b h c =
@@ -366,14 +366,14 @@ pass_scope {f} (lift_at {e = e} {n = n} {M = M} k a s) b h c =
     pass_one Scope f e b b (nodes M) n (scope_parts_lem f e b 22 h k) (pass_scope s b (omega arith) c)
 pass_scope {f} (force_at {e = e} {n = n} {M = M} k a s) b h c =
     pass_one Scope f e b b (nodes M) n (scope_parts_lem f e b 23 h k) (pass_scope s b (omega arith) c)
-pass_scope {f} (box_at_lem {e = e} {n = n} {M = M} k a s) b h c =
+pass_scope {f} (box_term_at {e = e} {n = n} {M = M} k a s) b h c =
     pass_one Scope f e b b (nodes M) n (scope_parts_lem f e b 24 h k) (pass_scope s b (omega arith) c)
 pass_scope {f} (apply_at {e = e} {m = m} {n = n} {M = M} {N = N} k a s t) b h c =
     let p = term_end s in
     pass_two Scope f e b b b (nodes M) (nodes N) m n (scope_parts_lem f e b 25 h k)
     (pass_scope s b (omega arith) (and_left (closed_under b M) (closed_under b N) c))
     (pass_scope t b (omega arith) (and_right (closed_under b M) (closed_under b N) c))
-pass_scope {f} (gate_at_lem {e = e} k a) b h c = pass_leaf Scope f e b (scope_parts_lem f e b 26 h k)
+pass_scope {f} (gate_term_at {e = e} k a) b h c = pass_leaf Scope f e b (scope_parts_lem f e b 26 h k)
 pass_scope {f} (unit_value_at {e = e} k a) b h c = pass_leaf Scope f e b (scope_parts_lem f e b 27 h k)
 
 -- Two parts of which one stops the traversal over binders.
@@ -395,7 +395,7 @@ pub stop_scope : {f : List ℕ} {e n : ℕ} {M : Term}
     → (b : ℕ) → first_term f ≤ e → closed_under b M ≡ false
     → Stops Scope f e b (nodes M)
 unfolding term_shape
-stop_scope {f} (variable_at_lem {e = e} {x = x} k a) b h c =
+stop_scope {f} (variable_term_at {e = e} {x = x} k a) b h c =
     stop_leaf Scope f e b (variable_parts f e b x false h k a c)
 stop_scope (label_at k a) b h c = absurd (true≢false c)
 stop_scope {f} (abstraction_at {e = e} {M = M} k a s) b h c =
@@ -419,12 +419,12 @@ stop_scope {f} (lift_at {e = e} {M = M} k a s) b h c =
     stop_one_lem Scope f e b b (nodes M) (scope_parts_lem f e b 22 h k) (stop_scope s b (omega arith) c)
 stop_scope {f} (force_at {e = e} {M = M} k a s) b h c =
     stop_one_lem Scope f e b b (nodes M) (scope_parts_lem f e b 23 h k) (stop_scope s b (omega arith) c)
-stop_scope {f} (box_at_lem {e = e} {M = M} k a s) b h c =
+stop_scope {f} (box_term_at {e = e} {M = M} k a s) b h c =
     stop_one_lem Scope f e b b (nodes M) (scope_parts_lem f e b 24 h k) (stop_scope s b (omega arith) c)
 stop_scope {f} (apply_at {e = e} {m = m} {M = M} {N = N} k a s t) b h c =
     let p = term_end s in
     stop_scope_two N b b b s h (scope_parts_lem f e b 25 h k) c
     (λ u. stop_scope s b (omega arith) u)
     (λ u. stop_scope t b (omega arith) u)
-stop_scope (gate_at_lem k a) b h c = absurd (true≢false c)
+stop_scope (gate_term_at k a) b h c = absurd (true≢false c)
 stop_scope (unit_value_at k a) b h c = absurd (true≢false c)

@@ -20,7 +20,7 @@ pub record Writable (labels : List Wire) (M : Term) : Type 0 where
   pub nodes_fit : nodes M ≤ most_terms
   pub is_source : Truth (source M)
   pub types_formed : Truth (all_formed (types_in M))
-  pub labels_below_lem : Truth (labels_below (length labels) M)
-  pub gates_known_lem : Truth (gates_known M)
-  pub boxes_wired_lem : Truth (boxes_wired M)
+  pub labels_are_below : Truth (labels_below (length labels) M)
+  pub gates_are_known : Truth (gates_known M)
+  pub boxes_are_wired : Truth (boxes_wired M)
   pub closed : Truth (closed_under 0 M)

@@ -17,8 +17,8 @@ use Rattle.program.specs.Reading.{runs_out, kind_wrong, argument_wrong, type_wro
 use Rattle.program.specs.Reading.{read_of}
 use Rattle.program.specs.Trees.{TypeAt, bit_at, qubit_at, unit_at, tensor_at, function_at, reusable_at, circ_at}
 use Rattle.program.specs.Trees.{TypeAtPosition}
-use Rattle.program.specs.Trees.{at_position, formed, TermAt, variable_at_lem, label_at, abstraction_at, application_at}
-use Rattle.program.specs.Trees.{pair_at, let_at, lift_at, force_at, box_at_lem, apply_at, gate_at_lem, labels_below, gates_known}
+use Rattle.program.specs.Trees.{at_position, formed, TermAt, variable_term_at, label_at, abstraction_at, application_at}
+use Rattle.program.specs.Trees.{pair_at, let_at, lift_at, force_at, box_term_at, apply_at, gate_term_at, labels_below, gates_known}
 use Rattle.program.specs.Trees.{unit_value_at, boxes_wired, closed_under, AcceptedFile}
 use Rattle.program.proofs.Laws.Kinds.{of_true, TypeKind, is_bit, is_qubit, is_tensor}
 use Rattle.program.proofs.Laws.Kinds.{is_function, is_reusable, is_circ, is_unit, shape_of_label, shape_of_type, shape_of_term}
@@ -62,15 +62,15 @@ trees_of f p M s =
       some_term = p.some_term;
       terms_fit = p.terms_fit;
       length_is = p.length_is;
-      label_count_lem = label_wires_count f;
-      label_kinds_lem = label_wires_kinds f p;
+      label_count_is = label_wires_count f;
+      label_kinds_are = label_wires_kinds f p;
       arguments_zero = argument_zero f p;
       type_at = λ q h. typed q (position_typed f p q h);
-      term_at_lem = s;
+      term_is_at = s;
       is_source = term_source s;
-      labels_below_lem = r.0;
-      gates_known_lem = r.1;
-      boxes_wired_lem = r.2;
+      labels_are_below = r.0;
+      gates_are_known = r.1;
+      boxes_are_wired = r.2;
       closed = term_closed f M s p.all_bound;
     }
   where
@@ -112,8 +112,8 @@ label_right : (f : List ℕ) (labels : List Wire) (M : Term)
     → (e : ℕ) → e < label_count f
     → EntryRight f e
 label_right f labels M t e h =
-    let r = nth_within labels e (omega (arith, t.label_count_lem)) in
-    let k = t.label_kinds_lem e r.0 r.1 in
+    let r = nth_within labels e (omega (arith, t.label_count_is)) in
+    let k = t.label_kinds_are e r.0 r.1 in
     let s = wire_kind r.0 in
     zero_shape_right f e 0 (shape_of_label f e h ∙ label_shape_zero (kind_at f e) (omega arith))
     (t.arguments_zero e (omega arith))
@@ -217,7 +217,7 @@ terms_right : {f : List ℕ} {e n : ℕ} {M : Term}
     → TermAt f e M n → first_term f ≤ e → Allowed f M
     → (i : ℕ) → e ≤ i → i < n → EntryRight f i
 unfolding term_shape
-terms_right {f} (variable_at_lem {e = e} k a) h w =
+terms_right {f} (variable_term_at {e = e} k a) h w =
     range_leaf (EntryRight f) e (term_right f e 16 h k refl refl refl)
 terms_right {f} (label_at {e = e} {x = x} k a) h w =
     range_leaf (EntryRight f) e
@@ -247,7 +247,7 @@ terms_right {f} (lift_at {e = e} {n = n} k a s) h w =
 terms_right {f} (force_at {e = e} {n = n} k a s) h w =
     range_one (EntryRight f) e n (term_right f e 23 h k refl (eq-eqb (argument_at f e) 0 a) refl)
     (terms_right s (omega arith) w)
-terms_right {f} (box_at_lem {e = e} {n = n} {T = T} {M = M} k a s) h w =
+terms_right {f} (box_term_at {e = e} {n = n} {T = T} {M = M} k a s) h w =
     range_one (EntryRight f) e n
     (term_right f e 24 h k refl (lt-ltb (argument_at f e) (type_count f) (position_below a))
     (box_test e a ∙ ap not (is_true (is_wire_type T) (and_left (is_wire_type T) (boxes_wired M) w.2))))
@@ -257,7 +257,7 @@ terms_right {f} (apply_at {e = e} {m = m} {n = n} {M = M} {N = N} k a s t) h w =
     range_two (EntryRight f) e m n (term_right f e 25 h k refl (eq-eqb (argument_at f e) 0 a) refl)
     (terms_right s (omega arith) (allowed_first f M N w))
     (terms_right t (omega arith) (allowed_second f M N w))
-terms_right {f} (gate_at_lem {e = e} {x = x} k a) h w =
+terms_right {f} (gate_term_at {e = e} {x = x} k a) h w =
     range_leaf (EntryRight f) e
     (term_right f e 26 h k refl (ap is_gate a ∙ is_true (is_gate x) w.1) refl)
 terms_right {f} (unit_value_at {e = e} k a) h w =
@@ -273,12 +273,12 @@ entry_right f labels M t e h = go (dec_lt e (label_count f)) (dec_lt e (first_te
     go (yes k) l = label_right f labels M t e k
     go (no k) (yes l) = (type_right f labels M t e (omega (arith, k)) l).0
     go (no k) (no l) =
-        terms_right t.term_at_lem (omega arith) (t.labels_below_lem, t.gates_known_lem, t.boxes_wired_lem) e (omega (arith, l)) h
+        terms_right t.term_is_at (omega arith) (t.labels_are_below, t.gates_are_known, t.boxes_are_wired) e (omega (arith, l)) h
 
 -- Each test of `read` passes if trees stand in the file.
 passed_by : (f : List ℕ) (labels : List Wire) (M : Term) → AcceptedFile f labels M → Passed f
 passed_by f labels M t =
-    let u = term_end t.term_at_lem in
+    let u = term_end t.term_is_at in
     let c : term_count f ≡ nodes M + 0 = omega arith in
     record {
       labels_fit = t.labels_fit;
@@ -291,9 +291,9 @@ passed_by f labels M t =
       types_right = λ e h l. (type_right f labels M t e h l).1;
       wires_right = λ e h. (entry_right f labels M t e h).2;
       one_term_lem = ap (λ k. traverse_from TermEnd f k (first_term f) (0 ∷ [])) c
-          ∙ pass_term t.term_at_lem 0 (omega arith) 0 [];
+          ∙ pass_term t.term_is_at 0 (omega arith) 0 [];
       all_bound = ap (λ k. is_stopped (traverse_from Scope f k (first_term f) (0 ∷ []))) c
-          ∙ ap is_stopped (pass_scope t.term_at_lem 0 (omega arith) t.closed 0 []);
+          ∙ ap is_stopped (pass_scope t.term_is_at 0 (omega arith) t.closed 0 []);
     }
 
 -- A file in which such trees stand is accepted, with its sizes.

@@ -19,8 +19,8 @@ use Rattle.program.specs.Reading.{read_of}
 use Rattle.program.specs.declared.ReadAnswer.TheVariants.{Accepted}
 use Rattle.program.specs.Trees.{TypeAt, bit_at, qubit_at, unit_at, tensor_at, function_at, reusable_at, circ_at}
 use Rattle.program.specs.Trees.{TypeAtPosition}
-use Rattle.program.specs.Trees.{at_position, formed, labels_below, TermAt, variable_at_lem, label_at, abstraction_at}
-use Rattle.program.specs.Trees.{application_at, pair_at, let_at, lift_at, force_at, box_at_lem, apply_at, gate_at_lem}
+use Rattle.program.specs.Trees.{at_position, formed, labels_below, TermAt, variable_term_at, label_at, abstraction_at}
+use Rattle.program.specs.Trees.{application_at, pair_at, let_at, lift_at, force_at, box_term_at, apply_at, gate_term_at}
 use Rattle.program.specs.Trees.{unit_value_at, AcceptedFile}
 use Rattle.program.specs.Encoding.{types_in, entries_of, codes_of, term_kinds, term_arguments, words, program_kinds}
 use Rattle.program.specs.Encoding.{program_arguments, encode}
@@ -354,13 +354,13 @@ term_stands : (f : List ℕ) (M : Term) (e p n : ℕ)
     → TermAt f e M n
 term_stands f (variable x) e p n h q w =
     let r : suc e ≡ n = omega arith in
-    subst (λ i. TermAt f e (variable x) i) r (variable_at_lem w.kinds_stand.0 w.arguments_stand.0)
+    subst (λ i. TermAt f e (variable x) i) r (variable_term_at w.kinds_stand.0 w.arguments_stand.0)
 term_stands f (label x) e p n h q w =
     let r : suc e ≡ n = omega arith in
     subst (λ i. TermAt f e (label x) i) r (label_at w.kinds_stand.0 w.arguments_stand.0)
 term_stands f (gate x) e p n h q w =
     let r : suc e ≡ n = omega arith in
-    subst (λ i. TermAt f e (gate x) i) r (gate_at_lem w.kinds_stand.0 w.arguments_stand.0)
+    subst (λ i. TermAt f e (gate x) i) r (gate_term_at w.kinds_stand.0 w.arguments_stand.0)
 term_stands f unit_value e p n h q w =
     let r : suc e ≡ n = omega arith in
     subst (λ i. TermAt f e unit_value i) r (unit_value_at w.kinds_stand.0 w.arguments_stand.0)
@@ -397,7 +397,7 @@ term_stands f (force M) e p n h q w =
     (term_stands f M (suc e) p n h (omega arith)
     (written_behind f e p 23 0 (term_kinds M) (term_arguments p M) (types_in M) w))
 term_stands f (box T M) e p n h q w =
-    box_at_lem w.kinds_stand.0
+    box_term_at w.kinds_stand.0
     (written_type f e p 24 (term_kinds M) (term_arguments (p + entries T) M) T (types_in M) w)
     (term_stands f M (suc e) (p + entries T) n h (omega arith)
     (written_type_behind f e p 24 p (term_kinds M) (term_arguments (p + entries T) M) T (types_in M) w))
@@ -667,17 +667,17 @@ holds_accepted f labels M h w =
       some_term = omega arith;
       terms_fit = omega arith;
       length_is = h.length_is;
-      label_count_lem = sym a;
-      label_kinds_lem = λ e α q.
+      label_count_is = sym a;
+      label_kinds_are = λ e α q.
           let r : e ≡ 0 + e = omega arith in
           ap (kind_at f) r ∙ labels_stand (kind_at f) 0 labels (label_section f labels M h) e α q;
       arguments_zero = first_arguments f labels M h;
       type_at = positions_typed f labels M h w.types_formed;
-      term_at_lem = term_stands f M (first_term f) 0 (entry_count f) w.is_source (omega arith) (term_section f labels M h);
+      term_is_at = term_stands f M (first_term f) 0 (entry_count f) w.is_source (omega arith) (term_section f labels M h);
       is_source = w.is_source;
-      labels_below_lem = subst (λ l. Truth (labels_below l M)) (sym a) w.labels_below_lem;
-      gates_known_lem = w.gates_known_lem;
-      boxes_wired_lem = w.boxes_wired_lem;
+      labels_are_below = subst (λ l. Truth (labels_below l M)) (sym a) w.labels_are_below;
+      gates_are_known = w.gates_are_known;
+      boxes_are_wired = w.boxes_are_wired;
       closed = w.closed;
     }
 

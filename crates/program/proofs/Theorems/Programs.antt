@@ -9,9 +9,9 @@ use Rattle.rules.specs.Sizes.{nodes}
 use Rattle.rules.specs.Inference.{uses, label_uses}
 use Rattle.rules.proofs.Laws.Booleans.{and_left, and_right, and_both}
 use Rattle.program.specs.Format.{term_count}
-use Rattle.program.specs.Trees.{TypeAtPosition, at_position, formed, closed_under, labels_below, TermAt, variable_at_lem}
-use Rattle.program.specs.Trees.{label_at, abstraction_at, application_at, pair_at, let_at, lift_at, force_at, box_at_lem}
-use Rattle.program.specs.Trees.{apply_at, gate_at_lem, unit_value_at, AcceptedFile}
+use Rattle.program.specs.Trees.{TypeAtPosition, at_position, formed, closed_under, labels_below, TermAt, variable_term_at}
+use Rattle.program.specs.Trees.{label_at, abstraction_at, application_at, pair_at, let_at, lift_at, force_at, box_term_at}
+use Rattle.program.specs.Trees.{apply_at, gate_term_at, unit_value_at, AcceptedFile}
 use Rattle.program.specs.Encoding.{types_in}
 use Rattle.program.proofs.Laws.Trees.{all_formed}
 use Rattle.program.proofs.Laws.TreeTraversal.{type_end, type_nonempty, term_end}
@@ -19,7 +19,7 @@ use Rattle.program.proofs.Theorems.Unique.{position_unique}
 
 -- A term has a node for each entry of the term section, so 2,048 at most.
 pub accepted_nodes : {f : List ℕ} {labels : List Wire} {M : Term} → AcceptedFile f labels M → nodes M ≡ term_count f
-accepted_nodes t = let h = term_end t.term_at_lem in omega arith
+accepted_nodes t = let h = term_end t.term_is_at in omega arith
 
 -- Each type of a list has at most 512 entries (01: "No type of a node may exceed 512 entries").
 abbrev pub all_bounded : List Ty → Bool
@@ -62,7 +62,7 @@ types_good : {f : List ℕ} {e n : ℕ} {N : Term}
     → ((p : ℕ) (A : Ty) → TypeAtPosition f p A → Truth (formed A) × (entries A ≤ most_entries))
     → TermAt f e N n
     → GoodTypes (types_in N)
-types_good g (variable_at_lem k a) = (tt, tt)
+types_good g (variable_term_at k a) = (tt, tt)
 types_good g (label_at k a) = (tt, tt)
 types_good g (abstraction_at {A = A} {M = M} k a s) =
     let r = g _ A a in good_first A (types_in M) r.0 r.1 (types_good g s)
@@ -74,16 +74,16 @@ types_good g (let_at {M = M} {N = N} k a s t) =
     good_append (types_in M) (types_in N) (types_good g s) (types_good g t)
 types_good g (lift_at k a s) = types_good g s
 types_good g (force_at k a s) = types_good g s
-types_good g (box_at_lem {T = T} {M = M} k a s) =
+types_good g (box_term_at {T = T} {M = M} k a s) =
     let r = g _ T a in good_first T (types_in M) r.0 r.1 (types_good g s)
 types_good g (apply_at {M = M} {N = N} k a s t) =
     good_append (types_in M) (types_in N) (types_good g s) (types_good g t)
-types_good g (gate_at_lem k a) = (tt, tt)
+types_good g (gate_term_at k a) = (tt, tt)
 types_good g (unit_value_at k a) = (tt, tt)
 
 -- The types of a program's abstractions and boxes: their Circs are of wire types, and they have at most 512 entries.
 pub accepted_types : {f : List ℕ} {labels : List Wire} {M : Term} → AcceptedFile f labels M → GoodTypes (types_in M)
-accepted_types {f} {labels} {M} t = types_good (λ p A. position_good f labels M p A t) t.term_at_lem
+accepted_types {f} {labels} {M} t = types_good (λ p A. position_good f labels M p A t) t.term_is_at
 
 not_used : (n m l : ℕ) → m < l → l ≤ n → one_if (eqb n m) ≡ 0
 not_used n m l h k = ap one_if (ne_eqb n m (λ q. omega arith))

@@ -10,8 +10,8 @@ use Rattle.rules.proofs.Laws.TypeCodes.{same_wire}
 use Rattle.program.specs.Format.{kind_at, argument_at}
 use Rattle.program.specs.Trees.{TypeAt, bit_at, qubit_at, unit_at, tensor_at, function_at, reusable_at, circ_at}
 use Rattle.program.specs.Trees.{TypeAtPosition}
-use Rattle.program.specs.Trees.{at_position, AcceptedFile, TermAt, variable_at_lem, label_at, abstraction_at}
-use Rattle.program.specs.Trees.{application_at, pair_at, let_at, lift_at, force_at, box_at_lem, apply_at, gate_at_lem, unit_value_at}
+use Rattle.program.specs.Trees.{at_position, AcceptedFile, TermAt, variable_term_at, label_at, abstraction_at}
+use Rattle.program.specs.Trees.{application_at, pair_at, let_at, lift_at, force_at, box_term_at, apply_at, gate_term_at, unit_value_at}
 
 -- The type that stands at e, by the kind of e.
 data TypeCase (f : List ℕ) (e : ℕ) : ℕ → Ty → ℕ → Type 0 where
@@ -121,7 +121,7 @@ data TermCase (f : List ℕ) (e : ℕ) : ℕ → Term → ℕ → Type 0 where
   unit_value_case : TermCase f e 27 unit_value (suc e)
 
 term_case : {f : List ℕ} {e n : ℕ} {M : Term} → TermAt f e M n → TermCase f e (kind_at f e) M n
-term_case {f} (variable_at_lem {e = e} k a) =
+term_case {f} (variable_term_at {e = e} k a) =
     subst (λ x. TermCase f e (kind_at f e) (variable x) (suc e)) a
     (subst (λ i. TermCase f e i (variable (argument_at f e)) (suc e)) (sym k) variable_case)
 term_case {f} (label_at {e = e} k a) =
@@ -139,11 +139,11 @@ term_case {f} (lift_at {e = e} {n = n} {M = M} k a s) =
     subst (λ i. TermCase f e i (lift M) n) (sym k) (lift_case s)
 term_case {f} (force_at {e = e} {n = n} {M = M} k a s) =
     subst (λ i. TermCase f e i (force M) n) (sym k) (force_case s)
-term_case {f} (box_at_lem {e = e} {n = n} {T = T} {M = M} k a s) =
+term_case {f} (box_term_at {e = e} {n = n} {T = T} {M = M} k a s) =
     subst (λ i. TermCase f e i (box T M) n) (sym k) (box_case a s)
 term_case {f} (apply_at {e = e} {n = n} {M = M} {N = N} k a s t) =
     subst (λ i. TermCase f e i (apply M N) n) (sym k) (apply_case s t)
-term_case {f} (gate_at_lem {e = e} k a) =
+term_case {f} (gate_term_at {e = e} k a) =
     subst (λ x. TermCase f e (kind_at f e) (gate x) (suc e)) a
     (subst (λ i. TermCase f e i (gate (argument_at f e)) (suc e)) (sym k) gate_case)
 term_case {f} (unit_value_at {e = e} k a) = subst (λ i. TermCase f e i unit_value (suc e)) (sym k) unit_value_case
@@ -229,7 +229,7 @@ pub term_unique : {f : List ℕ} {e n : ℕ} {M : Term}
     → TermAt f e M n
     → (N : Term) (m : ℕ) → TermAt f e N m
     → (M ≡ N) × (n ≡ m)
-term_unique (variable_at_lem k a) D j u = variable_unique a (term_case_at 16 k u)
+term_unique (variable_term_at k a) D j u = variable_unique a (term_case_at 16 k u)
 term_unique (label_at k a) D j u = label_unique a (term_case_at 17 k u)
 term_unique (abstraction_at k a s) D j u = abstraction_unique a (term_unique s) (term_case_at 18 k u)
 term_unique (application_at k a s t) D j u = application_unique (term_unique s) (term_unique t) (term_case_at 19 k u)
@@ -237,9 +237,9 @@ term_unique (pair_at k a s t) D j u = pair_unique (term_unique s) (term_unique t
 term_unique (let_at k a s t) D j u = let_unique (term_unique s) (term_unique t) (term_case_at 21 k u)
 term_unique (lift_at k a s) D j u = lift_unique (term_unique s) (term_case_at 22 k u)
 term_unique (force_at k a s) D j u = force_unique (term_unique s) (term_case_at 23 k u)
-term_unique (box_at_lem k a s) D j u = box_unique a (term_unique s) (term_case_at 24 k u)
+term_unique (box_term_at k a s) D j u = box_unique a (term_unique s) (term_case_at 24 k u)
 term_unique (apply_at k a s t) D j u = apply_unique (term_unique s) (term_unique t) (term_case_at 25 k u)
-term_unique (gate_at_lem k a) D j u = gate_unique a (term_case_at 26 k u)
+term_unique (gate_term_at k a) D j u = gate_unique a (term_case_at 26 k u)
 term_unique (unit_value_at k a) D j u = unit_value_unique (term_case_at 27 k u)
 
 -- Two lists of one length that have the same at each place.
@@ -258,7 +258,7 @@ pub tree_unique : {f : List ℕ} {labels labels' : List Wire} {M M' : Term}
     → AcceptedFile f labels M → AcceptedFile f labels' M'
     → (labels ≡ labels') × (M ≡ M')
 tree_unique {f} {labels} {labels'} {M} {M'} s t = (
-  same_lists labels labels' (s.label_count_lem ∙ sym t.label_count_lem)
-      (λ i α β p q. same_wire α β (sym (s.label_kinds_lem i α p) ∙ t.label_kinds_lem i β q)),
-  (term_unique s.term_at_lem M' _ t.term_at_lem).0,
+  same_lists labels labels' (s.label_count_is ∙ sym t.label_count_is)
+      (λ i α β p q. same_wire α β (sym (s.label_kinds_are i α p) ∙ t.label_kinds_are i β q)),
+  (term_unique s.term_is_at M' _ t.term_is_at).0,
 )

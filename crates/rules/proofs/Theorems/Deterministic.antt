@@ -12,7 +12,7 @@ use Rattle.rules.specs.Contexts.{EvaluationContext, hole, application_left, appl
 use Rattle.rules.specs.Contexts.{let_first, force_of, box_of, apply_left, apply_right, plug}
 use Rattle.rules.specs.Steps.{Frame, frame, Configuration, configuration, ◌⟶◌, β_reduction, let_step, force_step}
 use Rattle.rules.specs.Steps.{apply_gate, apply_constant, box_entry, box_exit}
-use Rattle.rules.specs.Next.{Found, is_value_lem, reducible, free, within, find, joined, tuple_of, View, abstraction_view}
+use Rattle.rules.specs.Next.{Found, found_value, reducible, free, within, find, joined, tuple_of, View, abstraction_view}
 use Rattle.rules.specs.Next.{pair_view, lift_view, gate_view, constant_view, other_view, view, step_application}
 use Rattle.rules.specs.Next.{step_let, step_force, step_box, append, append_gate, step_apply, step_redex, close_box}
 use Rattle.rules.specs.Next.{close_redex, close_found, exit, step_found, next}
@@ -35,7 +35,7 @@ pub second_value : (M N : Term) → Truth (value (pair M N)) → Truth (value N)
 second_value M N v = and_right (value M) (value N) v
 
 -- In a value the step function finds nothing to reduce.
-pub find_value : (W : Term) (v : Truth (value W)) → find W ≡ is_value_lem v
+pub find_value : (W : Term) (v : Truth (value W)) → find W ≡ found_value v
 find_value (variable n) v = absurd v
 find_value (label ℓ) v = refl
 find_value (gate n) v = refl
@@ -45,7 +45,7 @@ find_value (abstraction A M) v = refl
 find_value (application M N) v = absurd v
 find_value (pair M N) v =
     rw (find_value M (first_value M N v), find_value N (second_value M N v))
-    (ap is_value_lem (T_prop (value M && value N) _ v))
+    (ap found_value (T_prop (value M && value N) _ v))
 find_value (let_in M N) v = absurd v
 find_value (lift M) v = refl
 find_value (force M) v = absurd v
@@ -82,7 +82,7 @@ find_plug (apply_right W v E) R p = rw (find_value W v, find_plug E R p)
 
 -- What the step function should find: a proto-redex in an evaluation context that makes up the term.
 abbrev Finds : (M : Term) → Found M → Type 0
-Finds M (is_value_lem v) = Unit {0}
+Finds M (found_value v) = Unit {0}
 Finds M (reducible E R) = Proto R × (M ≡ plug E R)
 Finds M free = Unit {0}
 
@@ -92,7 +92,7 @@ within_finds : {M N : Term} (inside : EvaluationContext → EvaluationContext) (
     → Finds M f
     → ((v : Truth (value M)) → Finds N (then v))
     → Finds N (within inside f then)
-within_finds inside (is_value_lem v) then h m n = n v
+within_finds inside (found_value v) then h m n = n v
 within_finds inside (reducible E R) then h m n = (m.0, h E R m.1)
 within_finds inside free then h m n = tt
 
@@ -285,7 +285,7 @@ module _ (I : List Wire) (gs : List Gate) (r : Tuple) (C : Circuit) (X : List Fr
   proto_exits E (proto_apply v w) e = no_step d e
 
   found_exits : (N : Term) (f : Found N) → Finds N f → close_found gs r C X K f ≡ some d → ExitTo N
-  found_exits N (is_value_lem v) h e = no_step d e
+  found_exits N (found_value v) h e = no_step d e
   found_exits N (reducible E R) h e = rw h.1 (proto_exits E h.0 e)
   found_exits N free h e = no_step d e
 
@@ -302,7 +302,7 @@ found_step : (C : Circuit) (M : Term) (X : List Frame) (K : List Boxed) (d : Con
     → Finds M f
     → step_found C X K f ≡ some d
     → configuration (frame C M) X K ⟶ d
-found_step C M X K d (is_value_lem v) h e = exit_step C M (tuple_of M) X K d (tuple_of_reads M) e
+found_step C M X K d (found_value v) h e = exit_step C M (tuple_of M) X K d (tuple_of_reads M) e
 found_step C M X K d (reducible E R) h e = rw h.1 (proto_step C E X K d h.0 e)
 found_step C M X K d free h e = no_step d e
 
@@ -315,12 +315,12 @@ pub deterministic : {c d e : Configuration} → c ⟶ d → c ⟶ e → d ≡ e
 deterministic {d} {e} s t = some-injective d e (sym (step→next s) ∙ step→next t)
 
 abbrev found_context : {M : Term} → Found M → EvaluationContext
-found_context (is_value_lem v) = hole
+found_context (found_value v) = hole
 found_context (reducible E R) = E
 found_context free = hole
 
 abbrev found_term : {M : Term} → Found M → Term
-found_term {M} (is_value_lem v) = M
+found_term {M} (found_value v) = M
 found_term (reducible E R) = R
 found_term {M} free = M
 

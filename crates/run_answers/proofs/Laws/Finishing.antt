@@ -69,7 +69,7 @@ pub labels_few : (f : List ℕ) (A : Ty) → check_of f ≡ accepts A → length
 labels_few f A h =
     let r = ((check_derives f A).0 h).0 in
     let t = file_read (read_sound f r.L r.P r.N r.read).2 in
-    omega (arith, t.labels_fit, t.label_count_lem)
+    omega (arith, t.labels_fit, t.label_count_is)
 
 -- The start of an accepted file has the type that the check gave.
 pub start_typed : (f : List ℕ) (A : Ty) → check_of f ≡ accepts A → ProgramHas A (start (labels_of f) (term_of f))

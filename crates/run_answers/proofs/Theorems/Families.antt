@@ -301,9 +301,9 @@ check_bounds f = of (read_of f) refl (read_bounds f)
     of : (r : ReadAnswer) → read_of f ≡ r → ReadBounds r → CheckBounds (judged_as f r)
     of (Accepted L P N) h bounds =
         let file = file_read (read_sound f L P N h).2 in
-        let behind : length (labels_of f) ≤ first_term f = omega (arith, file.label_count_lem) in
+        let behind : length (labels_of f) ≤ first_term f = omega (arith, file.label_count_is) in
         let end : first_term f + nodes (term_of f) ≤ most_places
-        = omega (arith, term_end file.term_at_lem, file.labels_fit, file.types_fit, file.terms_fit) in
+        = omega (arith, term_end file.term_is_at, file.labels_fit, file.types_fit, file.terms_fit) in
         given (verdict (labels_of f) (first_term f) (term_of f)) refl behind end
         (verdict_number (labels_of f) (first_term f) (term_of f) behind)
       where

@@ -76,9 +76,9 @@ listed_sound {f} {steps = steps} {gates = gates} {bytes = bytes} h =
         gates = F.gates;
         outs = labels F.outputs;
         bytes_are = ap ran_bytes same;
-        input_count_lem = refl;
-        gate_count_lem = gates_are;
-        output_count_lem = refl;
+        input_count_is = refl;
+        gate_count_is = gates_are;
+        output_count_is = refl;
         few_inputs = F.few_inputs;
         few_gates = omega (arith, F.few_gates);
         few_outputs = F.few_outputs;

@@ -6,7 +6,7 @@ use Rattle.rules.specs.Terms.{Tuple, labels, Gate}
 use Rattle.rules.specs.Circuits.{circuit}
 use Rattle.machine_terms.specs.Trees.{Tree, preorder, tuple_of_tree}
 use Rattle.words.specs.Regions.{Stands}
-use Rattle.machine_circuits.specs.Layout.{gates_in, labels_from_lem}
+use Rattle.machine_circuits.specs.Layout.{gates_in, labels_start}
 use Rattle.machine_state.specs.Memory.{Memory}
 use Rattle.listing.specs.Lengths.{KindsFit}
 use Rattle.listing.specs.Listing.{listing}
@@ -15,7 +15,7 @@ use Rattle.listing.specs.Listing.{listing}
 abbrev pub Writes : Memory → ℕ → ℕ → ℕ → List ℕ → List ℕ → ℕ → Type 0
 Writes m inputs count size out out' written =
     (I : List Wire) (gs : List Gate) (v : Tree) (k : Tuple)
-    → Stands m.types labels_from_lem (map wire_code I)
+    → Stands m.types labels_start (map wire_code I)
     → inputs ≡ length I
     → gates_in m.gates 0 count ≡ gs
     → KindsFit gs

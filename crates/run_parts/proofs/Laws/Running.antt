@@ -30,7 +30,7 @@ use Rattle.machine.specs.declared.Advanced.{Advanced}
 use Rattle.machine.specs.Advancing.{ending_of, AtTheEnd, Advances}
 use Rattle.machine_load.specs.Trees.{tree_of, types_of}
 use Rattle.machine_load.specs.Start.{least_types, Loads}
-use Rattle.machine_circuits.specs.Layout.{labels_from_lem}
+use Rattle.machine_circuits.specs.Layout.{labels_start}
 use Rattle.run_answers.specs.declared.RunAnswer.{RunAnswer}
 use Rattle.run_answers.specs.declared.RunAnswer.TheVariants.{Refused}
 use Rattle.run_answers.specs.Lengths.{run_lengths, frames_length, gates_length, circuits_length, results_length}
@@ -97,9 +97,9 @@ start_held f A ns rs gs cs fs ws results r accepted loads long_nodes long_stack 
                   held = started.held;
                   fits = started.fits;
                   typed = subst (ProgramHas A) (sym started.means) (start_typed f A accepted);
-                  sizes = started.sizes_fit_lem most_gates;
+                  sizes = started.start_sizes_fit most_gates;
                 };
-            inputs_held = subst (λ I. Stands ws labels_from_lem (map wire_code I)) (sym inputs) started.labels_held;
+            inputs_held = subst (λ I. Stands ws labels_start (map wire_code I)) (sym inputs) started.labels_held;
             few_inputs = subst (λ I. length I ≤ most_labels) (sym inputs) (labels_few f A accepted);
           };
       means = started.means;
@@ -133,8 +133,8 @@ gone_on types positions A allowance k m m' r s a allowed held advances same =
           record {
             ready = to.ready;
             inputs_held =
-                subst (λ l. Stands l labels_from_lem (map wire_code (outermost_inputs (decode types to.state_then)))) (sym same)
-                (subst (λ I. Stands m.types labels_from_lem (map wire_code I)) (sym inputs) held.inputs_held);
+                subst (λ l. Stands l labels_start (map wire_code (outermost_inputs (decode types to.state_then)))) (sym same)
+                (subst (λ I. Stands m.types labels_start (map wire_code I)) (sym inputs) held.inputs_held);
             few_inputs = subst (λ I. length I ≤ most_labels) (sym inputs) held.few_inputs;
           };
       at_the_end = to.at_the_end;

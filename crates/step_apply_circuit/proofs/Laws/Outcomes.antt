@@ -3,7 +3,7 @@
 use Rattle.std.specs.Prelude.{ℕ, ◌+◌, ◌-◌, ◌≤◌, ◌<◌, ◌≡◌, refl, ◌⊎◌, List, ◌∷◌, length}
 use Rattle.std.proofs.Common.{arith, ◌∙◌, ap, inl, inr}
 use Rattle.std.proofs.Math.Option.{some}
-use Rattle.rules.specs.Kinds.{gate_kind_lem}
+use Rattle.rules.specs.Kinds.{gate_term_kind}
 use Rattle.rules.specs.Types.{Ty}
 use Rattle.rules.specs.Terms.{Tuple, Gate, Boxed, boxed}
 use Rattle.rules.specs.Circuits.{Circuit, circuit, appended, returned}
@@ -86,7 +86,7 @@ module _ (allowance : ℕ) (m m' : Memory) (r : StateNumbers) (answer : Stepped)
 
   -- The form of the step: an apply whose first part is no gate is one of a closed circuit.
   by_form : Leaves allowance m m' r answer
-      → (kind (node_at m.nodes (stack_node (quadword_at m.stack (r.place.depth - 1)) + 1)) ≡ gate_kind_lem → ⊥)
+      → (kind (node_at m.nodes (stack_node (quadword_at m.stack (r.place.depth - 1)) + 1)) ≡ gate_term_kind → ⊥)
       → Steps at_apply allowance m m' r answer
   by_form leaves other types positions A s s' small at_stop sizes (contracts_application p q) =
       let is = kind_of_apply at_stop.stopped in
@@ -146,7 +146,7 @@ pub constant_refused : (ns : List Node) (rs : List Quadword) (gs cs fs : List Qu
     (x : Redex) (r : StateNumbers) (allowance : ℕ)
     → RedexRead ns rs gs cs fs (r.place.depth - 1) (r.counts.frames - 1) x
     → (Room x r (length ns) allowance → ⊥)
-    → (kind (node_at ns (stack_node (quadword_at rs (r.place.depth - 1)) + 1)) ≡ gate_kind_lem → ⊥)
+    → (kind (node_at ns (stack_node (quadword_at rs (r.place.depth - 1)) + 1)) ≡ gate_term_kind → ⊥)
     → Steps at_apply allowance (memory ns rs gs cs fs ws results) (memory ns rs gs cs fs ws results) r TooLarge
 constant_refused ns rs gs cs fs ws results x r allowance read full other =
     by_form allowance m m r TooLarge leaves other

@@ -14,7 +14,7 @@ use Rattle.words.specs.Regions.{over, Stands}
 use Rattle.machine_walk.proofs.Laws.Redexes.{SecondRedex}
 use Rattle.words.specs.Quadwords.{Quadword, quadword}
 use Rattle.machine_circuits.specs.Layout.{tuple_words, most_result, results_each, HoldsBoxed}
-use Rattle.rules.specs.Slots.{gate_slots_lem}
+use Rattle.rules.specs.Slots.{gate_slot_count}
 use Rattle.machine_circuits.specs.Copies.{AllBelow, CopyFits, GatesCopied}
 use Rattle.machine_circuits.specs.Results.{LabelsCollected, ResultFits, result_nodes}
 use Rattle.machine_state.specs.declared.StateNumbers.{StateNumbers}
@@ -47,7 +47,7 @@ pub record ConstantKnown (types : ℕ → Ty) (positions : ℕ) (m : Memory) (x 
   pub nodes_are : x.nodes ≡ length (tuple_words y)
   pub frame_is : r.counts.frames - 1 ≡ length Cs
   pub frame_inside : length Cs < length m.frames
-  pub few_next : wire_count (circuit I gs) ≤ most_inputs + gate_slots_lem * most_gates
+  pub few_next : wire_count (circuit I gs) ≤ most_inputs + gate_slot_count * most_gates
 
 -- What is left by the writes, of nodes, gates and frames with room for so many labels: ls are the words of the labels after
 -- they are collected, and `found` is their number.

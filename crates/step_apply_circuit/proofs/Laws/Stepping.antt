@@ -18,7 +18,7 @@ use Rattle.machine_walk.specs.Places.{Holds}
 use Rattle.machine_walk.proofs.Laws.Redexes.{SecondRedex, second_redex, first_leaf, gap_wide, reduct_written}
 use Rattle.words.specs.Quadwords.{Quadword, quadword, quadword_at, word_in}
 use Rattle.machine_circuits.specs.Layout.{gates_in, tuple_words, closed_from, most_result, results_each, HoldsBoxed}
-use Rattle.rules.specs.Slots.{no_wire, gate_slots_lem}
+use Rattle.rules.specs.Slots.{no_wire, gate_slot_count}
 use Rattle.machine_circuits.specs.Copies.{CopyFits, GatesCopied}
 use Rattle.machine_circuits.specs.Results.{LabelsCollected, ResultFits, result_nodes}
 use Rattle.machine_circuits.proofs.Laws.Tuples.{wires_few}
@@ -203,7 +203,7 @@ module _ (types : ℕ → Ty) (positions : ℕ) (m : Memory) (x : Redex) (r : St
           )
 
       -- The closed circuit has few wires.
-      wires_low : length (wires T ++ outputs copied) ≤ most_entries + gate_slots_lem * most_gates
+      wires_low : length (wires T ++ outputs copied) ≤ most_entries + gate_slot_count * most_gates
       wires_low =
           omega (arith, few_wires (wires T) copied, wires_few T, typed.bounded, d.few_earlier, h.built.few_gates)
 

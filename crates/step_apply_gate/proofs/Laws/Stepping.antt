@@ -5,7 +5,7 @@ use Rattle.std.proofs.Math.Path.{◌≡◌, sym, ap}
 use Rattle.std.proofs.Common.{◌∙◌, subst, length-append, length-drop, length-set}
 use Rattle.std.proofs.Math.Option.{some}
 use Rattle.std.proofs.Math.ListN.{length}
-use Rattle.rules.specs.Kinds.{gate_kind_lem}
+use Rattle.rules.specs.Kinds.{gate_term_kind}
 use Rattle.rules.specs.Types.{Wire, Ty, wires, entries, most_entries}
 use Rattle.rules.specs.Gates.{◌to◌, gate_type, output_wires, wires_in, wires_out}
 use Rattle.rules.specs.Terms.{Tuple, labels, tuple_from, Gate, ◌on◌, Boxed}
@@ -69,7 +69,7 @@ module _ (m : Memory) (r : StateNumbers) (n g : Node) (v : Tree) (hs : List Hole
 
 -- Where that node is a gate, so is what is applied.
 module _ (m m' : Memory) (r : StateNumbers) (allowance : ℕ) (answer : Stepped)
-    (e : kind (node_at m.nodes (redex_at m r + 1)) ≡ gate_kind_lem)
+    (e : kind (node_at m.nodes (redex_at m r + 1)) ≡ gate_term_kind)
     (f : (types : ℕ → Ty) (positions : ℕ) (n g : Node) (v : Tree) (hs : List Hole) (I : List Wire) (gs : List Gate)
     (Cs : List Circuit) (K : List Boxed) (T U : Ty) (k : Tuple)
     → GateApplied types positions allowance m r n g v hs I gs Cs K T U k
@@ -81,7 +81,7 @@ module _ (m m' : Memory) (r : StateNumbers) (allowance : ℕ) (answer : Stepped)
       → ⊥
   unfolding leaf_kind
   never_constant n g v hs h q =
-      let there : kind g ≡ gate_kind_lem = ap kind (sym (function_part m r n g v hs h)) ∙ e in
+      let there : kind g ≡ gate_term_kind = ap kind (sym (function_part m r n g v hs h)) ∙ e in
       let gate : leaf_kind (kind g) ≡ a_gate = ap leaf_kind there in
       let z : ◌≡◌ {A = ℕ} 0 1 = cc in
       omega arith
@@ -394,7 +394,7 @@ module _ {types : ℕ → Ty} {positions allowance : ℕ} {m : Memory} {r : Stat
 
 -- The contract where nothing is done: there would be too many nodes, or too many gates.
 pub nodes_refused : (m : Memory) (r : StateNumbers) (allowance at number wide : ℕ)
-    → kind (node_at m.nodes (redex_at m r + 1)) ≡ gate_kind_lem
+    → kind (node_at m.nodes (redex_at m r + 1)) ≡ gate_term_kind
     → at ≡ redex_at m r
     → number ≡ argument (node_at m.nodes (at + 1))
     → SizeOf number wide
@@ -405,7 +405,7 @@ nodes_refused m r allowance at number wide e e' e'' w h =
     (λ types positions n g v hs I gs Cs K T U k a. (nodes_exceed a at number wide e' e'' w h, λ _ held. held))
 
 pub gates_refused : (m : Memory) (r : StateNumbers) (allowance : ℕ)
-    → kind (node_at m.nodes (redex_at m r + 1)) ≡ gate_kind_lem
+    → kind (node_at m.nodes (redex_at m r + 1)) ≡ gate_term_kind
     → allowance < r.counts.gates + r.counts.kept + 1
     → Steps at_apply allowance m m r TooLarge
 gates_refused m r allowance e h =
@@ -415,7 +415,7 @@ gates_refused m r allowance e h =
 -- The contract where the step is taken.
 pub gate_taken : (m : Memory) (r : StateNumbers) (allowance : ℕ) (ns' : List Node) (gs' fs' : List Quadword) (ls : List ℕ)
     (at start number wide from count depth frame : ℕ)
-    → kind (node_at m.nodes (redex_at m r + 1)) ≡ gate_kind_lem
+    → kind (node_at m.nodes (redex_at m r + 1)) ≡ gate_term_kind
     → GateNumbers m r at start number wide from count depth frame
     → most_entries ≤ length ls
     → at + wide + (length m.nodes - r.place.right) ≤ most_nodes

@@ -142,7 +142,7 @@ module _ (ns ns₁ : List Node) (rs : List Quadword) (r : StateNumbers) (at next
     contraction_refused e c =
         let many : most < length (preorder t)
         = size_refused most (length (preorder t))
-        (sym e ∙ c.wrote.answer_is_lem ∙ ap (λ x. size_within most (length x)) c.nodes_are) in
+        (sym e ∙ c.wrote.answer_is_size ∙ ap (λ x. size_within most (length x)) c.nodes_are) in
         let exceeding : most_nodes < length (before hs) + length (preorder t ++ after hs)
         = omega (
           arith,
@@ -171,7 +171,7 @@ module _ (ns ns₁ : List Node) (rs : List Quadword) (r : StateNumbers) (at next
         let under = c.under_left in
         let ahead = c.ahead in
         let wrote = subst (Wrote ns ns₁ c.source c.values r.place.left most) e c.wrote in
-        let small : count ≤ most = (size_known most _ count wrote.answer_is_lem).1 in
+        let small : count ≤ most = (size_known most _ count wrote.answer_is_size).1 in
         let room : at + (count + (length ns - next)) ≤ most_nodes
         = omega (arith, most_is, node_count ns rs r.place (returning v (h ∷ hs)) c.held) in
         step_taken ns ns' rs gs cs fs ws results types positions allowance r (returning v (h ∷ hs)) (evaluating t hs) C Cs K at to

@@ -2,7 +2,7 @@
 use native.Mathlib.Omega.{arith}
 use mathlib.Core.Path.{refl, ◌∙◌}
 use Rattle.rules.specs.Gates.{gate_outputs, wires_out}
-use Rattle.rules.specs.Slots.{gate_slots_lem}
+use Rattle.rules.specs.Slots.{gate_slot_count}
 use Rattle.rules.specs.GateCodes.{made_code}
 use Rattle.rules.proofs.Laws.KnownGates.{few_wires}
 use Rattle.wire_table.proofs.Laws.Table.{none_made, made_more, all_made}
@@ -16,7 +16,7 @@ loop-codes-init c = (refl, none_made (gate_outputs c.args.gate) c.args.table.now
 pub overflow_add-next : goal.overflow_add-next
 unfolding wires_out
 overflow_add-next c =
-    let few = (few_wires gate_slots_lem tt c.args.gate).1 in
+    let few = (few_wires gate_slot_count tt c.args.gate).1 in
     search (rules, c.loop-codes.invariant.1.place, few, c.requires)
 
 pub loop-codes-smaller : goal.loop-codes-smaller

@@ -5,7 +5,7 @@ use mathlib.Core.Bool.{cond}
 use lib.ListN.{set}
 use borrow.Author.Tests.{not-true, not-false}
 use Rattle.rules.specs.Gates.{gate_type, input_wires, wires_in}
-use Rattle.rules.specs.Slots.{gate_slots_lem}
+use Rattle.rules.specs.Slots.{gate_slot_count}
 use Rattle.rules.specs.GateCodes.{taken_code}
 use Rattle.rules.proofs.Laws.KnownGates.{few_wires}
 use Rattle.wire_table.proofs.Laws.Table.{all_left, taken_more, taken_wrong, taken_all}
@@ -28,7 +28,7 @@ returns-then-not-take_wire c = λ types gone h.
 pub overflow_add-at : goal.overflow_add-at
 unfolding wires_in
 overflow_add-at c =
-    let few = (few_wires gate_slots_lem tt c.args.gate).0 in
+    let few = (few_wires gate_slot_count tt c.args.gate).0 in
     search (rules, c.loop-needed.invariant.1.place, few, c.requires)
 
 pub loop-needed-smaller : goal.loop-needed-smaller

@@ -7,10 +7,10 @@ use Rattle.rules.specs.Terms.{Tuple, labels, Gate, ◌on◌, tuple}
 use Rattle.rules.specs.Circuits.{circuit, outputs, numbers, TakesEarlier, no_gate, next_gate, loose}
 use Rattle.rules.specs.Typing.{◌∣◌⊢◌∶◌}
 use Rattle.rules.specs.Sizes.{most_gates}
-use Rattle.rules.specs.Slots.{gate_slots_lem}
+use Rattle.rules.specs.Slots.{gate_slot_count}
 use Rattle.machine_circuits.proofs.Laws.Gates.{few_in, few_out}
 use Rattle.machine_circuits.specs.Copies.{AllBelow}
-use Rattle.machine_circuits.proofs.Laws.Typed.{all_below_more, takes_below, few_wires, loose_below, labels_below_lem}
+use Rattle.machine_circuits.proofs.Laws.Typed.{all_below_more, takes_below, few_wires, loose_below, labels_are_below}
 use Rattle.text.specs.Text.{ascii, decimal, spaced, line, joined}
 use Rattle.wirelist_lines.specs.Lines.{gate_name, wire_name, input_line, gate_line, out_line, steps_line, refused_line}
 use Rattle.wirelist_lines.specs.Lines.{input_lines, gate_lines, lines, longest_name}
@@ -101,9 +101,9 @@ inputs_fit w (α ∷ I) few =
 
 -- The lines of the gates.
 gate_fits : (n : ℕ) (ws : List ℕ) (made : ℕ)
-    → length ws ≤ gate_slots_lem
+    → length ws ≤ gate_slot_count
     → AllBelow most_wires ws
-    → made + gate_slots_lem ≤ most_wires
+    → made + gate_slot_count ≤ most_wires
     → length (gate_line n ws (numbers made (wires_out n))) ≤ gate_bytes
 gate_fits n ws made few below low =
     let ms = numbers made (wires_out n) in
@@ -169,7 +169,7 @@ pub printable : {I : List Wire} {gs : List Gate} {r : Tuple} {A : Ty}
 printable {I} {gs} {r} takes typed inputs gates outs =
     record {
       takes_earlier = takes;
-      outputs_made = labels_below_lem r (length (I ++ outputs gs)) (loose_below I gs) typed;
+      outputs_made = labels_are_below r (length (I ++ outputs gs)) (loose_below I gs) typed;
       few_inputs = inputs;
       few_gates = gates;
       few_outputs = outs;

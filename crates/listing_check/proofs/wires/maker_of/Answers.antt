@@ -4,7 +4,7 @@ use native.Mathlib.Omega.{arith}
 use mathlib.Core.Path.{◌≡◌, ◌∙◌, ap}
 use mathlib.Core.List.{[], ◌++◌}
 use lib.ListN.{length, length-append}
-use Rattle.rules.specs.Slots.{gate_slots_lem}
+use Rattle.rules.specs.Slots.{gate_slot_count}
 use Rattle.rules.specs.Gates.{wires_out}
 use Rattle.rules.specs.Circuits.{outputs}
 use Rattle.rules.proofs.Laws.KnownGates.{few_wires}
@@ -27,7 +27,7 @@ overflow_add-inputs c = search (rules, c.loop-i-test.true, c.input_count-inputs.
 
 pub overflow_add-made : goal.overflow_add-made
 overflow_add-made c =
-    let few = (few_wires gate_slots_lem tt c.kind_at.result).1 in
+    let few = (few_wires gate_slot_count tt c.kind_at.result).1 in
     search (rules, c.loop-i-test.true, c.input_count-inputs.ensures.upper_bound, c.gate_count-count.ensures.upper_bound, c.loop-i.invariant.1, few, c.wires_out-made.ensures)
 
 pub overflow_add-result : goal.overflow_add-result
@@ -55,7 +55,7 @@ pub loop-i-preserved : goal.loop-i-preserved
 loop-i-preserved c =
     let b = c.args.listing.now in
     let s = c.loop-i in
-    let few = (few_wires gate_slots_lem tt c.kind_at.result).1 in
+    let few = (few_wires gate_slot_count tt c.kind_at.result).1 in
     let kind : c.wires_out-made.result ≡ wires_out (kind_at b (input_count b + s.i)) = c.wires_out-made.ensures ∙ ap wires_out (c.kind_at.ensures.value ∙ ap (λ n. kind_at b (n + s.i)) c.input_count-inputs.ensures.value) in (
       omega (arith, c.loop-i-test.true),
       omega (arith, s.invariant.1, few, c.wires_out-made.ensures),

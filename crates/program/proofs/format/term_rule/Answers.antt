@@ -6,7 +6,7 @@ use mathlib.Core.Path.{◌≡◌, sym, ap}
 use Rattle.program.proofs.Laws.Scans.{zero_terms, no_terms_below, no_terms_above}
 use Rattle.program.specs.ArgumentRules.{rule_of}
 use Rattle.program.specs.Format.{term_shape}
-use Rattle.rules.specs.Kinds.{variable_kind, label_kind, abstraction_kind, box_kind, apply_kind, gate_kind_lem, unit_value_kind}
+use Rattle.rules.specs.Kinds.{variable_kind, label_kind, abstraction_kind, box_kind, apply_kind, gate_term_kind, unit_value_kind}
 use Rattle.program.proofs.format.term_rule.Goals as goal
 
 -- A kind from n on that is not n is above n: one kind at a time, since `omega` takes few facts of this form at once.
@@ -59,5 +59,5 @@ returns-in_default-2 c =
     let from24 : 24 ≤ k = omega arith in
     let from25 : 25 ≤ k = above box_kind from24 (search rules) in
     let from26 : 26 ≤ k = above apply_kind from25 (search rules) in
-    let from27 : 27 ≤ k = above gate_kind_lem from26 (search rules) in
+    let from27 : 27 ≤ k = above gate_term_kind from26 (search rules) in
     sym (ap rule_of (no_terms_above c.args.kind (above unit_value_kind from27 (search rules))))
