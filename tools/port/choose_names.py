@@ -37,11 +37,15 @@ NAMES = {
     "gate-from": "gate_from",
     "None_more": "none_more",
     "All_there": "each_there",
+    # The T of a Bool test, for std has another IsTrue. Crate streams, which is younger than these scripts, has std's.
+    "IsTrue": "Truth",
 }
 OTHERWISE = {
     ("check_program", "labels_from_lem"): "labels_from_lem",
     ("listing_check", "sizes_fit_lem"): "sizes_fit_lem",
     ("listing_check", "gate_kind_lem"): "gate_kind_wrong",
+    ("streams", "IsTrue"): "IsTrue",
+    (None, "IsTrue"): "IsTrue",
 }
 WORD = re.compile(r"(?<![\w'-])[A-Za-z][\w'→-]*")
 # What is written with dashes and names no law.
