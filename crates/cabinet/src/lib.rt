@@ -15,7 +15,7 @@ ghost use Rattle.openqasm_export.specs.Answers.{export_answer, export_bytes};
 ghost use Rattle.openqasm_import.specs.Answers.{import_answer, import_bytes};
 ghost use Rattle.cabinet_answers.specs.Packed.{packed_read, packed_check, packed_run, packed_listing, packed_conversion};
 
-use cabinet_answers::{pack_check, pack_conversion, pack_listing, pack_read, pack_run};
+use cabinet_answers::pack_answer;
 use check_program::check;
 use listing_check::check_listing;
 use openqasm_export::export;
@@ -28,7 +28,7 @@ use run::run;
 pub extern "C" fn gawipsol_read(file: &[u8]) -> u64
     ensures { result ≡ packed_read (read_of file.now) }
 {
-    pack_read(read(file))
+    pack_answer(read(file))
 }
 
 // The check for callers outside, with its answer in one number.
@@ -39,7 +39,7 @@ pub extern "C" fn gawipsol_check(file: &[u8], out: &mut [u8], work: &mut [u8]) -
     ensures bytes { let lent = out ∷ work ∷ [] in
         last_bytes lent ≡ check_bytes file.now (first_bytes lent) }
 {
-    pack_check(check(file, out, work))
+    pack_answer(check(file, out, work))
 }
 
 // The run for callers outside, with its answer in one number.
@@ -64,7 +64,7 @@ pub extern "C" fn gawipsol_run(
     ensures bytes { let lent = out ∷ nodes ∷ stack ∷ types ∷ frames ∷ gates ∷ circuits ∷ results0 ∷ results1 ∷ results2 ∷ results3 ∷ [] in
         last_bytes lent ≡ run_bytes file.now limit (first_bytes lent) }
 {
-    pack_run(run(
+    pack_answer(run(
         file, limit, out, nodes, stack, types, frames, gates, circuits, results0, results1,
         results2, results3,
     ))
@@ -78,7 +78,7 @@ pub extern "C" fn gawipsol_check_listing(listing: &[u8], work: &mut [u8]) -> u64
     ensures bytes { let lent = work ∷ [] in
         last_bytes lent ≡ listing_check_bytes (first_bytes lent) }
 {
-    pack_listing(check_listing(listing, work))
+    pack_answer(check_listing(listing, work))
 }
 
 // The export of a listing for callers outside, with its answer in one number.
@@ -89,7 +89,7 @@ pub extern "C" fn gawipsol_export(listing: &[u8], out: &mut [u8], work: &mut [u8
     ensures bytes { let lent = out ∷ work ∷ [] in
         last_bytes lent ≡ export_bytes listing.now (first_bytes lent) }
 {
-    pack_conversion(export(listing, out, work))
+    pack_answer(export(listing, out, work))
 }
 
 // The import of a text for callers outside, with its answer in one number.
@@ -107,5 +107,5 @@ pub extern "C" fn gawipsol_import(
     ensures bytes { let lent = out ∷ slots ∷ listing ∷ table ∷ exported ∷ [] in
         last_bytes lent ≡ import_bytes text.now (first_bytes lent) }
 {
-    pack_conversion(import(text, out, slots, listing, table, exported))
+    pack_answer(import(text, out, slots, listing, table, exported))
 }

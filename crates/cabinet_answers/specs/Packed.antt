@@ -1,20 +1,13 @@
 -- The answers of the operations, each in one number, for callers outside, and what such a caller reads in it.
 -- Bits 0 to 5 hold the refusal's number, or 0 where there is none; from bit 6 on stands its place, or what else is answered.
-use Rattle.std.specs.Prelude.{ℕ, ◌+◌, ◌*◌, ◌/◌, ◌%◌, ◌^◌, cond, eqb}
+use Rattle.std.specs.Prelude.{ℕ, ◌+◌, ◌*◌, ◌/◌, ◌%◌, ◌^◌, cond, eqb, Result, Ok, Err}
 use Rattle.refusals.specs.Refusals.{refusal_number, refusal_place}
 use Rattle.refusals.specs.declared.Refusal.{Refusal}
 use Rattle.refusals.specs.declared.Refusal.TheVariants.{Form, Typing, Run}
 use Rattle.program.specs.Format.{within}
-use Rattle.program.specs.declared.ReadAnswer.{ReadAnswer}
-use Rattle.program.specs.declared.ReadAnswer.TheVariants.{Accepted as IsRead, Refused as NotRead}
-use Rattle.check_program.specs.declared.CheckAnswer.{CheckAnswer}
-use Rattle.check_program.specs.declared.CheckAnswer.TheVariants.{Accepted as IsChecked, Refused as NotChecked}
-use Rattle.run_answers.specs.declared.RunAnswer.{RunAnswer}
-use Rattle.run_answers.specs.declared.RunAnswer.TheVariants.{Finished, Refused}
-use Rattle.listing_check.specs.declared.ListingAnswer.{ListingAnswer}
-use Rattle.listing_check.specs.declared.ListingAnswer.TheVariants.{Accepted as IsListed, Refused as NotListed}
-use Rattle.openqasm.specs.declared.Conversion.{Conversion}
-use Rattle.openqasm.specs.declared.Conversion.TheVariants.{Written, Refused as NotConverted}
+use Rattle.program.specs.declared.format.Sizes.{Sizes}
+use Rattle.run_answers.specs.declared.Finished.{Finished}
+use Rattle.listing_check.specs.declared.ListingSizes.{ListingSizes}
 
 -- A value put into so many bits from a bit on; what they do not hold is cut off.
 abbrev pub put : ℕ → ℕ → ℕ → ℕ
@@ -46,25 +39,26 @@ packed_ran steps gates length = put 6 12 gates + put 18 14 length + put 32 32 st
 unfoldable pub packed_counts : ℕ → ℕ → ℕ → ℕ
 packed_counts inputs gates outputs = put 6 7 inputs + put 13 12 gates + put 25 9 outputs
 
-abbrev pub packed_read : ReadAnswer → ℕ
-packed_read (IsRead labels types terms) = packed_sizes labels types terms
-packed_read (NotRead x) = packed_refusal (refusal_number x) (refusal_place x)
+-- An answer: what was answered, packed in its way, or the refusal.
+abbrev pub packed_answer : {X : Type 0} → (X → ℕ) → Result X Refusal → ℕ
+packed_answer packed (Ok x) = packed x
+packed_answer packed (Err x) = packed_refusal (refusal_number x) (refusal_place x)
 
-abbrev pub packed_check : CheckAnswer → ℕ
-packed_check (IsChecked length) = packed_length length
-packed_check (NotChecked x) = packed_refusal (refusal_number x) (refusal_place x)
+-- Of each operation.
+abbrev pub packed_read : Result Sizes Refusal → ℕ
+packed_read = packed_answer (λ s. packed_sizes s.labels s.types s.terms)
 
-abbrev pub packed_run : RunAnswer → ℕ
-packed_run (Finished steps gates length) = packed_ran steps gates length
-packed_run (Refused x) = packed_refusal (refusal_number x) (refusal_place x)
+abbrev pub packed_check : Result ℕ Refusal → ℕ
+packed_check = packed_answer packed_length
 
-abbrev pub packed_listing : ListingAnswer → ℕ
-packed_listing (IsListed inputs gates outputs) = packed_counts inputs gates outputs
-packed_listing (NotListed x) = packed_refusal (refusal_number x) (refusal_place x)
+abbrev pub packed_run : Result Finished Refusal → ℕ
+packed_run = packed_answer (λ a. packed_ran a.steps a.gates a.length)
 
-abbrev pub packed_conversion : Conversion → ℕ
-packed_conversion (Written length) = packed_length length
-packed_conversion (NotConverted x) = packed_refusal (refusal_number x) (refusal_place x)
+abbrev pub packed_listing : Result ListingSizes Refusal → ℕ
+packed_listing = packed_answer (λ n. packed_counts n.inputs n.gates n.outputs)
+
+abbrev pub packed_conversion : Result ℕ Refusal → ℕ
+packed_conversion = packed_answer packed_length
 
 -- UNPACKING: each definition is what the accessor of include/gawipsol.h computes
 
@@ -118,22 +112,22 @@ refusal_with number place =
 abbrev pub refusal_in : ℕ → Refusal
 refusal_in answer = refusal_with (number_in answer) (place_in answer)
 
--- The answer that a caller has read: a refusal where the number is not 0.
-unfoldable pub unpacked_read : ℕ → ReadAnswer
-unpacked_read answer =
-    cond (eqb (number_in answer) 0) (IsRead (labels_in answer) (types_in answer) (terms_in answer)) (NotRead (refusal_in answer))
+-- The answer that a caller has read: a refusal where the number is not 0, else what it reads in its way.
+abbrev pub unpacked_answer : {X : Type 0} → (ℕ → X) → ℕ → Result X Refusal
+unpacked_answer unpacked answer = cond (eqb (number_in answer) 0) (Ok (unpacked answer)) (Err (refusal_in answer))
 
-unfoldable pub unpacked_check : ℕ → CheckAnswer
-unpacked_check answer = cond (eqb (number_in answer) 0) (IsChecked (written_in answer)) (NotChecked (refusal_in answer))
+-- Of each operation.
+unfoldable pub unpacked_read : ℕ → Result Sizes Refusal
+unpacked_read = unpacked_answer (λ a. record { labels = labels_in a; types = types_in a; terms = terms_in a })
 
-unfoldable pub unpacked_run : ℕ → RunAnswer
-unpacked_run answer =
-    cond (eqb (number_in answer) 0) (Finished (steps_in answer) (gates_in answer) (length_in answer)) (Refused (refusal_in answer))
+unfoldable pub unpacked_check : ℕ → Result ℕ Refusal
+unpacked_check = unpacked_answer written_in
 
-unfoldable pub unpacked_listing : ℕ → ListingAnswer
-unpacked_listing answer =
-    cond (eqb (number_in answer) 0) (IsListed (inputs_in answer) (listed_gates_in answer) (outputs_in answer))
-    (NotListed (refusal_in answer))
+unfoldable pub unpacked_run : ℕ → Result Finished Refusal
+unpacked_run = unpacked_answer (λ a. record { steps = steps_in a; gates = gates_in a; length = length_in a })
 
-unfoldable pub unpacked_conversion : ℕ → Conversion
-unpacked_conversion answer = cond (eqb (number_in answer) 0) (Written (written_in answer)) (NotConverted (refusal_in answer))
+unfoldable pub unpacked_listing : ℕ → Result ListingSizes Refusal
+unpacked_listing = unpacked_answer (λ a. record { inputs = inputs_in a; gates = listed_gates_in a; outputs = outputs_in a })
+
+unfoldable pub unpacked_conversion : ℕ → Result ℕ Refusal
+unpacked_conversion = unpacked_answer written_in

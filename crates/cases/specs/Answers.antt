@@ -1,16 +1,15 @@
 -- What a check and a run answer and leave in their buffers in the cases of the table.
-use Rattle.std.specs.Prelude.{ℕ, ◌≡◌, List, [], ◌∷◌, ◌++◌, length, drop}
-use Rattle.check_program.specs.declared.CheckAnswer.{CheckAnswer}
-use Rattle.check_program.specs.declared.CheckAnswer.TheVariants.{Accepted, Refused}
+use Rattle.std.specs.Prelude.{ℕ, ◌≡◌, List, [], ◌∷◌, ◌++◌, length, drop, Result, Ok, Err}
+use Rattle.refusals.specs.declared.Refusal.{Refusal}
 use Rattle.lent.specs.Lent.{answered}
 use Rattle.check_program.specs.Answers.{check_answer, check_bytes}
 use Rattle.run_answers.specs.Answers.{answer_to, out_to, run_answer, run_bytes}
 use Rattle.cases.specs.Case.{CheckResult, accepted, refused, LimitedRun, limit◌gives◌, Case}
 
 -- "Accepted: the type in preorder, one kind byte an entry, at the start of the output buffer, and its length."
-abbrev pub check_answer_to : CheckResult → CheckAnswer
-check_answer_to (accepted codes) = Accepted (length codes)
-check_answer_to (refused r) = Refused r
+abbrev pub check_answer_to : CheckResult → Result ℕ Refusal
+check_answer_to (accepted codes) = Ok (length codes)
+check_answer_to (refused r) = Err r
 
 -- "output bytes past the answer keep their values; after a refusal all do".
 abbrev pub check_out_to : List ℕ → CheckResult → List ℕ

@@ -1,14 +1,13 @@
 -- What a case of the table is: a file, the program that it is, what the check gives, and what a run gives with one limit or
 -- more; and when it holds.
-use Rattle.std.specs.Prelude.{ℕ, ◌≡◌, List, [], ◌∷◌, map}
+use Rattle.std.specs.Prelude.{ℕ, ◌≡◌, List, [], ◌∷◌, map, Result, Ok, Err}
 use Rattle.std.proofs.Math.Option.{Option, none, some}
 use Rattle.rules.specs.Types.{Wire, type_codes}
 use Rattle.rules.specs.Terms.{Term}
 use Rattle.program.specs.Reading.{read_of}
 use Rattle.refusals.specs.declared.Refusal.{Refusal}
 use Rattle.refusals.specs.declared.Refusal.TheVariants.{Run}
-use Rattle.program.specs.declared.ReadAnswer.{ReadAnswer}
-use Rattle.program.specs.declared.ReadAnswer.TheVariants.{Accepted as Read, Refused as NotRead}
+use Rattle.program.specs.declared.format.Sizes.{Sizes}
 use Rattle.check_program.specs.Answers.{labels_of, term_of, Judged, accepts, refuses, check_of}
 use Rattle.run_answers.specs.Answers.{Ran, declines, run_of}
 
@@ -43,9 +42,9 @@ refused_case f p r =
     record { file = f; program = p; check = refused r; runs = limit wirelist_limit gives declines r ∷ [] }
 
 -- The labels and the term of a file that is read.
-abbrev pub program_as : List ℕ → ReadAnswer → Option (List Wire × Term)
-program_as f (Read labels types terms) = some (labels_of f, term_of f)
-program_as f (NotRead r) = none
+abbrev pub program_as : List ℕ → Result Sizes Refusal → Option (List Wire × Term)
+program_as f (Ok sizes) = some (labels_of f, term_of f)
+program_as f (Err r) = none
 
 -- What the check gives, with the type in preorder.
 abbrev pub checked_as : Judged → CheckResult

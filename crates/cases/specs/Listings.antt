@@ -1,25 +1,29 @@
 -- 02, ticket 3: listings and what a check of them answers, accepted ones and one or more for each way to be refused. 01, "Listing":
 -- sizes, a kind for each entry, three slots for each entry (ticket 6), outputs.
-use Rattle.std.specs.Prelude.{ℕ, ◌*◌, ◌≡◌, length, take, replicate}
+use Rattle.std.specs.Prelude.{ℕ, ◌*◌, ◌≡◌, length, take, replicate, Result, Ok, Err}
 use mathlib.Core.List.{List, [], ◌∷◌, ◌++◌, map, flat_map}
 use Rattle.rules.specs.Circuits.{numbers}
+use Rattle.refusals.specs.declared.Refusal.{Refusal}
 use Rattle.refusals.specs.declared.Refusal.TheVariants.{Run}
 use Rattle.listing.specs.Listing.{bytes_of, slots, entry_slots}
-use Rattle.listing_check.specs.declared.ListingAnswer.{ListingAnswer}
-use Rattle.listing_check.specs.declared.ListingAnswer.TheVariants.{Accepted, Refused}
+use Rattle.listing_check.specs.declared.ListingSizes.{ListingSizes}
 use Rattle.listing_check.specs.Answers.{listing_check_of, listing_check_answer}
 use Rattle.cases.specs.BaseCases.{c1_listing, c2_listing, c3_listing, c10_listing}
 
 -- A case: the bytes of a listing, and the answer.
 pub record ListingCase : Type 0 where
   pub bytes : List ℕ
-  pub answer : ListingAnswer
+  pub answer : Result ListingSizes Refusal
 
 -- The same as a line of a table.
-abbrev pub ◌gives◌ : List ℕ → ListingAnswer → ListingCase
+abbrev pub ◌gives◌ : List ℕ → Result ListingSizes Refusal → ListingCase
 b gives a = record { bytes = b; answer = a }
 
 infix 70 ◌gives◌
+-- It is accepted: inputs, gates, outputs.
+abbrev pub accepted_with : ℕ → ℕ → ℕ → Result ListingSizes Refusal
+accepted_with L G O = Ok (record { inputs = L; gates = G; outputs = O })
+
 -- The case of the same bytes with the answer computed.
 abbrev pub judged : ListingCase → ListingCase
 judged c = c.bytes gives listing_check_of c.bytes
@@ -81,15 +85,15 @@ many_inputs n = listed (n ∷ 0 ∷ n ∷ []) (replicate n 129) (replicate n [])
 -- Every wire goes once: inputs, gates and outputs are answered.
 abbrev pub accepted_listings : List ListingCase
 accepted_listings =
-    c1_listing gives Accepted 1 0 1
-    ∷ c2_listing gives Accepted 1 1 1
-    ∷ c3_listing gives Accepted 2 1 2
-    ∷ c10_listing gives Accepted 1 2 1
-    ∷ no_entry gives Accepted 0 0 0
-    ∷ bits gives Accepted 2 2 2
-    ∷ measured gives Accepted 2 2 2
-    ∷ passing gives Accepted 3 1 3
-    ∷ many_inputs 64 gives Accepted 64 0 64
+    c1_listing gives accepted_with 1 0 1
+    ∷ c2_listing gives accepted_with 1 1 1
+    ∷ c3_listing gives accepted_with 2 1 2
+    ∷ c10_listing gives accepted_with 1 2 1
+    ∷ no_entry gives accepted_with 0 0 0
+    ∷ bits gives accepted_with 2 2 2
+    ∷ measured gives accepted_with 2 2 2
+    ∷ passing gives accepted_with 3 1 3
+    ∷ many_inputs 64 gives accepted_with 64 0 64
     ∷ []
 
 -- REFUSED WITH 24
@@ -103,28 +107,28 @@ zeros_behind inputs gates outputs n = words (inputs ∷ gates ∷ outputs ∷ []
 -- a byte more.
 abbrev pub wrong_sizes : List ListingCase
 wrong_sizes =
-    [] gives Refused (Run 24 0)
-    ∷ take 1 no_entry gives Refused (Run 24 0)
-    ∷ take 2 no_entry gives Refused (Run 24 0)
-    ∷ take 3 no_entry gives Refused (Run 24 0)
-    ∷ take 4 no_entry gives Refused (Run 24 0)
-    ∷ take 5 no_entry gives Refused (Run 24 0)
-    ∷ many_inputs 65 gives Refused (Run 24 0)
-    ∷ zeros_behind 0 2049 0 (7 * 2049) gives Refused (Run 24 0)
-    ∷ zeros_behind 0 0 257 514 gives Refused (Run 24 0)
-    ∷ zeros_behind 256 0 0 (7 * 256) gives Refused (Run 24 0)
-    ∷ take 21 c2_listing gives Refused (Run 24 0)
-    ∷ (c2_listing ++ (0 ∷ [])) gives Refused (Run 24 0)
-    ∷ (no_entry ++ (0 ∷ [])) gives Refused (Run 24 0)
-    ∷ zeros_behind 1 0 0 0 gives Refused (Run 24 0)
+    [] gives Err (Run 24 0)
+    ∷ take 1 no_entry gives Err (Run 24 0)
+    ∷ take 2 no_entry gives Err (Run 24 0)
+    ∷ take 3 no_entry gives Err (Run 24 0)
+    ∷ take 4 no_entry gives Err (Run 24 0)
+    ∷ take 5 no_entry gives Err (Run 24 0)
+    ∷ many_inputs 65 gives Err (Run 24 0)
+    ∷ zeros_behind 0 2049 0 (7 * 2049) gives Err (Run 24 0)
+    ∷ zeros_behind 0 0 257 514 gives Err (Run 24 0)
+    ∷ zeros_behind 256 0 0 (7 * 256) gives Err (Run 24 0)
+    ∷ take 21 c2_listing gives Err (Run 24 0)
+    ∷ (c2_listing ++ (0 ∷ [])) gives Err (Run 24 0)
+    ∷ (no_entry ++ (0 ∷ [])) gives Err (Run 24 0)
+    ∷ zeros_behind 1 0 0 0 gives Err (Run 24 0)
     ∷ []
 
 -- As many gates and outputs as there may be are not refused with 24: the first gate, H, has 0 in its second slot, and output 0 is
 -- never made.
 abbrev pub most_sizes : List ListingCase
 most_sizes =
-    zeros_behind 0 2048 0 (7 * 2048) gives Refused (Run 25 0)
-    ∷ zeros_behind 0 0 256 512 gives Refused (Run 26 0)
+    zeros_behind 0 2048 0 (7 * 2048) gives Err (Run 25 0)
+    ∷ zeros_behind 0 0 256 512 gives Err (Run 26 0)
     ∷ []
 
 -- REFUSED WITH 25
@@ -165,26 +169,26 @@ kind_then_slot =
 -- Kinds that are not those of inputs, and not those of gates; slots that are not used; of two wrong entries the first.
 abbrev pub wrong_entries : List ListingCase
 wrong_entries =
-    with_kinds 0 0 gives Refused (Run 25 0)
-    ∷ with_kinds 9 0 gives Refused (Run 25 0)
-    ∷ with_kinds 127 0 gives Refused (Run 25 0)
-    ∷ with_kinds 130 0 gives Refused (Run 25 0)
-    ∷ with_kinds 255 0 gives Refused (Run 25 0)
-    ∷ with_kinds 129 12 gives Refused (Run 25 1)
-    ∷ with_kinds 129 127 gives Refused (Run 25 1)
-    ∷ with_kinds 129 128 gives Refused (Run 25 1)
-    ∷ with_kinds 129 129 gives Refused (Run 25 1)
-    ∷ with_kinds 129 130 gives Refused (Run 25 1)
-    ∷ with_kinds 129 255 gives Refused (Run 25 1)
-    ∷ with_slots (0 ∷ []) (0 ∷ []) gives Refused (Run 25 0)
-    ∷ with_slots (65535 ∷ 0 ∷ []) (0 ∷ []) gives Refused (Run 25 0)
-    ∷ with_slots [] (0 ∷ 0 ∷ []) gives Refused (Run 25 1)
-    ∷ with_slots [] (0 ∷ 65534 ∷ []) gives Refused (Run 25 1)
-    ∷ with_slots [] (0 ∷ 255 ∷ []) gives Refused (Run 25 1)
-    ∷ with_slots [] (0 ∷ 65280 ∷ []) gives Refused (Run 25 1)
-    ∷ with_kinds 12 12 gives Refused (Run 25 0)
-    ∷ slot_then_kind gives Refused (Run 25 0)
-    ∷ kind_then_slot gives Refused (Run 25 0)
+    with_kinds 0 0 gives Err (Run 25 0)
+    ∷ with_kinds 9 0 gives Err (Run 25 0)
+    ∷ with_kinds 127 0 gives Err (Run 25 0)
+    ∷ with_kinds 130 0 gives Err (Run 25 0)
+    ∷ with_kinds 255 0 gives Err (Run 25 0)
+    ∷ with_kinds 129 12 gives Err (Run 25 1)
+    ∷ with_kinds 129 127 gives Err (Run 25 1)
+    ∷ with_kinds 129 128 gives Err (Run 25 1)
+    ∷ with_kinds 129 129 gives Err (Run 25 1)
+    ∷ with_kinds 129 130 gives Err (Run 25 1)
+    ∷ with_kinds 129 255 gives Err (Run 25 1)
+    ∷ with_slots (0 ∷ []) (0 ∷ []) gives Err (Run 25 0)
+    ∷ with_slots (65535 ∷ 0 ∷ []) (0 ∷ []) gives Err (Run 25 0)
+    ∷ with_slots [] (0 ∷ 0 ∷ []) gives Err (Run 25 1)
+    ∷ with_slots [] (0 ∷ 65534 ∷ []) gives Err (Run 25 1)
+    ∷ with_slots [] (0 ∷ 255 ∷ []) gives Err (Run 25 1)
+    ∷ with_slots [] (0 ∷ 65280 ∷ []) gives Err (Run 25 1)
+    ∷ with_kinds 12 12 gives Err (Run 25 0)
+    ∷ slot_then_kind gives Err (Run 25 0)
+    ∷ kind_then_slot gives Err (Run 25 0)
     ∷ []
 
 -- REFUSED WITH 26 AT A GATE
@@ -266,17 +270,17 @@ two_wrong =
 -- the low byte of 0.
 abbrev pub wrong_gates : List ListingCase
 wrong_gates =
-    one_wire_twice gives Refused (Run 26 1)
-    ∷ with_kinds 128 0 gives Refused (Run 26 1)
-    ∷ H_on_measured gives Refused (Run 26 2)
-    ∷ exchanged gives Refused (Run 26 2)
-    ∷ taken_by_two gives Refused (Run 26 3)
-    ∷ own_output gives Refused (Run 26 1)
-    ∷ later_output gives Refused (Run 26 2)
-    ∷ H_takes 65535 gives Refused (Run 26 1)
-    ∷ H_takes 256 gives Refused (Run 26 1)
-    ∷ half_taken gives Refused (Run 26 2)
-    ∷ two_wrong gives Refused (Run 26 1)
+    one_wire_twice gives Err (Run 26 1)
+    ∷ with_kinds 128 0 gives Err (Run 26 1)
+    ∷ H_on_measured gives Err (Run 26 2)
+    ∷ exchanged gives Err (Run 26 2)
+    ∷ taken_by_two gives Err (Run 26 3)
+    ∷ own_output gives Err (Run 26 1)
+    ∷ later_output gives Err (Run 26 2)
+    ∷ H_takes 65535 gives Err (Run 26 1)
+    ∷ H_takes 256 gives Err (Run 26 1)
+    ∷ half_taken gives Err (Run 26 2)
+    ∷ two_wrong gives Err (Run 26 1)
     ∷ []
 
 -- REFUSED WITH 26 AT AN OUTPUT OR A WIRE LEFT OVER
@@ -334,21 +338,21 @@ three_left =
 -- gate, its only one, its first and its second; of several wires the lowest.
 abbrev pub wrong_ends : List ListingCase
 wrong_ends =
-    H_outputs 2 (1 ∷ 1 ∷ []) gives Refused (Run 26 3)
-    ∷ H_outputs 2 (2 ∷ 1 ∷ []) gives Refused (Run 26 2)
-    ∷ H_outputs 2 (1 ∷ 2 ∷ []) gives Refused (Run 26 3)
-    ∷ H_outputs 2 (1 ∷ 65535 ∷ []) gives Refused (Run 26 3)
-    ∷ H_outputs 2 (0 ∷ 1 ∷ []) gives Refused (Run 26 2)
-    ∷ H_outputs 2 (1 ∷ 0 ∷ []) gives Refused (Run 26 3)
-    ∷ H_outputs 3 (1 ∷ 0 ∷ 2 ∷ []) gives Refused (Run 26 3)
-    ∷ no_input gives Refused (Run 26 0)
-    ∷ no_output gives Refused (Run 26 0)
-    ∷ H_outputs 0 [] gives Refused (Run 26 1)
-    ∷ CNOT_output 3 gives Refused (Run 26 2)
-    ∷ CNOT_output 2 gives Refused (Run 26 2)
-    ∷ second_of_second gives Refused (Run 26 3)
-    ∷ two_left gives Refused (Run 26 1)
-    ∷ three_left gives Refused (Run 26 1)
+    H_outputs 2 (1 ∷ 1 ∷ []) gives Err (Run 26 3)
+    ∷ H_outputs 2 (2 ∷ 1 ∷ []) gives Err (Run 26 2)
+    ∷ H_outputs 2 (1 ∷ 2 ∷ []) gives Err (Run 26 3)
+    ∷ H_outputs 2 (1 ∷ 65535 ∷ []) gives Err (Run 26 3)
+    ∷ H_outputs 2 (0 ∷ 1 ∷ []) gives Err (Run 26 2)
+    ∷ H_outputs 2 (1 ∷ 0 ∷ []) gives Err (Run 26 3)
+    ∷ H_outputs 3 (1 ∷ 0 ∷ 2 ∷ []) gives Err (Run 26 3)
+    ∷ no_input gives Err (Run 26 0)
+    ∷ no_output gives Err (Run 26 0)
+    ∷ H_outputs 0 [] gives Err (Run 26 1)
+    ∷ CNOT_output 3 gives Err (Run 26 2)
+    ∷ CNOT_output 2 gives Err (Run 26 2)
+    ∷ second_of_second gives Err (Run 26 3)
+    ∷ two_left gives Err (Run 26 1)
+    ∷ three_left gives Err (Run 26 1)
     ∷ []
 
 -- IN ORDER
@@ -375,12 +379,12 @@ one_left w v =
 -- are right.
 abbrev pub two_fault_listings : List ListingCase
 two_fault_listings =
-    (with_kinds 9 0 ++ (0 ∷ [])) gives Refused (Run 24 0)
-    ∷ (one_wire_twice ++ (0 ∷ [])) gives Refused (Run 24 0)
-    ∷ wire_then_kind gives Refused (Run 25 2)
-    ∷ one_left 0 9 gives Refused (Run 26 3)
-    ∷ one_left 2 9 gives Refused (Run 26 4)
-    ∷ one_left 2 3 gives Refused (Run 26 1)
+    (with_kinds 9 0 ++ (0 ∷ [])) gives Err (Run 24 0)
+    ∷ (one_wire_twice ++ (0 ∷ [])) gives Err (Run 24 0)
+    ∷ wire_then_kind gives Err (Run 25 2)
+    ∷ one_left 0 9 gives Err (Run 26 3)
+    ∷ one_left 2 9 gives Err (Run 26 4)
+    ∷ one_left 2 3 gives Err (Run 26 1)
     ∷ []
 
 -- INIT AND DISCARD
@@ -414,16 +418,16 @@ discarded_twice =
 -- over.
 abbrev pub init_and_discard : List ListingCase
 init_and_discard =
-    init_with [] (0 ∷ []) gives Accepted 0 1 1
-    ∷ discard_with 128 (0 ∷ []) [] gives Accepted 1 1 0
-    ∷ helper gives Accepted 1 4 1
-    ∷ init_with (0 ∷ []) (0 ∷ []) gives Refused (Run 25 0)
-    ∷ init_with (65535 ∷ 0 ∷ []) (0 ∷ []) gives Refused (Run 25 0)
-    ∷ discard_with 128 (0 ∷ 0 ∷ []) [] gives Refused (Run 25 1)
-    ∷ discard_with 129 (0 ∷ []) [] gives Refused (Run 26 1)
-    ∷ discard_with 128 (0 ∷ []) (0 ∷ []) gives Refused (Run 26 2)
-    ∷ discarded_twice gives Refused (Run 26 2)
-    ∷ init_with [] [] gives Refused (Run 26 0)
+    init_with [] (0 ∷ []) gives accepted_with 0 1 1
+    ∷ discard_with 128 (0 ∷ []) [] gives accepted_with 1 1 0
+    ∷ helper gives accepted_with 1 4 1
+    ∷ init_with (0 ∷ []) (0 ∷ []) gives Err (Run 25 0)
+    ∷ init_with (65535 ∷ 0 ∷ []) (0 ∷ []) gives Err (Run 25 0)
+    ∷ discard_with 128 (0 ∷ 0 ∷ []) [] gives Err (Run 25 1)
+    ∷ discard_with 129 (0 ∷ []) [] gives Err (Run 26 1)
+    ∷ discard_with 128 (0 ∷ []) (0 ∷ []) gives Err (Run 26 2)
+    ∷ discarded_twice gives Err (Run 26 2)
+    ∷ init_with [] [] gives Err (Run 26 0)
     ∷ []
 
 -- THREE WIRES
@@ -460,26 +464,26 @@ no_gate =
 -- an output that has gone to it; a third slot that is not used, of H, of CNOT, of an input, of Discard and of Init; no gate.
 abbrev pub three_wires : List ListingCase
 three_wires =
-    ccx_takes 0 1 2 gives Accepted 3 1 3
-    ∷ ccx_takes 2 0 1 gives Accepted 3 1 3
-    ∷ ccx_takes 65535 1 2 gives Refused (Run 26 3)
-    ∷ ccx_takes 0 65535 2 gives Refused (Run 26 3)
-    ∷ ccx_takes 0 1 65535 gives Refused (Run 26 3)
-    ∷ ccx_takes 0 1 1 gives Refused (Run 26 3)
-    ∷ ccx_takes 0 1 0 gives Refused (Run 26 3)
-    ∷ ccx_takes 0 0 2 gives Refused (Run 26 3)
-    ∷ ccx_takes 0 1 3 gives Refused (Run 26 3)
-    ∷ ccx_with (128 ∷ 129 ∷ 129 ∷ []) (0 ∷ 1 ∷ 2 ∷ []) (3 ∷ 4 ∷ 5 ∷ []) gives Refused (Run 26 3)
-    ∷ ccx_with (129 ∷ 128 ∷ 129 ∷ []) (0 ∷ 1 ∷ 2 ∷ []) (3 ∷ 4 ∷ 5 ∷ []) gives Refused (Run 26 3)
-    ∷ ccx_with (129 ∷ 129 ∷ 128 ∷ []) (0 ∷ 1 ∷ 2 ∷ []) (3 ∷ 4 ∷ 5 ∷ []) gives Refused (Run 26 3)
-    ∷ ccx_with three_qubits (0 ∷ 1 ∷ 2 ∷ []) (3 ∷ 4 ∷ []) gives Refused (Run 26 3)
-    ∷ ccx_with three_qubits (0 ∷ 1 ∷ 2 ∷ []) (3 ∷ 4 ∷ 2 ∷ []) gives Refused (Run 26 6)
-    ∷ with_slots [] (0 ∷ 65535 ∷ 0 ∷ []) gives Refused (Run 25 1)
-    ∷ cnot_of_three gives Refused (Run 25 3)
-    ∷ with_slots (65535 ∷ 65535 ∷ 0 ∷ []) (0 ∷ []) gives Refused (Run 25 0)
-    ∷ discard_with 128 (0 ∷ 65535 ∷ 0 ∷ []) [] gives Refused (Run 25 1)
-    ∷ init_with (65535 ∷ 65535 ∷ 0 ∷ []) (0 ∷ []) gives Refused (Run 25 0)
-    ∷ no_gate gives Refused (Run 25 3)
+    ccx_takes 0 1 2 gives accepted_with 3 1 3
+    ∷ ccx_takes 2 0 1 gives accepted_with 3 1 3
+    ∷ ccx_takes 65535 1 2 gives Err (Run 26 3)
+    ∷ ccx_takes 0 65535 2 gives Err (Run 26 3)
+    ∷ ccx_takes 0 1 65535 gives Err (Run 26 3)
+    ∷ ccx_takes 0 1 1 gives Err (Run 26 3)
+    ∷ ccx_takes 0 1 0 gives Err (Run 26 3)
+    ∷ ccx_takes 0 0 2 gives Err (Run 26 3)
+    ∷ ccx_takes 0 1 3 gives Err (Run 26 3)
+    ∷ ccx_with (128 ∷ 129 ∷ 129 ∷ []) (0 ∷ 1 ∷ 2 ∷ []) (3 ∷ 4 ∷ 5 ∷ []) gives Err (Run 26 3)
+    ∷ ccx_with (129 ∷ 128 ∷ 129 ∷ []) (0 ∷ 1 ∷ 2 ∷ []) (3 ∷ 4 ∷ 5 ∷ []) gives Err (Run 26 3)
+    ∷ ccx_with (129 ∷ 129 ∷ 128 ∷ []) (0 ∷ 1 ∷ 2 ∷ []) (3 ∷ 4 ∷ 5 ∷ []) gives Err (Run 26 3)
+    ∷ ccx_with three_qubits (0 ∷ 1 ∷ 2 ∷ []) (3 ∷ 4 ∷ []) gives Err (Run 26 3)
+    ∷ ccx_with three_qubits (0 ∷ 1 ∷ 2 ∷ []) (3 ∷ 4 ∷ 2 ∷ []) gives Err (Run 26 6)
+    ∷ with_slots [] (0 ∷ 65535 ∷ 0 ∷ []) gives Err (Run 25 1)
+    ∷ cnot_of_three gives Err (Run 25 3)
+    ∷ with_slots (65535 ∷ 65535 ∷ 0 ∷ []) (0 ∷ []) gives Err (Run 25 0)
+    ∷ discard_with 128 (0 ∷ 65535 ∷ 0 ∷ []) [] gives Err (Run 25 1)
+    ∷ init_with (65535 ∷ 65535 ∷ 0 ∷ []) (0 ∷ []) gives Err (Run 25 0)
+    ∷ no_gate gives Err (Run 25 3)
     ∷ []
 
 -- All of them.

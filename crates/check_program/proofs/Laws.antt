@@ -2,9 +2,7 @@ pub mod Layout
 pub mod Scope
 pub mod Counting
 pub mod Heads
-pub mod Tests
 pub mod Arms
-pub mod Ends
 pub mod Leaves
 pub mod ArmsTwo
 pub mod Meeting

@@ -1,5 +1,5 @@
 -- What the check answers and leaves in its buffers, as functions of the file's bytes (01, "When each operation says no").
-use Rattle.std.specs.Prelude.{ℕ, zero, suc, ◌+◌, cond, List, [], ◌∷◌, ◌++◌, eqb, drop}
+use Rattle.std.specs.Prelude.{ℕ, zero, suc, ◌+◌, cond, List, [], ◌∷◌, ◌++◌, eqb, drop, Result, Ok, Err}
 use Rattle.rules.specs.Kinds.{qubit_kind, pair_type_kind, function_kind, reusable_kind, circuit_kind, variable_kind}
 use Rattle.rules.specs.Kinds.{label_kind, abstraction_kind, application_kind, pair_kind, let_kind, lift_kind}
 use Rattle.rules.specs.Kinds.{force_kind, box_kind, apply_kind, unit_kind, unit_value_kind}
@@ -12,10 +12,7 @@ use Rattle.program.specs.Format.{label_count, term_count, first_term, kind_at, a
 use Rattle.program.specs.Reading.{read_of}
 use Rattle.refusals.specs.declared.Refusal.{Refusal}
 use Rattle.refusals.specs.declared.Refusal.TheVariants.{Typing, Run}
-use Rattle.program.specs.declared.ReadAnswer.{ReadAnswer}
-use Rattle.program.specs.declared.ReadAnswer.TheVariants.{Accepted as Read, Refused as NotRead}
-use Rattle.check_program.specs.declared.CheckAnswer.{CheckAnswer}
-use Rattle.check_program.specs.declared.CheckAnswer.TheVariants.{Accepted, Refused}
+use Rattle.program.specs.declared.format.Sizes.{Sizes}
 use Rattle.check_program.specs.Checking.{Verdict, has_type, refusal, verdict}
 use Rattle.check_program.specs.Lengths.{check_lengths}
 
@@ -101,18 +98,18 @@ judged (has_type A) = accepts A
 judged (refusal number place) = refuses (Typing number place)
 
 -- "a check first reads": the refusal of the reader is handed up unchanged.
-abbrev pub judged_as : List ℕ → ReadAnswer → Judged
-judged_as f (Read labels types terms) = judged (verdict (labels_of f) (first_term f) (term_of f))
-judged_as f (NotRead r) = refuses r
+abbrev pub judged_as : List ℕ → Result Sizes Refusal → Judged
+judged_as f (Ok sizes) = judged (verdict (labels_of f) (first_term f) (term_of f))
+judged_as f (Err r) = refuses r
 
 -- The check of a file.
 unfoldable pub check_of : List ℕ → Judged
 check_of f = judged_as f (read_of f)
 
 -- "Accepted: the type in preorder, one kind byte an entry, at the start of the output buffer, and its length."
-abbrev pub answer_to : Judged → CheckAnswer
-answer_to (accepts A) = Accepted (entries A)
-answer_to (refuses r) = Refused r
+abbrev pub answer_to : Judged → Result ℕ Refusal
+answer_to (accepts A) = Ok (entries A)
+answer_to (refuses r) = Err r
 
 -- The output buffer: "output bytes past the answer keep their values; after a refusal all do".
 abbrev pub out_to : List ℕ → Judged → List ℕ
@@ -120,8 +117,8 @@ out_to out (accepts A) = type_codes A ++ drop (entries A) out
 out_to out (refuses r) = out
 
 -- The answer, with the buffers that were lent: the output buffer and the working memory. "19, before all else".
-unfoldable pub check_answer : List ℕ → List (List ℕ) → CheckAnswer
-check_answer f buffers = let later = answer_to (check_of f) in cond (too_short check_lengths buffers) (Refused (Run 19 0)) later
+unfoldable pub check_answer : List ℕ → List (List ℕ) → Result ℕ Refusal
+check_answer f buffers = let later = answer_to (check_of f) in cond (too_short check_lengths buffers) (Err (Run 19 0)) later
 
 -- The final bytes of these buffers. "output bytes past the answer keep their values; after a refusal all do".
 abbrev pub check_bytes : List ℕ → List (List ℕ) → List (List ℕ)

@@ -1,14 +1,13 @@
 -- Demand 2 of the check: what each of its answers means by the typing rules (01, "Typing": "The check must agree with 000's
 -- derivation rules, context splitting included"; "Check, in number order"). Proved in Theorems.Checked.
-use Rattle.std.specs.Prelude.{ℕ, ◌≡◌, ◌↔◌, ◌⊎◌, List, []}
+use Rattle.std.specs.Prelude.{ℕ, ◌≡◌, ◌↔◌, ◌⊎◌, List, [], Err}
 use Rattle.rules.specs.Types.{Ty}
 use Rattle.rules.specs.Gates.{nth}
 use Rattle.rules.specs.Typing.{◌∣◌⊢◌∶◌}
 use Rattle.refusals.specs.declared.Refusal.{Refusal}
 use Rattle.refusals.specs.declared.Refusal.TheVariants.{Typing}
 use Rattle.program.specs.Format.{first_term}
-use Rattle.program.specs.Reading.{read_of}
-use Rattle.program.specs.declared.ReadAnswer.TheVariants.{Accepted as Read, Refused as NotRead}
+use Rattle.program.specs.Reading.{read_of, accepted}
 use Rattle.check_program.specs.Answers.{labels_of, term_of, accepts, refuses, check_of}
 use Rattle.check_program.specs.Places.{FaultAt, NotOnceAt, UseInsideAt, Nowhere, First}
 
@@ -17,7 +16,7 @@ pub record IsRead (f : List ℕ) : Type 0 where
   pub L : ℕ
   pub P : ℕ
   pub N : ℕ
-  pub read : read_of f ≡ Read L P N
+  pub read : read_of f ≡ accepted L P N
 
 -- 16 concerns this entry of the file.
 abbrev pub RuleFails : List ℕ → ℕ → Type 0
@@ -44,7 +43,7 @@ pub record CheckMeans (f : List ℕ) : Type 0 where
   -- It accepts with the type A exactly if the reader accepts the file and the rules derive A for its term with exactly its labels.
   pub accepted : (A : Ty) → (check_of f ≡ accepts A) ↔ (IsRead f × ([] ∣ nth (labels_of f) ⊢ term_of f ∶ A))
   -- "a check first reads".
-  pub not_read : (x : Refusal) → read_of f ≡ NotRead x → check_of f ≡ refuses x
+  pub not_read : (x : Refusal) → read_of f ≡ Err x → check_of f ≡ refuses x
   -- Of a file that is read: 16, 17 and 18, each at the first such entry, so that no place is left open; and no other refusal.
   pub first_faults : IsRead f → FirstFaults f (λ x. check_of f ≡ refuses x)
   pub no_other : IsRead f

@@ -66,8 +66,3 @@ counted d i (apply M N) = counted d i M + counted d i N
 -- The cell of the type at a position of the file: the type section is loaded behind the gates, its last position first.
 abbrev pub type_cell : List ℕ → ℕ → ℕ
 type_cell f p = gate_cells + (type_count f - suc p)
-
--- A place in a number: one more than the place, 0 for none.
-abbrev pub coded : Option ℕ → ℕ
-coded none = 0
-coded (some p) = suc p

@@ -1,17 +1,12 @@
 -- The contracts of the check of a whole file, and the laws that its functions use.
-use Rattle.std.specs.Prelude.{ℕ, ◌≡◌, Bool, true, false, List}
+use Rattle.std.specs.Prelude.{ℕ, ◌≡◌, Bool, true, false, List, Result, Err}
 use Rattle.rules.specs.Types.{Wire}
 use Rattle.rules.specs.Terms.{Term}
 use Rattle.words.specs.Words.{words}
 use Rattle.program.specs.Format.{label_count, type_count, first_term}
 use Rattle.program.specs.Trees.{AcceptedFile}
+use Rattle.refusals.specs.declared.Refusal.{Refusal}
 use Rattle.refusals.specs.declared.Refusal.TheVariants.{Run}
-use Rattle.program.specs.declared.ReadAnswer.{ReadAnswer}
-use Rattle.program.specs.declared.ReadAnswer.TheVariants.{Accepted as Read, Refused as NotRead}
-use Rattle.check_program.specs.declared.ProgramType.{ProgramType}
-use Rattle.check_program.specs.declared.ProgramType.TheVariants.{Typed as Found, Refused as NotFound}
-use Rattle.check_program.specs.declared.CheckAnswer.{CheckAnswer}
-use Rattle.check_program.specs.declared.CheckAnswer.TheVariants.{Accepted, Refused}
 use Rattle.check_program.specs.Checking.{verdict}
 use Rattle.check_program.specs.Answers.{Judged, accepts, refuses}
 use Rattle.check_program.specs.Deciding.{CellOf, SaysVerdict}
@@ -22,25 +17,16 @@ Readable f labels types =
     (L : List Wire) × (M : Term) × AcceptedFile f L M × (labels ≡ label_count f) × (types ≡ type_count f)
 
 -- The answer is the verdict on the file's labels and term, whatever they are.
-abbrev pub SaysFile : List ℕ → List ℕ → ProgramType → Type 0
+abbrev pub SaysFile : List ℕ → List ℕ → Result ℕ Refusal → Type 0
 SaysFile f w r = (L : List Wire) (M : Term) → AcceptedFile f L M → SaysVerdict w (verdict L (first_term f) M) r
 
 -- A working memory that is too short is refused, and not touched.
-pub record Short (work work' : List ℕ) (r : ProgramType) : Type 0 where
-  pub answer : r ≡ NotFound (Run 19 0)
+pub record Short (work work' : List ℕ) (r : Result ℕ Refusal) : Type 0 where
+  pub answer : r ≡ Err (Run 19 0)
   pub untouched : work' ≡ work
 
 -- What the core of the check answers: 19 if the memory is too short; the file's refusal; or a cell that denotes its type.
-abbrev pub SaysProgramType : Bool → Judged → List ℕ → List ℕ → ProgramType → Type 0
+abbrev pub SaysProgramType : Bool → Judged → List ℕ → List ℕ → Result ℕ Refusal → Type 0
 SaysProgramType true j work work' r = Short work work' r
 SaysProgramType false (accepts A) work work' r = CellOf (words work') A r
-SaysProgramType false (refuses x) work work' r = r ≡ NotFound x
-
--- A refusal of the reader is handed up unchanged. What is no refusal is not handed up.
-abbrev pub refusal_of_read : ReadAnswer → ProgramType
-refusal_of_read (Read labels types terms) = Found 0
-refusal_of_read (NotRead x) = NotFound x
-
-abbrev pub refusal_of_type : ProgramType → CheckAnswer
-refusal_of_type (Found cell) = Accepted 0
-refusal_of_type (NotFound x) = Refused x
+SaysProgramType false (refuses x) work work' r = r ≡ Err x

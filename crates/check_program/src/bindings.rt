@@ -4,98 +4,84 @@ ghost use Rattle.words.specs.Words.{words};
 ghost use Rattle.program.specs.Format.{argument_at};
 ghost use Rattle.check_program.specs.Layout.{binding_uses, type_cell};
 ghost use Rattle.check_program.specs.Scope.{pushed};
-ghost use Rattle.check_program.specs.Inferring.{RightLength, entered, binding_at, SaysUsed, SaysUsedWrongly, SaysCrosses};
-ghost use Rattle.check_program.specs.Inferring.{SaysBetween};
+ghost use Rattle.check_program.specs.Inferring.{entered, binding_at, SaysUsed, SaysUsedWrongly, SaysCrosses, SaysBetween};
 
-use crate::Inferred;
+use crate::Typed;
 use crate::layout::{GATE_CELLS, LABEL_BINDINGS, SCOPE};
-use check_types::{Parts, cell_first, cell_kind, cell_second, is_copyable, new_cell, pair_parts};
+use crate::place::TermPlace;
+use check_types::{cell_first, cell_kind, cell_second, is_copyable, new_cell, pair_parts};
 use program::format::{TYPES, argument_at, kind_at};
 use rules::kinds::{ABSTRACTION, LABEL, LET};
 use words::{put, word_at};
 
 // The cell of the type that entry e names.
+#[tactic(auto, using(check_types::proofs::Laws::GateCells::gate_cells_lem))]
 pub(crate) fn named_cell(file: &[u8], e: usize) -> usize
-    requires { RightLength file.now }
     ensures { result ≡ type_cell file.now (argument_at file.now e) }
 {
-    let p = argument_at(file, e);
-    let count = word_at(file, TYPES);
-    if count <= p {
-        return GATE_CELLS;
-    }
-    GATE_CELLS + (count - 1 - p)
+    GATE_CELLS + word_at(file, TYPES).saturating_sub(argument_at(file, e) + 1)
 }
 
-// The binding of the variable or label at entry e.
-pub(crate) fn binding_at(file: &[u8], e: usize, binders: usize) -> usize
-    requires { RightLength file.now × (binders < 65536) }
-    ensures { result ≡ binding_at file.now e binders }
+// The binding of the variable or label at a place.
+#[tactic(auto, unfolding(crate::specs::Inferring::binding_at))]
+pub(crate) fn binding_at(file: &[u8], at: TermPlace) -> usize
+    ensures { result ≡ binding_at file.now at.entry at.binders }
 {
-    let n = argument_at(file, e);
-    if kind_at(file, e) == LABEL {
+    let n = argument_at(file, at.entry);
+    if kind_at(file, at.entry) == LABEL {
         return n;
     }
-    if binders <= n {
-        return LABEL_BINDINGS;
-    }
-    LABEL_BINDINGS + (binders - 1 - n)
+    LABEL_BINDINGS + at.binders.saturating_sub(n + 1)
 }
 
-// The 18 of a use at entry e, under so many lifts, of what is bound under so many: one more than its place, or 0.
-pub(crate) fn crossing_at(work: &[u8], cell: usize, bound: usize, lifts: usize, e: usize) -> usize
-    requires { e < 65536 }
-    ensures { SaysCrosses (words work.now) cell bound lifts e result }
+// The place of the 18 of a use, of what is bound under so many lifts.
+pub(crate) fn crossing_at(work: &[u8], cell: usize, bound: usize, at: TermPlace) -> Option<usize>
+    ensures { SaysCrosses (words work.now) cell bound at.lifts at.entry result }
 {
-    if lifts <= bound {
-        return 0;
+    if at.lifts <= bound {
+        return None;
     }
     if is_copyable(work, cell) {
-        return 0;
+        return None;
     }
-    e + 1
+    Some(at.entry)
 }
 
-// What binding i holds is used at entry e.
-pub(crate) fn use_binding(
-    work: &mut [u8],
-    i: usize,
-    e: usize,
-    lifts: usize,
-    cells: usize,
-) -> Inferred
-    requires { (i < 65536) × (e < 65536) × (binding_uses (words work.old) i < 65535) }
-    ensures { SaysUsed (words work.old) (words work.new) i e lifts cells result }
+// What binding i holds is used at a place.
+pub(crate) fn use_binding(work: &mut [u8], i: usize, at: TermPlace, cells: usize) -> Typed
+    requires { (i < 65536) × (binding_uses (words work.old) i < 65535) }
+    ensures { SaysUsed (words work.old) (words work.new) i at.entry at.lifts cells result }
 {
-    let at = SCOPE + i;
-    let cell = cell_kind(work, at);
-    let crossing = crossing_at(work, cell, cell_first(work, at), lifts, e);
-    let uses = cell_second(work, at);
-    put(work, 4 * at + 2, uses + 1);
-    Inferred::Typed {
+    let slot = SCOPE + i;
+    let cell = cell_kind(work, slot);
+    let crossing = crossing_at(work, cell, cell_first(work, slot), at);
+    let uses = cell_second(work, slot);
+    put(work, 4 * slot + 2, uses + 1);
+    Typed {
         cell,
-        next: e + 1,
+        next: at.entry + 1,
         cells,
-        unused: 0,
+        unused: None,
         crossing,
     }
 }
 
-// The 17 of the binder in binding i, whose node is at entry e: one more than its place, or 0.
-pub(crate) fn misuse_at(work: &[u8], i: usize, e: usize) -> usize
-    requires { (i < 65536) × (e < 65536) }
+// The place of the 17 of the binder in binding i, whose node is at entry e.
+pub(crate) fn misuse_at(work: &[u8], i: usize, e: usize) -> Option<usize>
+    requires { i < 65536 }
     ensures { SaysUsedWrongly (words work.now) i e result }
 {
     if cell_second(work, SCOPE + i) == 1 {
-        return 0;
+        return None;
     }
     if is_copyable(work, cell_kind(work, SCOPE + i)) {
-        return 0;
+        return None;
     }
-    e + 1
+    Some(e)
 }
 
 // Pushes a binder: its binding gets the cell of its type and the lifts around it, and has no uses.
+#[tactic(auto, using(check_types::proofs::Laws::NewCell::cell_put))]
 pub(crate) fn push(work: &mut [u8], binders: usize, cell: usize, lifts: usize)
     requires { binders < 65537 }
     ensures { words work.new ≡ pushed (words work.old) binders cell lifts }
@@ -104,36 +90,27 @@ pub(crate) fn push(work: &mut [u8], binders: usize, cell: usize, lifts: usize)
 }
 
 // Before the first part of a node: an abstraction pushes its binder.
-pub(crate) fn enter(file: &[u8], work: &mut [u8], e: usize, binders: usize, lifts: usize)
-    requires { RightLength file.now × (binders < 65536) }
-    ensures { words work.new ≡ entered file.now (words work.old) e binders lifts }
+#[tactic(auto, unfolding(crate::specs::Inferring::entered))]
+pub(crate) fn enter(file: &[u8], work: &mut [u8], at: TermPlace)
+    ensures { words work.new ≡ entered file.now (words work.old) at.entry at.binders at.lifts }
 {
-    if kind_at(file, e) == ABSTRACTION {
-        push(work, binders, named_cell(file, e), lifts);
+    if kind_at(file, at.entry) == ABSTRACTION {
+        push(work, at.binders, named_cell(file, at.entry), at.lifts);
     }
 }
 
 // Before the second part of a node, whose first part has the type of a cell: a let pushes a binder for each half of the
 // pair. The answer is whether the second part is to be looked at.
-pub(crate) fn between(
-    file: &[u8],
-    work: &mut [u8],
-    e: usize,
-    binders: usize,
-    lifts: usize,
-    cell: usize,
-) -> bool
-    requires { binders < 65536 }
-    ensures { SaysBetween file.now (words work.old) (words work.new) e binders lifts cell result }
+pub(crate) fn between(file: &[u8], work: &mut [u8], at: TermPlace, cell: usize) -> bool
+    ensures { SaysBetween file.now (words work.old) (words work.new) at.entry at.binders at.lifts cell result }
 {
-    if kind_at(file, e) != LET {
+    if kind_at(file, at.entry) != LET {
         return true;
     }
-    let parts = pair_parts(work, cell);
-    let Parts::Both { first, second } = parts else {
+    let Some((first, second)) = pair_parts(work, cell) else {
         return false;
     };
-    push(work, binders, first, lifts);
-    push(work, binders + 1, second, lifts);
+    push(work, at.binders, first, at.lifts);
+    push(work, at.binders + 1, second, at.lifts);
     true
 }

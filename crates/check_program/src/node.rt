@@ -1,140 +1,97 @@
 // The rules of nodes, and their ends.
-ghost use Rattle.std.specs.Prelude.{◌≡◌, ◌≤◌, ◌<◌};
+ghost use Rattle.std.specs.Prelude.{◌≡◌};
 ghost use Rattle.words.specs.Words.{words};
-ghost use Rattle.check_program.specs.Layout.{most_binders};
-ghost use Rattle.check_program.specs.Inferring.{RightLength, binders_inside, lifts_inside, binders_after, sooner, concludes};
-ghost use Rattle.check_program.specs.Inferring.{SaysOneRule, SaysMisuseAtAbstraction, EndsOne, SaysTwoRule};
-ghost use Rattle.check_program.specs.Inferring.{SaysMisuseAtLet, EndsTwo};
+ghost use Rattle.check_program.specs.Inferring.{no_rule, concludes, SaysOneRule, SaysMisuseAtAbstraction, EndsOne};
+ghost use Rattle.check_program.specs.Inferring.{SaysTwoRule, SaysMisuseAtLet, EndsTwo};
 
-use crate::Inferred;
+use crate::Typed;
 use crate::bindings::{misuse_at, named_cell};
 use crate::layout::LABEL_BINDINGS;
+use crate::place::TermPlace;
 use check_types::{
-    Ruled, abstraction_type, application_type, apply_type, box_type, force_type, lift_type,
+    Ruling, abstraction_type, application_type, apply_type, box_type, force_type, lift_type,
     pair_type,
 };
 use program::format::kind_at;
+use refusals::Refusal;
 use rules::kinds::{ABSTRACTION, APPLICATION, APPLY, FORCE, LET, LIFT, PAIR};
 
-// The binders around the first part of a node.
-pub(crate) fn binders_inside(kind: usize, binders: usize) -> usize
-    requires { binders < 65536 }
-    ensures { result ≡ binders_inside kind binders }
+// The refusal of a node whose rule gives no type.
+pub(crate) fn no_rule(e: usize) -> Refusal
+    ensures { result ≡ no_rule e }
 {
-    if kind == ABSTRACTION {
-        return binders + 1;
+    Refusal::Typing {
+        number: 16,
+        place: e,
     }
-    binders
-}
-
-// The lifts around the first part of a node.
-pub(crate) fn lifts_inside(kind: usize, lifts: usize) -> usize
-    requires { lifts < 65536 }
-    ensures { result ≡ lifts_inside kind lifts }
-{
-    if kind == LIFT {
-        return lifts + 1;
-    }
-    lifts
-}
-
-// The binders around the second part of a node.
-pub(crate) fn binders_after(kind: usize, binders: usize) -> usize
-    requires { binders < 65536 }
-    ensures { result ≡ binders_after kind binders }
-{
-    if kind == LET {
-        return binders + 2;
-    }
-    binders
-}
-
-// The sooner of two places: the first, if it is one.
-pub(crate) fn sooner_of(a: usize, b: usize) -> usize
-    ensures { result ≡ sooner a b }
-{
-    if a == 0 {
-        return b;
-    }
-    a
 }
 
 // What a rule's answer makes of the node at entry e.
 pub(crate) fn conclude(
-    ruling: Ruled,
+    ruling: Option<Ruling>,
     e: usize,
     next: usize,
-    unused: usize,
-    crossing: usize,
-) -> Inferred
+    unused: Option<usize>,
+    crossing: Option<usize>,
+) -> Result<Typed, Refusal>
     ensures { result ≡ concludes ruling e next unused crossing }
 {
-    match ruling {
-        Ruled::Gives { cell, cells } => Inferred::Typed {
-            cell,
-            next,
-            cells,
-            unused,
-            crossing,
-        },
-        Ruled::Fails => Inferred::Fault { place: e },
-    }
+    let Ruling { cell, cells } = ruling.ok_or(no_rule(e))?;
+    Ok(Typed {
+        cell,
+        next,
+        cells,
+        unused,
+        crossing,
+    })
 }
 
 // The rule of a node of one part, whose part has the type of a cell.
-pub(crate) fn one_rule(file: &[u8], work: &mut [u8], e: usize, cells: usize, cell: usize) -> Ruled
-    requires { RightLength file.now }
+pub(crate) fn one_rule(
+    file: &[u8],
+    work: &mut [u8],
+    e: usize,
+    cells: usize,
+    cell: usize,
+) -> Option<Ruling>
     ensures { SaysOneRule file.now (words work.old) (words work.new) e cells cell result }
 {
-    let kind = kind_at(file, e);
-    if kind == LIFT {
-        return lift_type(work, cells, cell);
+    match kind_at(file, e) {
+        LIFT => lift_type(work, cells, cell),
+        FORCE => force_type(work, cells, cell),
+        ABSTRACTION => abstraction_type(work, cells, named_cell(file, e), cell),
+        _ => box_type(work, cells, named_cell(file, e), cell),
     }
-    if kind == FORCE {
-        return force_type(work, cells, cell);
-    }
-    let named = named_cell(file, e);
-    if kind == ABSTRACTION {
-        return abstraction_type(work, cells, named, cell);
-    }
-    box_type(work, cells, named, cell)
 }
 
 // The 17 of a node of one part itself.
-pub(crate) fn misuse_at_abstraction(file: &[u8], work: &[u8], e: usize, binders: usize) -> usize
-    requires { (e < 65536) × (binders ≤ most_binders) }
-    ensures { SaysMisuseAtAbstraction file.now (words work.now) e binders result }
+pub(crate) fn misuse_at_abstraction(file: &[u8], work: &[u8], at: TermPlace) -> Option<usize>
+    ensures { SaysMisuseAtAbstraction file.now (words work.now) at.entry at.binders result }
 {
-    if kind_at(file, e) == ABSTRACTION {
-        return misuse_at(work, LABEL_BINDINGS + binders, e);
+    if kind_at(file, at.entry) == ABSTRACTION {
+        return misuse_at(work, LABEL_BINDINGS + at.binders, at.entry);
     }
-    0
+    None
 }
 
 // The end of a node of one part.
 pub(crate) fn finish_one(
     file: &[u8],
     work: &mut [u8],
-    e: usize,
-    binders: usize,
-    part: Inferred,
-) -> Inferred
-    requires { RightLength file.now × (e < 65536) × (binders ≤ most_binders) }
-    ensures { EndsOne file.now (words work.old) (words work.new) e binders part result }
+    at: TermPlace,
+    part: Typed,
+) -> Result<Typed, Refusal>
+    ensures { EndsOne file.now (words work.old) (words work.new) at.entry at.binders part result }
 {
-    let Inferred::Typed {
-        cell,
-        next,
-        cells,
-        unused,
-        crossing,
-    } = part
-    else {
-        return part;
-    };
-    let own = misuse_at_abstraction(file, work, e, binders);
-    let ruling = one_rule(file, work, e, cells, cell);
-    conclude(ruling, e, next, sooner_of(own, unused), crossing)
+    let own = misuse_at_abstraction(file, work, at);
+    let ruling = one_rule(file, work, at.entry, part.cells, part.cell);
+    conclude(
+        ruling,
+        at.entry,
+        part.next,
+        own.or(part.unused),
+        part.crossing,
+    )
 }
 
 // The rule of a node of two parts, whose parts have the types of two cells.
@@ -145,72 +102,45 @@ pub(crate) fn two_rule(
     cells: usize,
     first: usize,
     second: usize,
-) -> Ruled
+) -> Option<Ruling>
     ensures { SaysTwoRule file.now (words work.old) (words work.new) e cells first second result }
 {
-    let kind = kind_at(file, e);
-    if kind == APPLICATION {
-        return application_type(work, cells, first, second);
-    }
-    if kind == PAIR {
-        return pair_type(work, cells, first, second);
-    }
-    if kind == APPLY {
-        return apply_type(work, cells, first, second);
-    }
-    Ruled::Gives {
-        cell: second,
-        cells,
+    match kind_at(file, e) {
+        APPLICATION => application_type(work, cells, first, second),
+        PAIR => pair_type(work, cells, first, second),
+        APPLY => apply_type(work, cells, first, second),
+        _ => Some(Ruling {
+            cell: second,
+            cells,
+        }),
     }
 }
 
 // The 17 of a node of two parts itself.
-pub(crate) fn misuse_at_let(file: &[u8], work: &[u8], e: usize, binders: usize) -> usize
-    requires { (e < 65536) × (binders ≤ most_binders) }
-    ensures { SaysMisuseAtLet file.now (words work.now) e binders result }
+pub(crate) fn misuse_at_let(file: &[u8], work: &[u8], at: TermPlace) -> Option<usize>
+    ensures { SaysMisuseAtLet file.now (words work.now) at.entry at.binders result }
 {
-    if kind_at(file, e) == LET {
-        let first = misuse_at(work, LABEL_BINDINGS + binders, e);
-        let second = misuse_at(work, LABEL_BINDINGS + (binders + 1), e);
-        return sooner_of(first, second);
+    if kind_at(file, at.entry) == LET {
+        let first = misuse_at(work, LABEL_BINDINGS + at.binders, at.entry);
+        let second = misuse_at(work, LABEL_BINDINGS + (at.binders + 1), at.entry);
+        return first.or(second);
     }
-    0
+    None
 }
 
 // The end of a node of two parts.
 pub(crate) fn finish_two(
     file: &[u8],
     work: &mut [u8],
-    e: usize,
-    binders: usize,
-    first: Inferred,
-    second: Inferred,
-) -> Inferred
-    requires { (e < 65536) × (binders ≤ most_binders) }
-    ensures { EndsTwo file.now (words work.old) (words work.new) e binders first second result }
+    at: TermPlace,
+    first: Typed,
+    second: Typed,
+) -> Result<Typed, Refusal>
+    ensures { EndsTwo file.now (words work.old) (words work.new) at.entry at.binders first second result }
 {
-    let Inferred::Typed {
-        cell: left,
-        unused: left_unused,
-        crossing: left_crossing,
-        ..
-    } = first
-    else {
-        return first;
-    };
-    let Inferred::Typed {
-        cell,
-        next,
-        cells,
-        unused,
-        crossing,
-    } = second
-    else {
-        return second;
-    };
-    let own = misuse_at_let(file, work, e, binders);
-    let ruling = two_rule(file, work, e, cells, left, cell);
-    let unused = sooner_of(own, sooner_of(left_unused, unused));
-    let crossing = sooner_of(left_crossing, crossing);
-    conclude(ruling, e, next, unused, crossing)
+    let own = misuse_at_let(file, work, at);
+    let ruling = two_rule(file, work, at.entry, second.cells, first.cell, second.cell);
+    let unused = own.or(first.unused.or(second.unused));
+    let crossing = first.crossing.or(second.crossing);
+    conclude(ruling, at.entry, second.next, unused, crossing)
 }

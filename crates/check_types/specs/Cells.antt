@@ -5,10 +5,8 @@ use Rattle.std.proofs.Math.Option.{Option, none, some}
 use Rattle.rules.specs.Kinds.{pair_type_kind, function_kind, reusable_kind, circuit_kind, unit_kind}
 use Rattle.rules.specs.Types.{Wire, Ty, wire, unit, ◌⊗◌, ◌⊸◌, !◌, Circ, copyable, entries, most_entries, wire_code}
 use Rattle.words.specs.Words.{put_words}
-use Rattle.check_types.specs.declared.Ruled.{Ruled}
-use Rattle.check_types.specs.declared.Ruled.TheVariants.{Gives, Fails}
-use Rattle.check_types.specs.declared.Parts.{Parts}
-use Rattle.check_types.specs.declared.Parts.TheVariants.{Both, Neither}
+use Rattle.std.specs.Prelude.{Option as RustOption, Some, None}
+use Rattle.check_types.specs.declared.Ruling.{Ruling}
 
 abbrev pub cell_kind : List ℕ → ℕ → ℕ
 cell_kind w i = get_or w (4 * i) 0
@@ -88,12 +86,16 @@ pub record Room (w : List ℕ) (n : ℕ) : Type 0 where
   pub number_fits : n < 65536
   pub room_fits : 4 * n + 4 ≤ length w
 
+-- The answer of a rule's function with this cell and so many cells from then on.
+abbrev pub gives : ℕ → ℕ → RustOption Ruling
+gives cell cells = Some (record { cell = cell; cells = cells })
+
 -- The answer of a rule's function where the rule gives the type C: the cell of C, and how many cells there are from then
 -- on. At most one cell is new; it is cell n, and no other word has changed.
-pub record Gave (w w' : List ℕ) (n : ℕ) (C : Ty) (r : Ruled) : Type 0 where
+pub record Gave (w w' : List ℕ) (n : ℕ) (C : Ty) (r : RustOption Ruling) : Type 0 where
   pub cell : ℕ
   pub cells : ℕ
-  pub answer : r ≡ Gives cell cells
+  pub answer : r ≡ gives cell cells
   pub at_least : n ≤ cells
   pub at_most : cells ≤ n + 1
   pub agree : Agree w w' n
@@ -102,22 +104,22 @@ pub record Gave (w w' : List ℕ) (n : ℕ) (C : Ty) (r : Ruled) : Type 0 where
   pub denotes : Denotes w' cells cell C
 
 -- The answer where the rule does not apply: nothing has changed.
-pub record Failed (w w' : List ℕ) (r : Ruled) : Type 0 where
-  pub answer : r ≡ Fails
+pub record Failed (w w' : List ℕ) (r : RustOption Ruling) : Type 0 where
+  pub answer : r ≡ None
   pub unchanged : w' ≡ w
 
 -- The contract of the rules' functions: the words before and after, the number of cells before, what the rule gives, and
 -- the answer.
-abbrev pub Given : List ℕ → List ℕ → ℕ → Option Ty → Ruled → Type 0
+abbrev pub Given : List ℕ → List ℕ → ℕ → Option Ty → RustOption Ruling → Type 0
 Given w w' n none r = Failed w w' r
 Given w w' n (some C) r = Gave w w' n C r
 
 -- The function of a rule of one part, whose cell is a, and of a rule of two parts, whose cells are a and b, meets the rule:
 -- for all types that these cells denote.
-abbrev pub MeetsOne : (Ty → Option Ty) → List ℕ → List ℕ → ℕ → ℕ → Ruled → Type 0
+abbrev pub MeetsOne : (Ty → Option Ty) → List ℕ → List ℕ → ℕ → ℕ → RustOption Ruling → Type 0
 MeetsOne rule w w' n a r = Room w n → (A : Ty) → Denotes w n a A → Given w w' n (rule A) r
 
-abbrev pub MeetsTwo : (Ty → Ty → Option Ty) → List ℕ → List ℕ → ℕ → ℕ → ℕ → Ruled → Type 0
+abbrev pub MeetsTwo : (Ty → Ty → Option Ty) → List ℕ → List ℕ → ℕ → ℕ → ℕ → RustOption Ruling → Type 0
 MeetsTwo rule w w' n a b r =
     Room w n → (A B : Ty) → Denotes w n a A → Denotes w n b B → Given w w' n (rule A B) r
 
@@ -129,23 +131,23 @@ abbrev pub cell_of_reusable : List ℕ → ℕ → List ℕ
 cell_of_reusable w a = 4 ∷ a ∷ 0 ∷ marked true (1 + cell_size w a) ∷ []
 
 -- The bytes after a rule's function with this answer: cell n has these words where the rule gives it; else nothing changes.
-abbrev pub after_rule : Ruled → List ℕ → ℕ → List ℕ → List ℕ
-after_rule (Gives cell cells) m n vs = put_words 4 m n vs
-after_rule Fails m n vs = m
+abbrev pub after_rule : RustOption Ruling → List ℕ → ℕ → List ℕ → List ℕ
+after_rule (Some r) m n vs = put_words 4 m n vs
+after_rule None m n vs = m
 
 -- The parts that were found, if there are any.
-abbrev pub PartsAre : ℕ → ℕ → Parts → Type 0
-PartsAre a b (Both first second) = (first ≡ a) × (second ≡ b)
-PartsAre a b Neither = Unit {0}
+abbrev pub PartsAre : ℕ → ℕ → RustOption (ℕ × ℕ) → Type 0
+PartsAre a b (Some p) = (p.0 ≡ a) × (p.1 ≡ b)
+PartsAre a b None = Unit {0}
 
 -- The answer of the function that looks for the parts of a pair: their cells denote them.
-pub record BothGiven (w : List ℕ) (n : ℕ) (A B : Ty) (r : Parts) : Type 0 where
+pub record BothGiven (w : List ℕ) (n : ℕ) (A B : Ty) (r : RustOption (ℕ × ℕ)) : Type 0 where
   pub first : ℕ
   pub second : ℕ
-  pub answer : r ≡ Both first second
+  pub answer : r ≡ Some (first, second)
   pub first_denotes : Denotes w n first A
   pub second_denotes : Denotes w n second B
 
-abbrev pub PartsGiven : List ℕ → ℕ → Option (Ty × Ty) → Parts → Type 0
-PartsGiven w n none r = r ≡ Neither
+abbrev pub PartsGiven : List ℕ → ℕ → Option (Ty × Ty) → RustOption (ℕ × ℕ) → Type 0
+PartsGiven w n none r = r ≡ None
 PartsGiven w n (some p) r = BothGiven w n p.0 p.1 r

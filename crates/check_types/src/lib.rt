@@ -23,23 +23,13 @@ ghost use Rattle.check_types.specs.Write.{SaysWrote, SaysWroteAt};
 use rules::kinds::{BIT, CIRCUIT, FUNCTION, PAIR_TYPE, QUBIT, REUSABLE, UNIT};
 use rules::parts::parts_of_kind;
 use rules::sizes::MOST_ENTRIES;
-use rules::wide;
 use words::quadwords::put_quadword;
-use words::saturating_sub;
 
-// What a typing rule answers: the cell of the type that it gives and the number of cells from then on, or that it does
-// not apply.
-#[derive(Drop)]
-pub enum Ruled {
-    Gives { cell: usize, cells: usize },
-    Fails,
-}
-
-// The cells of the parts of a pair type; of another type there are none.
-#[derive(Drop)]
-pub enum Parts {
-    Both { first: usize, second: usize },
-    Neither,
+// What a typing rule answers where it applies: the cell of the type that it gives and the number of cells from then on.
+#[derive(Clone, Copy)]
+pub struct Ruling {
+    pub cell: usize,
+    pub cells: usize,
 }
 
 // Cell numbers are words.
@@ -62,7 +52,8 @@ fn column(work: &[u8], i: usize, k: usize) -> usize
 }
 
 // The kind of a cell, the cells of its parts, its number of entries, and whether it may be copied; past the end of the buffer 0
-// and no.
+// and no. Those that other crates call are one column each, since the contracts of the check name each of them. A kind is a number,
+// as a byte of the file and a word of the cell have it.
 pub fn cell_kind(work: &[u8], i: usize) -> usize
     ensures { result ≡ cell_kind (words work.now) i }
 {
@@ -106,15 +97,13 @@ pub fn new_cell(work: &mut [u8], n: usize, kind: usize, first: usize, second: us
 fn share(work: &[u8], i: usize, left: usize) -> usize
     ensures { result ≡ share_of (words work.now) i left }
 {
-    let size = cell_size(work, i);
-    if size < left {
-        return size;
-    }
-    left
+    cell_size(work, i).min(left)
 }
 
 // Are the types of two cells the same, of at most so many entries? A call with n entries gives its first part s of the
 // n - 1 that are left and its second part n - 1 - s, so there are at most 2 * n + 1 calls, whatever the buffer holds.
+// wire_type_within and write_at go down the parts of one cell the same way, but stop at other kinds and do something else at each
+// cell: one function for all three would take a closure for each of its steps, with the contract that the three state now.
 fn same_within(work: &[u8], i: usize, j: usize, most: usize) -> bool
     ensures { SaysSame (words work.now) most i j result }
 {
@@ -199,10 +188,7 @@ fn copyable_from(work: &[u8], kind: usize, a: usize, b: usize) -> bool
     if kind != PAIR_TYPE {
         return REUSABLE <= kind;
     }
-    if !cell_copyable(work, a) {
-        return false;
-    }
-    cell_copyable(work, b)
+    cell_copyable(work, a) && cell_copyable(work, b)
 }
 
 // The fourth word of the cell of such a type with so many entries.
@@ -216,150 +202,142 @@ fn fourth_word(work: &[u8], kind: usize, a: usize, b: usize, size: usize) -> usi
     size
 }
 
-// The cells of a pair's parts.
-pub fn pair_parts(work: &[u8], i: usize) -> Parts
+// The cells of a pair's parts; of another type there are none.
+pub fn pair_parts(work: &[u8], i: usize) -> Option<(usize, usize)>
     ensures { (n : ℕ) (A : Ty) → Denotes (words work.now) n i A → PartsGiven (words work.now) n (as_pair A) result }
 {
     if cell_kind(work, i) != PAIR_TYPE {
-        return Parts::Neither;
+        return None;
     }
-    Parts::Both {
-        first: cell_first(work, i),
-        second: cell_second(work, i),
-    }
+    Some((cell_first(work, i), cell_second(work, i)))
 }
 
 // The type of this kind with two parts, as cell n, if it has at most 512 entries; this is tested before anything is written.
-fn two_parts(work: &mut [u8], n: usize, kind: usize, a: usize, b: usize) -> Ruled
+fn two_parts(work: &mut [u8], n: usize, kind: usize, a: usize, b: usize) -> Option<Ruling>
     ensures makes_two { MakesTwo kind (words work.old) (words work.new) n a b result }
     ensures work_after { work.new ≡ after_rule result work.old n (cell_of_two (words work.old) kind a b) }
 {
     let size = 1 + cell_size(work, a) + cell_size(work, b);
     if MOST_ENTRIES < size {
-        return Ruled::Fails;
+        return None;
     }
     if MOST_CELLS <= n {
-        return Ruled::Fails;
+        return None;
     }
     let word = fourth_word(work, kind, a, b, size);
     new_cell(work, n, kind, a, b, word);
-    Ruled::Gives {
+    Some(Ruling {
         cell: n,
         cells: n + 1,
-    }
+    })
 }
 
 // The typing rules (Inference of the crate rules). The types of the parts are cells among the first n, and a new type
-// becomes cell n.
-pub fn abstraction_type(work: &mut [u8], n: usize, a: usize, b: usize) -> Ruled
+// becomes cell n. The buffer and n stay two arguments, since a struct would be no plainer: the check holds its bindings in the same
+// buffer and answers the number of cells with the type of each part.
+pub fn abstraction_type(work: &mut [u8], n: usize, a: usize, b: usize) -> Option<Ruling>
     ensures meets_two { MeetsTwo abstraction_type (words work.old) (words work.new) n a b result }
     ensures work_after { work.new ≡ after_rule result work.old n (cell_of_two (words work.old) 3 a b) }
 {
     two_parts(work, n, FUNCTION, a, b)
 }
 
-pub fn pair_type(work: &mut [u8], n: usize, a: usize, b: usize) -> Ruled
+pub fn pair_type(work: &mut [u8], n: usize, a: usize, b: usize) -> Option<Ruling>
     ensures meets_two { MeetsTwo pair_type (words work.old) (words work.new) n a b result }
     ensures work_after { work.new ≡ after_rule result work.old n (cell_of_two (words work.old) 2 a b) }
 {
     two_parts(work, n, PAIR_TYPE, a, b)
 }
 
-pub fn lift_type(work: &mut [u8], n: usize, a: usize) -> Ruled
+pub fn lift_type(work: &mut [u8], n: usize, a: usize) -> Option<Ruling>
     ensures meets_one { MeetsOne lift_type (words work.old) (words work.new) n a result }
     ensures work_after { work.new ≡ after_rule result work.old n (cell_of_reusable (words work.old) a) }
 {
     let size = 1 + cell_size(work, a);
     if MOST_ENTRIES < size {
-        return Ruled::Fails;
+        return None;
     }
     if MOST_CELLS <= n {
-        return Ruled::Fails;
+        return None;
     }
     new_cell(work, n, REUSABLE, a, 0, size + COPYABLE_MARK);
-    Ruled::Gives {
+    Some(Ruling {
         cell: n,
         cells: n + 1,
-    }
+    })
 }
 
 // The second part of f's type, if that is of this kind and its first part is the type of a.
-fn result_type(work: &[u8], n: usize, kind: usize, f: usize, a: usize) -> Ruled
+fn result_type(work: &[u8], n: usize, kind: usize, f: usize, a: usize) -> Option<Ruling>
     ensures { GivesResult kind (words work.now) n f a result }
 {
     if cell_kind(work, f) != kind {
-        return Ruled::Fails;
+        return None;
     }
     if !same_type(work, cell_first(work, f), a) {
-        return Ruled::Fails;
+        return None;
     }
-    Ruled::Gives {
+    Some(Ruling {
         cell: cell_second(work, f),
         cells: n,
-    }
+    })
 }
 
-pub fn application_type(work: &[u8], n: usize, f: usize, a: usize) -> Ruled
+pub fn application_type(work: &[u8], n: usize, f: usize, a: usize) -> Option<Ruling>
     ensures { MeetsTwo application_type (words work.now) (words work.now) n f a result }
 {
     result_type(work, n, FUNCTION, f, a)
 }
 
-pub fn apply_type(work: &[u8], n: usize, f: usize, a: usize) -> Ruled
+pub fn apply_type(work: &[u8], n: usize, f: usize, a: usize) -> Option<Ruling>
     ensures { MeetsTwo apply_type (words work.now) (words work.now) n f a result }
 {
     result_type(work, n, CIRCUIT, f, a)
 }
 
-pub fn force_type(work: &[u8], n: usize, a: usize) -> Ruled
+pub fn force_type(work: &[u8], n: usize, a: usize) -> Option<Ruling>
     ensures { MeetsOne as_reusable (words work.now) (words work.now) n a result }
 {
     if cell_kind(work, a) != REUSABLE {
-        return Ruled::Fails;
+        return None;
     }
-    Ruled::Gives {
+    Some(Ruling {
         cell: cell_first(work, a),
         cells: n,
-    }
+    })
 }
 
 // The parts of the circuit type that box gives for the type t and a function of type a, if its rule applies.
-fn box_parts(work: &[u8], t: usize, a: usize) -> Parts
+fn box_parts(work: &[u8], t: usize, a: usize) -> Option<(usize, usize)>
     ensures says_box { SaysBox (words work.now) t a result }
     ensures parts_are { PartsAre t (cell_second (words work.now) (cell_first (words work.now) a)) result }
 {
     if cell_kind(work, a) != REUSABLE {
-        return Parts::Neither;
+        return None;
     }
     let f = cell_first(work, a);
     if cell_kind(work, f) != FUNCTION {
-        return Parts::Neither;
+        return None;
     }
     if !same_type(work, t, cell_first(work, f)) {
-        return Parts::Neither;
+        return None;
     }
     if !is_wire_type(work, t) {
-        return Parts::Neither;
+        return None;
     }
     let u = cell_second(work, f);
     if !is_wire_type(work, u) {
-        return Parts::Neither;
+        return None;
     }
-    Parts::Both {
-        first: t,
-        second: u,
-    }
+    Some((t, u))
 }
 
-pub fn box_type(work: &mut [u8], n: usize, t: usize, a: usize) -> Ruled
+pub fn box_type(work: &mut [u8], n: usize, t: usize, a: usize) -> Option<Ruling>
     ensures meets_two { MeetsTwo box_type (words work.old) (words work.new) n t a result }
     ensures work_after { work.new ≡ after_rule result work.old n
         (cell_of_two (words work.old) 5 t (cell_second (words work.old) (cell_first (words work.old) a))) }
 {
-    let parts = box_parts(work, t, a);
-    let Parts::Both { first, second } = parts else {
-        return Ruled::Fails;
-    };
+    let (first, second) = box_parts(work, t, a)?;
     two_parts(work, n, CIRCUIT, first, second)
 }
 
@@ -372,12 +350,12 @@ fn entry_size(work: &[u8], n: usize, kind: usize) -> usize
     if parts == 0 {
         return 1;
     }
-    let first = saturating_sub(n, 1);
+    let first = n.saturating_sub(1);
     let size = cell_size(work, first);
     if parts == 1 {
         return 1 + size;
     }
-    1 + size + cell_size(work, saturating_sub(first, size))
+    1 + size + cell_size(work, first.saturating_sub(size))
 }
 
 // Loads an entry of a preorder as cell n. The cell before it is that of the next entry, its first part, if it has parts.
@@ -386,31 +364,38 @@ fn load_entry(work: &mut [u8], n: usize, kind: usize)
     ensures work_len_unchanged { length work.new ≡ length work.old }
 {
     let size = entry_size(work, n, kind);
-    let first = saturating_sub(n, 1);
-    let second = saturating_sub(first, cell_size(work, first));
+    let first = n.saturating_sub(1);
+    let second = first.saturating_sub(cell_size(work, first));
     let word = fourth_word(work, kind, first, second, size);
     new_cell(work, n, kind, first, second, word);
 }
 
-// Loads a string of types in preorder as the cells from n on, from its last entry to its first: position p of P becomes
-// cell n + (P - 1 - p). The answer is how many cells there are then (types_are_cells in proofs/Laws/Load.antt).
+// Loads so many entries of types in preorder as the cells from n on, from the last one to the first: position p of P becomes
+// cell n + (P - 1 - p). The closure gives the code of a position. The answer is how many cells there are then.
+fn load_codes<F: Fn(usize) -> u8>(work: &mut [u8], n: usize, count: usize, code: F) -> usize
+    requires fits { n + count < 131073 }
+    requires callable { (p : ℕ) → p < count → F.pre code p }
+    ensures value { result ≡ n + count }
+    ensures work_after { (f : ℕ → ℕ) → ((p r : ℕ) → p < count → F.post code p r → r ≡ f p)
+        → words work.new ≡ load_codes (words work.old) n f 0 count }
+    ensures work_len_unchanged { length work.new ≡ length work.old }
+{
+    for k in 0..count {
+        load_entry(work, n + k, usize::from(code(count - 1 - k)));
+    }
+    n + count
+}
+
+// Loads a string of types in preorder as the cells from n on (types_are_cells in proofs/Laws/Load.antt).
 pub fn load_types(work: &mut [u8], n: usize, codes: &[u8]) -> usize
     ensures types_loaded { n + length codes.now ≤ 65536 → TypesLoaded (words work.old) (words work.new) n codes.now result }
     ensures work_len_unchanged { length work.new ≡ length work.old }
 {
     let count = codes.len();
-    if MOST_CELLS < n {
+    if MOST_CELLS < n || MOST_CELLS < count {
         return n;
     }
-    if MOST_CELLS < count {
-        return n;
-    }
-    let mut k: usize = 0;
-    while k < count {
-        load_entry(work, n + k, wide(codes[count - 1 - k]));
-        k += 1;
-    }
-    n + count
+    load_codes(work, n, count, |p| codes[p])
 }
 
 // Loads the type of a gate as the cells from n on.
@@ -420,13 +405,7 @@ fn load_gate(work: &mut [u8], n: usize, g: usize) -> usize
     ensures work_after { words work.new ≡ load_codes (words work.old) n (type_code g) 0 (type_entries g) }
     ensures work_len_unchanged { length work.new ≡ length work.old }
 {
-    let count = rules::type_entries(g);
-    let mut k: usize = 0;
-    while k < count {
-        load_entry(work, n + k, wide(rules::type_code(g, count - 1 - k)));
-        k += 1;
-    }
-    n + count
+    load_codes(work, n, rules::type_entries(g), |p| rules::type_code(g, p))
 }
 
 // The cell of the unit type.
@@ -445,27 +424,24 @@ pub fn load_gates(work: &mut [u8]) -> usize
     load_entry(work, 0, BIT);
     load_entry(work, 1, QUBIT);
     load_entry(work, CELL_OF_UNIT, UNIT);
-    let mut n: usize = GATES_FROM;
-    let mut g: usize = 0;
-    while g < rules::GATES {
+    let mut n = GATES_FROM;
+    for g in 0..rules::GATES {
         n = load_gate(work, n, g);
-        g += 1;
     }
     n
 }
 
-// The cell of a gate's type; 0 where there is no such gate.
+// The cell of a gate's type; 0 where there is no such gate. No Option: the definition `gate_cell` is 0 there, and the check asks for
+// gates alone.
 pub fn gate_cell(g: usize) -> usize
     ensures { result ≡ gate_cell g }
 {
     if !rules::is_gate(g) {
         return 0;
     }
-    let mut n: usize = GATES_FROM;
-    let mut k: usize = 0;
-    while k < g {
+    let mut n = GATES_FROM;
+    for k in 0..g {
         n += rules::type_entries(k);
-        k += 1;
     }
     n + rules::type_entries(g) - 1
 }

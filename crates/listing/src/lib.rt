@@ -7,6 +7,7 @@
 ghost use Rattle.std.specs.Prelude.{◌<◌, ◌≡◌};
 ghost use Rattle.listing.specs.Reading.{input_count, gate_count, output_count, entry_count, kind_at, slots_from, outputs_from};
 
+use rules::sizes::{MOST_GATES, MOST_LABELS};
 use words::{byte_at, word_at};
 
 // How many bytes the three sizes take, and where each stands: inputs, gates, outputs.
@@ -18,7 +19,7 @@ pub const GATES: usize = 2;
 
 pub const OUTPUTS: usize = 4;
 
-// The kinds of a Bit input and of a Qubit input.
+// The kinds of a Bit input and of a Qubit input. No enum: kind_at of specs/Reading is the byte that stands there, which may be no kind.
 pub const BIT_INPUT: usize = 128;
 
 pub const QUBIT_INPUT: usize = 129;
@@ -31,6 +32,9 @@ pub const ENTRY_BYTES: usize = 1 + 2 * ENTRY_SLOTS;
 
 // A listing has at most so many outputs.
 pub const MOST_OUTPUTS: usize = 256;
+
+// The longest listing.
+pub const MOST_BYTES: usize = SIZES + ENTRY_BYTES * (MOST_LABELS + MOST_GATES) + 2 * MOST_OUTPUTS;
 
 // Places in a listing are worked out for entries below this number; no listing has as many.
 const MANY: usize = 1048576;
@@ -78,7 +82,8 @@ fn entry_count(listing: &[u8]) -> usize
     input_count(listing) + gate_count(listing)
 }
 
-// Where the slots of an entry stand; 0 for an entry that no listing has.
+// Where the slots of an entry stand; 0 for an entry that no listing has. No Option: callers ask for entries that are there, and would
+// have to unwrap it.
 pub fn slots_from(listing: &[u8], i: usize) -> usize
     ensures value { i < 1048576 → result ≡ slots_from listing.now i }
     ensures upper_bound { result < 134217728 }

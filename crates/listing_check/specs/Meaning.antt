@@ -1,5 +1,5 @@
 -- What each answer of the check of a listing means (02, ticket 3). The last record is proved in Theorems/Listings.
-use Rattle.std.specs.Prelude.{ℕ, ◌≤◌, ◌<◌, ◌≡◌, ◌↔◌, ◌⊎◌, List, T as Truth, length}
+use Rattle.std.specs.Prelude.{ℕ, ◌≤◌, ◌<◌, ◌≡◌, ◌↔◌, ◌⊎◌, List, T as Truth, length, Ok, Err}
 use Rattle.rules.specs.Types.{Wire, Bit, Qubit}
 use Rattle.rules.specs.Gates.{is_gate}
 use Rattle.rules.specs.Slots.{no_wire}
@@ -10,7 +10,6 @@ use Rattle.refusals.specs.declared.Refusal.TheVariants.{Run}
 use Rattle.listing.specs.Listing.{input_kind, entry_slots, listing_bytes, listing_length, most_outputs}
 use Rattle.listing.specs.Reading.{input_count, gate_count, output_count, entry_count, kind_at, slot_at, inputs_of, gates_of, outputs_of}
 use Rattle.wire_table.specs.WireRules.{GoesOnce, First, NoSuch, BrokenAt}
-use Rattle.listing_check.specs.declared.ListingAnswer.TheVariants.{Accepted, Refused}
 use Rattle.listing_check.specs.Answers.{slots_used, listing_check_of}
 
 -- "accepted exactly if each wire has been made before it is taken, has the type its taker needs, and goes exactly once to a gate or an
@@ -51,14 +50,14 @@ WrongEntry b i = (i < entry_count b) × EntryWrong b i
 
 -- The answers to the bytes of a listing: each exactly where 02 says so, and no other.
 pub record ListingMeans (b : List ℕ) : Type 0 where
-  pub accepted : (L G O : ℕ) → (listing_check_of b ≡ Accepted L G O) ↔ SoundListing b L G O
+  pub accepted : (L G O : ℕ) → (listing_check_of b ≡ Ok (record { inputs = L; gates = G; outputs = O })) ↔ SoundListing b L G O
   pub one_listing : {L G O : ℕ} (x : SoundListing b L G O)
       → (x.inputs ≡ inputs_of b) × (x.gates ≡ gates_of b) × (x.outs ≡ outputs_of b)
-  pub twenty_four : (listing_check_of b ≡ Refused (Run 24 0)) ↔ SizesWrong b
-  pub twenty_five : (p : ℕ) → (listing_check_of b ≡ Refused (Run 25 p)) ↔ ((SizesWrong b → ⊥) × First (WrongEntry b) p)
+  pub twenty_four : (listing_check_of b ≡ Err (Run 24 0)) ↔ SizesWrong b
+  pub twenty_five : (p : ℕ) → (listing_check_of b ≡ Err (Run 25 p)) ↔ ((SizesWrong b → ⊥) × First (WrongEntry b) p)
   pub twenty_six : (p : ℕ)
-      → (listing_check_of b ≡ Refused (Run 26 p))
+      → (listing_check_of b ≡ Err (Run 26 p))
       ↔ ((SizesWrong b → ⊥) × NoSuch (WrongEntry b) × BrokenAt (inputs_of b) (gates_of b) (outputs_of b) p)
   pub no_other : (x : Refusal)
-      → listing_check_of b ≡ Refused x
+      → listing_check_of b ≡ Err x
       → (x ≡ Run 24 0) ⊎ (((p : ℕ) × (x ≡ Run 25 p)) ⊎ ((p : ℕ) × (x ≡ Run 26 p)))

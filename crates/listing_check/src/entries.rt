@@ -4,7 +4,7 @@ ghost use Rattle.rules.specs.Types.{Bit, Qubit};
 ghost use Rattle.listing.specs.Listing.{input_kind, entry_slots};
 ghost use Rattle.listing.specs.Reading.{input_count, entry_count, slots_from};
 ghost use Rattle.wire_table.specs.Wires.{first_where};
-ghost use Rattle.wire_table.specs.Table.{one_more_than};
+ghost use Rattle.words.specs.Found.{option_of};
 ghost use Rattle.listing_check.specs.Answers.{sizes_wrong, any_wire, entry_wrong};
 
 use listing::{
@@ -22,11 +22,11 @@ pub(crate) fn sizes_wrong(listing: &[u8]) -> bool
     let inputs = input_count(listing);
     let gates = gate_count(listing);
     let outputs = output_count(listing);
-    (listing.len() < SIZES)
-        | ((MOST_LABELS < inputs)
-            | ((MOST_GATES < gates)
-                | ((MOST_OUTPUTS < outputs)
-                    | (listing.len() != SIZES + ENTRY_BYTES * (inputs + gates) + 2 * outputs))))
+    listing.len() < SIZES
+        || MOST_LABELS < inputs
+        || MOST_GATES < gates
+        || MOST_OUTPUTS < outputs
+        || listing.len() != SIZES + ENTRY_BYTES * (inputs + gates) + 2 * outputs
 }
 
 // Is there a wire in one of an entry's slots from slot k on?
@@ -34,21 +34,14 @@ fn any_wire(listing: &[u8], from: usize, k: usize) -> bool
     requires { (from < 134217728) × (k ≤ entry_slots) }
     ensures { result ≡ any_wire listing.now from k (entry_slots - k) }
 {
-    let mut slot = k;
-    while slot < ENTRY_SLOTS {
-        if word_at(listing, from + 2 * slot) != NO_WIRE {
-            return true;
-        }
-        slot += 1;
-    }
-    false
+    (k..ENTRY_SLOTS).any(|slot| word_at(listing, from + 2 * slot) != NO_WIRE)
 }
 
 // Is this the kind of an input?
 fn is_input(kind: usize) -> bool
     ensures { result ≡ eqb kind (input_kind Bit) || eqb kind (input_kind Qubit) }
 {
-    (kind == BIT_INPUT) | (kind == QUBIT_INPUT)
+    matches!(kind, BIT_INPUT | QUBIT_INPUT)
 }
 
 // Is the kind of entry i not allowed, or is there a wire in a slot that it does not use? Its slots stand from a place on.
@@ -69,20 +62,12 @@ fn entry_wrong(listing: &[u8], inputs: usize, i: usize, from: usize) -> bool
     true
 }
 
-// The first wrong entry: one more than its number, or 0 where none is.
-pub(crate) fn wrong_entry(listing: &[u8]) -> usize
-    ensures { result ≡ one_more_than (first_where (entry_wrong listing.now) 0 (entry_count listing.now)) }
+// The first wrong entry.
+pub(crate) fn wrong_entry(listing: &[u8]) -> Option<usize>
+    ensures { result ≡ option_of (first_where (entry_wrong listing.now) 0 (entry_count listing.now)) }
 {
     let inputs = input_count(listing);
     let count = inputs + gate_count(listing);
-    let mut from = slots_from(listing, 0);
-    let mut i: usize = 0;
-    while i < count {
-        if entry_wrong(listing, inputs, i, from) {
-            return i + 1;
-        }
-        from += 2 * ENTRY_SLOTS;
-        i += 1;
-    }
-    0
+    let from = slots_from(listing, 0);
+    (0..count).find(|&i| entry_wrong(listing, inputs, i, from + 2 * ENTRY_SLOTS * i))
 }

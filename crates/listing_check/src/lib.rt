@@ -24,26 +24,23 @@ use words::clear;
 // The least length of the working memory: a byte for each wire that a listing may make.
 pub const LEAST_WORK: usize = MOST_LABELS + ENTRY_SLOTS * MOST_GATES;
 
-// What the check of a listing answers: its inputs, gates and outputs, or a refusal.
-#[derive(Drop)]
-pub enum ListingAnswer {
-    Accepted {
-        inputs: usize,
-        gates: usize,
-        outputs: usize,
-    },
-    Refused(Refusal),
+// What an accepted listing has: how many inputs, gates and outputs.
+#[derive(Clone, Copy)]
+pub struct ListingSizes {
+    pub inputs: usize,
+    pub gates: usize,
+    pub outputs: usize,
 }
 
 // A refusal with its place.
-fn refused(number: usize, place: usize) -> ListingAnswer
+fn refused(number: usize, place: usize) -> Result<ListingSizes, Refusal>
     ensures { result ≡ refused_with number place }
 {
-    ListingAnswer::Refused(Refusal::Run { number, place })
+    Err(Refusal::Run { number, place })
 }
 
 // The check without clearing its working memory. Too short, that is refused and not touched.
-pub fn check_uncleared(listing: &[u8], work: &mut [u8]) -> ListingAnswer
+pub fn check_uncleared(listing: &[u8], work: &mut [u8]) -> Result<ListingSizes, Refusal>
     ensures { let lent = work ∷ [] in result ≡ listing_check_answer listing.now (first_bytes lent) }
 {
     if work.len() < LEAST_WORK {
@@ -52,16 +49,15 @@ pub fn check_uncleared(listing: &[u8], work: &mut [u8]) -> ListingAnswer
     if sizes_wrong(listing) {
         return refused(24, 0);
     }
-    let entry = wrong_entry(listing);
-    if 0 < entry {
-        return refused(25, entry - 1);
+    if let Some(entry) = wrong_entry(listing) {
+        return refused(25, entry);
     }
     clear(work);
     check_wires(listing, work)
 }
 
 // The check of a listing. The other buffer is working memory.
-pub fn check_listing(listing: &[u8], work: &mut [u8]) -> ListingAnswer
+pub fn check_listing(listing: &[u8], work: &mut [u8]) -> Result<ListingSizes, Refusal>
     ensures answer { let lent = work ∷ [] in
         result ≡ listing_check_answer listing.now (first_bytes lent) }
     ensures bytes { let lent = work ∷ [] in

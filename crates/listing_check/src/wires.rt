@@ -9,11 +9,12 @@ ghost use Rattle.wire_table.specs.Table.{wire_byte, Holds};
 ghost use Rattle.listing_check.specs.Answers.{wires_judged};
 ghost use Rattle.listing_check.specs.Wires.{GatesRead, OutputsRead, Whole};
 
-use crate::{LEAST_WORK, ListingAnswer, refused};
+use crate::{LEAST_WORK, ListingSizes, refused};
 use listing::{
     BIT_INPUT, ENTRY_SLOTS, gate_count, input_count, kind_at, output_count, outputs_from,
     slots_from,
 };
+use refusals::Refusal;
 use wire_table::{lowest_there, make_wire, make_wires, take_any, take_wires};
 use words::word_at;
 
@@ -24,84 +25,74 @@ fn input_byte(kind: usize) -> u8
     if kind == BIT_INPUT { 1 } else { 2 }
 }
 
+// The listing and the table stay two parameters, with Whole of both in three contracts: a struct that keeps the table as a `&mut` has to
+// say in each contract that it is still the caller's.
+
 // The inputs are made in an empty table.
 fn make_inputs(listing: &[u8], table: &mut [u8])
     requires { Holds table.old [] [] × Whole listing.now table.old }
     ensures { Holds table.new (inputs_of listing.now) [] }
 {
-    let count = input_count(listing);
-    let mut i: usize = 0;
-    while i < count {
+    for i in 0..input_count(listing) {
         make_wire(table, i, input_byte(kind_at(listing, i)));
-        i += 1;
     }
 }
 
-// The first gate that takes a wire wrongly: one more than its number, or 0 where none does. The table has the inputs; where no gate is
-// wrong, it has the wires that are there after all gates.
-fn wrong_gate(listing: &[u8], table: &mut [u8]) -> usize
+// The first gate that takes a wire wrongly. The table has the inputs; where no gate is wrong, it has the wires that are there after all
+// gates.
+fn wrong_gate(listing: &[u8], table: &mut [u8]) -> Option<usize>
     requires { Holds table.old (inputs_of listing.now) [] × Whole listing.now table.old }
     ensures { GatesRead listing.now table.new result }
 {
     let inputs = input_count(listing);
-    let count = gate_count(listing);
-    let mut from = slots_from(listing, inputs);
+    let from = slots_from(listing, inputs);
     let mut made = inputs;
-    let mut i: usize = 0;
-    while i < count {
+    for i in 0..gate_count(listing) {
         let gate = kind_at(listing, inputs + i);
-        if !take_wires(listing, from, gate, table) {
-            return i + 1;
+        if !take_wires(listing, from + 2 * ENTRY_SLOTS * i, gate, table) {
+            return Some(i);
         }
         made = make_wires(gate, table, made);
-        from += 2 * ENTRY_SLOTS;
-        i += 1;
     }
-    0
+    None
 }
 
-// The first wrong output: one more than its number, or 0 where none is. Then the table has the wires that are left.
-fn wrong_output(listing: &[u8], table: &mut [u8]) -> usize
+// The first wrong output. Where none is, the table has the wires that are left.
+fn wrong_output(listing: &[u8], table: &mut [u8]) -> Option<usize>
     ensures { (types : List Wire) (gone : List ℕ)
         → Holds table.old types gone
         → OutputsRead types gone (outputs_of listing.now) table.new result }
 {
-    let count = output_count(listing);
     let from = outputs_from(listing);
-    let mut j: usize = 0;
-    while j < count {
+    for j in 0..output_count(listing) {
         if !take_any(table, word_at(listing, from + 2 * j)) {
-            return j + 1;
+            return Some(j);
         }
-        j += 1;
     }
-    0
+    None
 }
 
-// The entry that made a wire; 0 where none did.
+// The entry that made a wire.
 fn maker_of(listing: &[u8], w: usize) -> usize
-    ensures { w < length (inputs_of listing.now ++ outputs (gates_of listing.now))
-        → result ≡ maker (inputs_of listing.now) (gates_of listing.now) w }
+    requires { w < length (inputs_of listing.now ++ outputs (gates_of listing.now)) }
+    ensures { result ≡ maker (inputs_of listing.now) (gates_of listing.now) w }
 {
     let inputs = input_count(listing);
     if w < inputs {
         return w;
     }
-    let count = gate_count(listing);
     let mut made = inputs;
-    let mut i: usize = 0;
-    while i < count {
+    for i in 0..gate_count(listing) {
         made += rules::wires_out(kind_at(listing, inputs + i));
         if w < made {
             return inputs + i;
         }
-        i += 1;
     }
-    0
+    unreachable!()
 }
 
 // The wire rules of a listing whose entries are right, with a table in which no wire is: accepted, or 26 with its place.
-pub(crate) fn check_wires(listing: &[u8], table: &mut [u8]) -> ListingAnswer
+pub(crate) fn check_wires(listing: &[u8], table: &mut [u8]) -> Result<ListingSizes, Refusal>
     requires { Holds table.old [] [] × Whole listing.now table.old }
     ensures { result ≡ wires_judged listing.now (broken_at (inputs_of listing.now) (gates_of listing.now) (outputs_of listing.now)) }
 {
@@ -109,21 +100,18 @@ pub(crate) fn check_wires(listing: &[u8], table: &mut [u8]) -> ListingAnswer
     let inputs = input_count(listing);
     let gates = gate_count(listing);
     let outputs = output_count(listing);
-    let gate = wrong_gate(listing, table);
-    if 0 < gate {
-        return refused(26, inputs + (gate - 1));
+    if let Some(gate) = wrong_gate(listing, table) {
+        return refused(26, inputs + gate);
     }
-    let output = wrong_output(listing, table);
-    if 0 < output {
-        return refused(26, inputs + gates + (output - 1));
+    if let Some(output) = wrong_output(listing, table) {
+        return refused(26, inputs + gates + output);
     }
-    let left = lowest_there(table, LEAST_WORK);
-    if 0 < left {
-        return refused(26, maker_of(listing, left - 1));
+    if let Some(w) = lowest_there(table, LEAST_WORK) {
+        return refused(26, maker_of(listing, w));
     }
-    ListingAnswer::Accepted {
+    Ok(ListingSizes {
         inputs,
         gates,
         outputs,
-    }
+    })
 }

@@ -4,7 +4,7 @@
 // Called by the end of a run.
 #![tactic(auto)]
 
-ghost use Rattle.std.specs.Prelude.{◌+◌, ◌*◌, ◌/◌, ◌≤◌, ◌<◌, ◌≡◌, length, drop};
+ghost use Rattle.std.specs.Prelude.{ℕ, ◌+◌, ◌*◌, ◌/◌, ◌≤◌, ◌<◌, ◌≡◌, length, drop};
 ghost use mathlib.Core.List.{List, [], ◌∷◌, ◌++◌, map, flat_map};
 ghost use Rattle.std.proofs.Math.Option.{some};
 ghost use Rattle.rules.specs.Types.{Wire, wire_code};
@@ -32,9 +32,10 @@ use rules::slots::NO_WIRE;
 use words::quadwords::word_in;
 
 // The largest number of 16 bits.
-const MOST: usize = 65535;
+const MOST: usize = u16::MAX as usize;
 
-// Two bytes become the number, low byte first.
+// Two bytes become the number, low byte first. Here and below a place in the whole buffer is passed, and no part of the buffer: each
+// contract then is one `over` of it, and all of them together are the listing.
 fn put_bytes(out: &mut [u8], at: usize, value: usize)
     requires at_in_bounds { at + 2 ≤ length out.old }
     requires value_bound { value < 65536 }
@@ -47,16 +48,13 @@ fn put_bytes(out: &mut [u8], at: usize, value: usize)
 // How many of the first nodes are labels.
 fn count_labels(nodes: &[u8], size: usize) -> usize
     requires { size ≤ length nodes.now / 4 }
-    ensures { result ≡ length (outputs_read (nodes_in nodes.now) size) }
+    ensures value { result ≡ length (outputs_read (nodes_in nodes.now) size) }
+    ensures upper_bound { result ≤ size }
 {
     let mut found: usize = 0;
-    let mut i: usize = 0;
-    while i < size {
+    for i in 0..size {
         if kind_at(nodes, i) == LABEL {
             found += 1;
-            i += 1;
-        } else {
-            i += 1;
         }
     }
     found
@@ -80,57 +78,34 @@ fn input_kind(code: usize) -> u8
     ensures { result ≡ input_byte code }
 {
     if code == 0 {
-        return BIT_INPUT as u8;
-    }
-    QUBIT_INPUT as u8
-}
-
-// The kinds of the inputs are written from a place on.
-fn write_input_kinds(types: &[u8], inputs: usize, out: &mut [u8], at: usize)
-    requires inputs_bound { inputs < 65536 }
-    requires inputs_in_bounds { at + inputs ≤ length out.old }
-    ensures { out.new ≡ over out.old at (pieces (input_piece (words types.now)) inputs) }
-{
-    let mut i: usize = 0;
-    while i < inputs {
-        out[at + i] = input_kind(words::get(types, LABELS_FROM + i));
-        i += 1;
+        BIT_INPUT as u8
+    } else {
+        QUBIT_INPUT as u8
     }
 }
 
-// The kinds of the gates are written, the oldest first.
-fn write_gate_kinds(gates: &[u8], count: usize, out: &mut [u8], at: usize)
-    requires { at + count ≤ length out.old }
-    ensures { out.new ≡ over out.old at (pieces (gate_piece (quadwords_in gates.now)) count) }
+// A byte is written for each number below a count, from a place on.
+fn write_bytes<F: Fn(usize) -> u8>(out: &mut [u8], at: usize, count: usize, byte: F)
+    requires in_bounds { at + count ≤ length out.old }
+    requires callable { (i : ℕ) → i < count → F.pre byte i }
+    ensures { (f : ℕ → ℕ) → ((i b : ℕ) → i < count → F.post byte i b → b ≡ f i)
+        → out.new ≡ over out.old at (pieces (λ i. f i ∷ []) count) }
 {
-    let mut i: usize = 0;
-    while i < count {
-        out[at + i] = (word_in(gates, i, 0) % 256) as u8;
-        i += 1;
+    for i in 0..count {
+        out[at + i] = byte(i);
     }
 }
 
-// Some slots without a wire are written.
-fn write_unused(slots: usize, out: &mut [u8], at: usize)
-    requires { at + slots * 2 ≤ length out.old }
-    ensures { out.new ≡ over out.old at (pieces unused_piece slots) }
+// A 16-bit number is written for each number below a count, from a place on.
+fn write_words<F: Fn(usize) -> usize>(out: &mut [u8], at: usize, count: usize, word: F)
+    requires in_bounds { at + count * 2 ≤ length out.old }
+    requires callable { (i : ℕ) → i < count → F.pre word i }
+    requires small { (i w : ℕ) → i < count → F.post word i w → w < 65536 }
+    ensures { (f : ℕ → ℕ) → ((i w : ℕ) → i < count → F.post word i w → w ≡ f i)
+        → out.new ≡ over out.old at (pieces (λ i. bytes_of (f i)) count) }
 {
-    let mut i: usize = 0;
-    while i < slots {
-        put_bytes(out, at + 2 * i, NO_WIRE);
-        i += 1;
-    }
-}
-
-// The slots of the gate in a quadword are written.
-fn write_gate(gates: &[u8], i: usize, out: &mut [u8], at: usize)
-    requires { at + entry_slots * 2 ≤ length out.old }
-    ensures { out.new ≡ over out.old at (slots_piece (quadwords_in gates.now) i) }
-{
-    let mut slot: usize = 0;
-    while slot < ENTRY_SLOTS {
-        put_bytes(out, at + 2 * slot, gate_wire(gates, i, slot));
-        slot += 1;
+    for i in 0..count {
+        put_bytes(out, at + 2 * i, word(i));
     }
 }
 
@@ -139,10 +114,13 @@ fn write_gate_slots(gates: &[u8], count: usize, out: &mut [u8], at: usize)
     requires { at + count * (entry_slots * 2) ≤ length out.old }
     ensures { out.new ≡ over out.old at (pieces (slots_piece (quadwords_in gates.now)) count) }
 {
-    let mut i: usize = 0;
-    while i < count {
-        write_gate(gates, i, out, at + 2 * ENTRY_SLOTS * i);
-        i += 1;
+    for i in 0..count {
+        write_words(
+            out,
+            at + 2 * ENTRY_SLOTS * i,
+            ENTRY_SLOTS,
+            |slot| gate_wire(gates, i, slot),
+        );
     }
 }
 
@@ -153,14 +131,10 @@ fn write_outputs(nodes: &[u8], size: usize, out: &mut [u8], at: usize)
     ensures { out.new ≡ over out.old at (flat_map bytes_of (outputs_read (nodes_in nodes.now) size)) }
 {
     let mut found: usize = 0;
-    let mut i: usize = 0;
-    while i < size {
+    for i in 0..size {
         if kind_at(nodes, i) == LABEL {
             put_bytes(out, at + 2 * found, argument_at(nodes, i));
             found += 1;
-            i += 1;
-        } else {
-            i += 1;
         }
     }
 }
@@ -171,8 +145,18 @@ fn write_kinds(types: &[u8], inputs: usize, gates: &[u8], count: usize, out: &mu
     requires count_in_bounds { 6 + inputs + count ≤ length out.old }
     ensures { out.new ≡ over out.old 6 (kinds_read (words types.now) inputs (quadwords_in gates.now) count) }
 {
-    write_input_kinds(types, inputs, out, SIZES);
-    write_gate_kinds(gates, count, out, SIZES + inputs);
+    write_bytes(
+        out,
+        SIZES,
+        inputs,
+        |i| input_kind(words::get(types, LABELS_FROM + i)),
+    );
+    write_bytes(
+        out,
+        SIZES + inputs,
+        count,
+        |i| (word_in(gates, i, 0) % 256) as u8,
+    );
 }
 
 // The slots of all entries are written from a place on.
@@ -180,13 +164,15 @@ fn write_slots(inputs: usize, gates: &[u8], count: usize, out: &mut [u8], at: us
     requires { at + (inputs + count) * (entry_slots * 2) ≤ length out.old }
     ensures { out.new ≡ over out.old at (slots_read inputs (quadwords_in gates.now) count) }
 {
-    write_unused(inputs * ENTRY_SLOTS, out, at);
+    write_words(out, at, inputs * ENTRY_SLOTS, |_| NO_WIRE);
     write_gate_slots(gates, count, out, at + 2 * ENTRY_SLOTS * inputs);
 }
 
 // The listing of a finished run is written from the start of a buffer; answers its length. The types of the inputs stand in
 // the types' buffer from word 512 on, the gates in the first quadwords, the tuple of the outputs in the first nodes. Where a size
-// takes more than 16 bits, or the nodes or the listing run past their buffer, nothing changes and the answer is 0.
+// takes more than 16 bits, or the nodes or the listing run past their buffer, nothing changes and the answer is 0: so many bytes are
+// written (clause out_unchanged).
+// The buffers are lent whole, with how much of each is used beside it: out_after says `inputs ≡ length I` and the like of the numbers.
 pub fn write_listing(
     types: &[u8],
     inputs: usize,
@@ -206,22 +192,13 @@ pub fn write_listing(
         × (result ≡ length (listing (circuit I gs) k)) }
     ensures out_unchanged { result ≡ 0 → out.new ≡ out.old }
 {
-    if MOST < inputs {
-        return 0;
-    }
-    if MOST < count {
-        return 0;
-    }
-    if nodes.len() / 4 < size {
+    if MOST < inputs || MOST < count || nodes.len() / 4 < size {
         return 0;
     }
     let outputs = count_labels(nodes, size);
-    if MOST < outputs {
-        return 0;
-    }
     let entries = inputs + count;
     let length = SIZES + ENTRY_BYTES * entries + 2 * outputs;
-    if out.len() < length {
+    if MOST < outputs || out.len() < length {
         return 0;
     }
     write_sizes(out, inputs, count, outputs);

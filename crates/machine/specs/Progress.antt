@@ -1,5 +1,7 @@
 -- What the walk to the next stop and the step there have to do.
-use Rattle.std.specs.Prelude.{ℕ, ◌+◌, ◌-◌, ◌≤◌, ◌≡◌, Bool, true, false, leb}
+use Rattle.std.specs.Prelude.{ℕ, ◌+◌, ◌-◌, ◌≤◌, ◌<◌, ◌≡◌, Bool, true, false}
+use Rattle.std.specs.declared.ops.ControlFlow.{ControlFlow}
+use Rattle.std.specs.declared.ops.ControlFlow.TheVariants.{Continue, Break}
 use Rattle.rules.specs.Types.{Ty}
 use Rattle.rules.specs.Sizes.{most_gates}
 use Rattle.rules.specs.Runs.{advanced}
@@ -7,8 +9,7 @@ use Rattle.machine_terms.specs.Walks.{Stop, at_application, at_let, at_force, at
 use Rattle.machine_terms.specs.States.{State, decode}
 use Rattle.machine_state.specs.declared.StateNumbers.{StateNumbers}
 use Rattle.machine_state.specs.Memory.{Memory}
-use Rattle.machine.specs.declared.Progress.{Progress}
-use Rattle.machine.specs.declared.Progress.TheVariants.{GoesOn, Ends}
+use Rattle.machine.specs.declared.Ending.{Ending}
 use Rattle.machine.specs.Advancing.{Ready, AdvancedTo}
 
 -- What is known while steps are taken: n are done, and the rest comes to what the whole comes to.
@@ -29,23 +30,21 @@ is_end at_exit = false
 is_end at_end = true
 is_end at_variable = false
 
+-- The answer of the walk and the step: the numbers after the step, or how it ended and the numbers at the stop.
+abbrev pub Progress : Type 0
+Progress = ControlFlow (Ending × StateNumbers) StateNumbers
+
 -- What they lead to, by their answer: one step more is done, or it has ended after n steps.
 abbrev pub ProgressTo : (ℕ → Ty) → ℕ → Ty → ℕ → ℕ → ℕ → Memory → State → Progress → Type 0
-ProgressTo types positions A allowance k n m s₀ (GoesOn r) = Underway types positions A allowance k (n + 1) m r s₀
-ProgressTo types positions A allowance k n m s₀ (Ends e r) =
+ProgressTo types positions A allowance k n m s₀ (Continue r) = Underway types positions A allowance k (n + 1) m r s₀
+ProgressTo types positions A allowance k n m s₀ (Break (e, r)) =
     AdvancedTo types positions A allowance k m s₀ (record { ending = e; steps = n; numbers = r })
 
--- A step is taken only where one is to be taken, in any memory.
-abbrev pub NotLast : Bool → Progress → Type 0
-NotLast last (GoesOn r) = last ≡ false
-NotLast last (Ends e r) = Unit {0}
-
--- The contract of the walk and the step after n of at most k steps; `last` says that no step may be taken any more.
-abbrev pub AdvancesOnce : Bool → ℕ → Memory → Memory → StateNumbers → Progress → Type 0
-AdvancesOnce last allowance m m' r answer =
+-- The contract of the walk and the step after n of at most k steps.
+abbrev pub AdvancesOnce : ℕ → Memory → Memory → StateNumbers → Progress → Type 0
+AdvancesOnce allowance m m' r answer =
     (types : ℕ → Ty) (positions : ℕ) (A : Ty) (s₀ : State) (k n : ℕ)
     → allowance ≤ most_gates
-    → n ≤ k
-    → last ≡ leb k n
+    → n < k
     → Underway types positions A allowance k n m r s₀
     → ProgressTo types positions A allowance k n m' s₀ answer

@@ -1,4 +1,5 @@
 pub mod Copies
+pub mod Renamings
 pub mod Tuples
 pub mod Applying
 pub mod Layout

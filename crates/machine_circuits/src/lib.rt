@@ -7,4 +7,5 @@
 
 pub mod closed;
 pub mod gates;
+pub mod renamings;
 pub mod tuples;

@@ -11,16 +11,17 @@ ghost use Rattle.rules.specs.Slots.{no_wire};
 ghost use Rattle.machine_circuits.specs.Layout.{tuple_words};
 ghost use Rattle.machine_nodes.specs.Nodes.{nodes_in, node_at};
 ghost use Rattle.words.specs.Regions.{over, Stands};
-ghost use Rattle.machine_circuits.specs.Tuples.{word_of, loaded_node, node_of_code, label_after, code_span, codes_of};
+ghost use Rattle.machine_circuits.specs.Tuples.{word_of, part_node, loaded_node, node_of_code, label_after, code_span, codes_of};
+ghost use Rattle.machine_circuits.specs.Renamings.{labels_of, Usable};
 ghost use Rattle.machine_circuits.specs.Results.{LabelsCollected, ResultFits, result_nodes, TupleWritten};
 
-use crate::gates::renamed;
+use crate::renamings::Renaming;
 use machine_nodes::{argument_at, kind_at, put_node};
 use rules::kinds::{LABEL, PAIR, PAIR_TYPE, UNIT, UNIT_VALUE};
 use rules::parts::parts_of_kind;
 use rules::sizes::MOST_TYPES;
 use rules::slots::NO_WIRE;
-use words::{runs_past, saturating_sub};
+use words::runs_past;
 
 // The codes of the type section stand in the words of the types' buffer from 0 on, those of the labels' types from here on.
 pub const LABELS_FROM: usize = MOST_TYPES;
@@ -29,7 +30,7 @@ pub const LABELS_FROM: usize = MOST_TYPES;
 const NO_LABEL: usize = 65534;
 
 // The size of a tuple.
-#[derive(Drop)]
+#[derive(Default, Drop)]
 pub struct TupleSize {
     // How many nodes it has.
     pub nodes: usize,
@@ -37,11 +38,10 @@ pub struct TupleSize {
     pub labels: usize,
 }
 
-// Where the codes of a type come from: the type section, in the buffer of the types, or the type of the gate with a number,
-// for which an empty buffer is lent.
+// Where the codes of a type come from: the type section, in the buffer of the types, or the type of the gate with a number.
 #[derive(Clone, Copy)]
-enum Source {
-    Section,
+enum Source<'a> {
+    Section(&'a [u8]),
     Gate(usize),
 }
 
@@ -55,14 +55,10 @@ pub fn collect_labels(nodes: &[u8], at: usize, count: usize, labels: &mut [u8]) 
         return 0;
     }
     let mut found: usize = 0;
-    let mut i: usize = 0;
-    while i < count {
+    for i in 0..count {
         if kind_at(nodes, at + i) == LABEL {
             words::put(labels, found, argument_at(nodes, at + i));
             found += 1;
-            i += 1;
-        } else {
-            i += 1;
         }
     }
     found
@@ -73,14 +69,11 @@ fn result_word(nodes: &[u8], i: usize) -> usize
     ensures value { result ≡ word_of (node_at (nodes_in nodes.now) i) }
     ensures upper_bound { result < 65536 }
 {
-    let kind = kind_at(nodes, i);
-    if kind == PAIR {
-        return NO_WIRE;
+    match kind_at(nodes, i) {
+        PAIR => NO_WIRE,
+        UNIT_VALUE => NO_LABEL,
+        _ => argument_at(nodes, i),
     }
-    if kind == UNIT_VALUE {
-        return NO_LABEL;
-    }
-    argument_at(nodes, i)
 }
 
 // The tuple at a place is saved as a result: a word a node, from a word on.
@@ -89,109 +82,94 @@ pub fn save_result(nodes: &[u8], at: usize, count: usize, res: &mut [u8], from: 
         → from + count ≤ length (words res.old)
         → words res.new ≡ over (words res.old) from (tuple_words k) }
 {
-    if runs_past(nodes.len() / 4, at, count) {
+    if runs_past(nodes.len() / 4, at, count) || runs_past(res.len() / 2, from, count) {
         return;
     }
-    if runs_past(res.len() / 2, from, count) {
-        return;
-    }
-    let mut i: usize = 0;
-    while i < count {
+    for i in 0..count {
         words::put(res, from + i, result_word(nodes, at + i));
-        i += 1;
+    }
+}
+
+// A node of a tuple is put, by a word or a code: a pair for the one that says so, unit's value for another, else this label.
+fn put_part(nodes: &mut [u8], to: usize, word: usize, pair: usize, unit: usize, label: usize)
+    ensures { nodes_in nodes.new ≡ set (nodes_in nodes.old) to (part_node word pair unit label) }
+{
+    if word == pair {
+        put_node(nodes, to, PAIR, 0);
+    } else if word == unit {
+        put_node(nodes, to, UNIT_VALUE, 0);
+    } else {
+        put_node(nodes, to, LABEL, label);
     }
 }
 
 // A word of a result becomes a node, its wire renamed.
-fn load_node(word: usize, nodes: &mut [u8], to: usize, labels: &[u8], n: usize, next: usize)
-    requires word_bound { word < 65536 }
-    requires next_bound { next < 65536 }
-    ensures { n ≤ length (words labels.now)
-        → nodes_in nodes.new ≡ set (nodes_in nodes.old) to (loaded_node (take n (words labels.now)) next word) }
+fn load_node(word: usize, nodes: &mut [u8], to: usize, renaming: Renaming)
+    requires { word < 65536 }
+    ensures { Usable renaming.entry
+        → nodes_in nodes.new ≡ set (nodes_in nodes.old) to (loaded_node (labels_of renaming.entry) renaming.entry.next word) }
 {
-    if word == NO_WIRE {
-        put_node(nodes, to, PAIR, 0);
-        return;
-    }
-    if word == NO_LABEL {
-        put_node(nodes, to, UNIT_VALUE, 0);
-        return;
-    }
-    put_node(nodes, to, LABEL, renamed(labels, n, next, word));
+    put_part(nodes, to, word, NO_WIRE, NO_LABEL, renaming.number_of(word));
 }
 
-// The result of a closed circuit with n inputs is loaded as the nodes of a tuple, from a node on, with its wires renamed: an
-// input becomes the label at its place, the others follow on from the next number.
+// The result of a closed circuit is loaded as the nodes of a tuple, from a node on, with its wires renamed.
 pub fn load_result(
     res: &[u8],
     from: usize,
     count: usize,
     nodes: &mut [u8],
     to: usize,
-    labels: &[u8],
-    n: usize,
-    next: usize,
+    renaming: Renaming,
 )
-    ensures { (k : Tuple) (m : ℕ) → ResultFits k m (words res.now) from count (length (nodes_in nodes.old)) to (length (words labels.now)) n next
-        → nodes_in nodes.new ≡ over (nodes_in nodes.old) to (result_nodes k (take n (words labels.now)) next) }
+    ensures { let r = renaming.entry in (k : Tuple) (m : ℕ)
+        → ResultFits k m (words res.now) from count (length (nodes_in nodes.old)) to (length (words r.labels.now)) r.inputs r.next
+        → nodes_in nodes.new ≡ over (nodes_in nodes.old) to (result_nodes k (labels_of r) r.next) }
 {
-    if runs_past(res.len() / 2, from, count) {
+    if runs_past(res.len() / 2, from, count) || runs_past(nodes.len() / 4, to, count) {
         return;
     }
-    if runs_past(nodes.len() / 4, to, count) {
-        return;
-    }
-    if NO_WIRE < next {
-        return;
-    }
-    let mut i: usize = 0;
-    while i < count {
-        let word = words::get(res, from + i);
-        load_node(word, nodes, to + i, labels, n, next);
-        i += 1;
+    for i in 0..count {
+        load_node(words::get(res, from + i), nodes, to + i, renaming);
     }
 }
 
-// How many codes a source has.
-fn code_count(types: &[u8], source: Source) -> usize
-    ensures { result ≡ length (codes_of (words types.now) source) }
-{
-    match source {
-        Source::Section => types.len() / 2,
-        Source::Gate(number) => rules::type_entries(number),
-    }
-}
-
-// Code i of a source.
-fn code_in(types: &[u8], source: Source, i: usize) -> usize
-    ensures { i < length (codes_of (words types.now) source) → result ≡ get_or (codes_of (words types.now) source) i 0 }
-{
-    match source {
-        Source::Section => words::get(types, i),
-        Source::Gate(number) => rules::type_code(number, i) as usize,
-    }
-}
-
-// Where the type at a position ends: behind each entry its parts wait, the first of them at hand.
-fn type_end(types: &[u8], source: Source, position: usize) -> usize
-    ensures { result ≡ position + code_span (drop position (codes_of (words types.now) source)) 1 }
-{
-    let end = code_count(types, source);
-    let mut waiting: usize = 0;
-    let mut i: usize = position;
-    while i < end {
-        let parts = parts_of_kind(code_in(types, source, i));
-        if 0 < parts {
-            waiting += parts - 1;
-            i += 1;
-        } else if 0 < waiting {
-            waiting -= 1;
-            i += 1;
-        } else {
-            return i + 1;
+impl Source<'_> {
+    // How many codes it has.
+    fn count(self) -> usize
+        ensures { result ≡ length (codes_of self.entry) }
+    {
+        match self {
+            Source::Section(types) => types.len() / 2,
+            Source::Gate(number) => rules::type_entries(number),
         }
     }
-    i
+
+    // Its code i.
+    fn code(self, i: usize) -> usize
+        ensures { i < length (codes_of self.entry) → result ≡ get_or (codes_of self.entry) i 0 }
+    {
+        match self {
+            Source::Section(types) => words::get(types, i),
+            Source::Gate(number) => rules::type_code(number, i) as usize,
+        }
+    }
+
+    // Where the type at a position ends: behind each entry its parts wait, the first of them at hand. subtree_end of machine_nodes counts
+    // parts likewise, but from one that waits and over kinds of nodes, of which a number that is none has parts too.
+    fn type_end(self, position: usize) -> usize
+        ensures { result ≡ position + code_span (drop position (codes_of self.entry)) 1 }
+    {
+        let end = self.count();
+        let mut waiting: usize = 0;
+        for i in position..end {
+            match parts_of_kind(self.code(i)) {
+                0 if waiting == 0 => return i + 1,
+                0 => waiting -= 1,
+                parts => waiting += parts - 1,
+            }
+        }
+        end.max(position)
+    }
 }
 
 // A type's entry becomes a node of the tuple of its wires, with this label if it is a wire; answers the next label.
@@ -200,22 +178,17 @@ fn put_code(nodes: &mut [u8], to: usize, code: usize, label: usize) -> usize
     ensures nodes_after { nodes_in nodes.new ≡ set (nodes_in nodes.old) to (node_of_code label code) }
     ensures value { result ≡ label_after label code }
 {
-    if code == PAIR_TYPE {
-        put_node(nodes, to, PAIR, 0);
-        return label;
+    put_part(nodes, to, code, PAIR_TYPE, UNIT, label);
+    if code == PAIR_TYPE || code == UNIT {
+        label
+    } else {
+        label + 1
     }
-    if code == UNIT {
-        put_node(nodes, to, UNIT_VALUE, 0);
-        return label;
-    }
-    put_node(nodes, to, LABEL, label);
-    label + 1
 }
 
 // The tuple of the wires of the type at a position, which has so many entries, is written from a node on, its labels numbered
 // from the first on.
 fn write_type(
-    types: &[u8],
     source: Source,
     position: usize,
     count: usize,
@@ -223,29 +196,18 @@ fn write_type(
     to: usize,
     first: usize,
 ) -> TupleSize
-    requires count_in_bounds { count ≤ length (codes_of (words types.now) source) - position }
+    requires count_in_bounds { count ≤ length (codes_of source) - position }
     requires count_bound { position + count < 2 ^ 64 }
-    ensures { (T : Ty) → Truth (is_wire_type T) → Stands (codes_of (words types.now) source) position (type_codes T) → count ≡ entries T
+    ensures { (T : Ty) → Truth (is_wire_type T) → Stands (codes_of source.entry) position (type_codes T) → count ≡ entries T
         → to + entries T ≤ length (nodes_in nodes.old) → first + length (wires T) ≤ no_wire
         → TupleWritten T first (nodes_in nodes.old) (nodes_in nodes.new) to result.nodes result.labels }
 {
-    if runs_past(nodes.len() / 4, to, count) {
-        return TupleSize {
-            nodes: 0,
-            labels: 0,
-        };
-    }
-    if NO_WIRE < first {
-        return TupleSize {
-            nodes: 0,
-            labels: 0,
-        };
+    if runs_past(nodes.len() / 4, to, count) || NO_WIRE < first {
+        return TupleSize::default();
     }
     let mut label = first;
-    let mut i: usize = 0;
-    while i < count {
-        label = put_code(nodes, to + i, code_in(types, source, position + i), label);
-        i += 1;
+    for i in 0..count {
+        label = put_code(nodes, to + i, source.code(position + i), label);
     }
     TupleSize {
         nodes: count,
@@ -257,7 +219,7 @@ fn write_type(
 pub fn type_size(types: &[u8], position: usize) -> usize
     ensures { result ≡ code_span (drop position (words types.now)) 1 }
 {
-    type_end(types, Source::Section, position) - position
+    Source::Section(types).type_end(position) - position
 }
 
 // The tuple of the wires of the type at a position of the type section, which has so many entries, is written from a node on,
@@ -274,20 +236,17 @@ pub fn write_tuple(
         → to + entries T ≤ length (nodes_in nodes.old) → first + length (wires T) ≤ no_wire
         → TupleWritten T first (nodes_in nodes.old) (nodes_in nodes.new) to result.nodes result.labels }
 {
-    if saturating_sub(types.len() / 2, position) < count {
-        return TupleSize {
-            nodes: 0,
-            labels: 0,
-        };
+    if (types.len() / 2).saturating_sub(position) < count {
+        return TupleSize::default();
     }
-    write_type(types, Source::Section, position, count, nodes, to, first)
+    write_type(Source::Section(types), position, count, nodes, to, first)
 }
 
 // Where the type of a gate's output starts: behind the first entry of the gate's type, Circ, and the type of its input.
 fn output_start(number: usize) -> usize
     ensures { result ≡ 1 + code_span (drop 1 (circ_codes (gate_type number))) 1 }
 {
-    type_end(&[], Source::Gate(number), 1)
+    Source::Gate(number).type_end(1)
 }
 
 // How many nodes the tuple of the wires that a gate makes has: one for each entry of its output's type, which takes all
@@ -295,7 +254,7 @@ fn output_start(number: usize) -> usize
 pub fn output_size(number: usize) -> usize
     ensures { (T U : Ty) → gate_type number ≡ some (gate_from T U) → result ≡ entries U }
 {
-    saturating_sub(rules::type_entries(number), output_start(number))
+    rules::type_entries(number).saturating_sub(output_start(number))
 }
 
 // The tuple of the wires that a gate makes is written from a node on, its labels numbered from the next number on.
@@ -305,6 +264,6 @@ pub fn write_outputs(nodes: &mut [u8], to: usize, number: usize, next: usize) ->
         → TupleWritten U next (nodes_in nodes.old) (nodes_in nodes.new) to result.nodes result.labels }
 {
     let start = output_start(number);
-    let count = saturating_sub(rules::type_entries(number), start);
-    write_type(&[], Source::Gate(number), start, count, nodes, to, next)
+    let count = rules::type_entries(number).saturating_sub(start);
+    write_type(Source::Gate(number), start, count, nodes, to, next)
 }

@@ -3,8 +3,7 @@ use Rattle.std.specs.Prelude.{ℕ, ◌≤◌, ◌+◌, ◌≡◌, false, List, m
 use Rattle.rules.specs.Types.{wire_code}
 use Rattle.rules.specs.Sizes.{most_nodes, most_labels, most_types}
 use Rattle.rules.specs.Steps.{start}
-use Rattle.program.specs.Reading.{read_of}
-use Rattle.program.specs.declared.ReadAnswer.TheVariants.{Accepted}
+use Rattle.program.specs.Reading.{read_of, accepted as read_accepted}
 use Rattle.machine_terms.specs.Trees.{Node}
 use Rattle.machine_terms.specs.States.{start_state, decode, StateFits}
 use Rattle.check_program.specs.Answers.{labels_of, term_of}
@@ -42,7 +41,7 @@ pub record Started (f : List ℕ) (positions : ℕ) (m : Memory) (r : StateNumbe
 abbrev pub Loads : List ℕ → List Node → List ℕ → List Quadword → StateNumbers → Type 0
 Loads f ns ws fs r =
     (L P N : ℕ) (rs : List Quadword) (gs cs : List Quadword) (results : ℕ → List ℕ)
-    → read_of f ≡ Accepted L P N
+    → read_of f ≡ read_accepted L P N
     → least_nodes ≤ length ns
     → most_nodes ≤ length rs
     → least_types ≤ length ws

@@ -27,25 +27,22 @@ fn load_terms(file: &[u8], nodes: &mut [u8], first: usize, terms: usize, to: usi
     requires { (first + terms ≡ entry_count file.now) × (first < 131072) × (terms < 65536) × (to + terms ≤ length (nodes_in nodes.old)) }
     ensures { nodes_in nodes.new ≡ over (nodes_in nodes.old) to (values_from (node_from file.now) first terms) }
 {
-    let mut i: usize = 0;
-    while i < terms {
+    for i in 0..terms {
         let kind = kind_at(file, first + i);
         let argument = argument_at(file, first + i);
         put_node(nodes, to + i, kind, argument);
-        i += 1;
     }
 }
 
 // Writes the kinds of so many entries, from entry `from` on, as words from word `to` on; past the end nothing is written.
+// Not one function with `load_terms`: a closure that writes an entry would need a longer contract than the loop.
 fn load_kinds(file: &[u8], types: &mut [u8], from: usize, count: usize, to: usize)
     requires { (from < 65536) × (count < 65536) × (to < 65536) }
     ensures { to + count ≤ length (words types.old)
         → words types.new ≡ over (words types.old) to (values_from (kind_at file.now) from count) }
 {
-    let mut i: usize = 0;
-    while i < count {
+    for i in 0..count {
         words::put(types, to + i, kind_at(file, from + i));
-        i += 1;
     }
 }
 

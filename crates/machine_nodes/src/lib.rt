@@ -5,7 +5,6 @@
 #![tactic(auto)]
 
 ghost use Rattle.std.specs.Prelude.{◌+◌, ◌*◌, ◌/◌, ◌<◌, ◌≤◌, ◌≡◌, [], ◌∷◌, length, drop};
-ghost use Rattle.words.specs.Numbers.{word_at};
 ghost use Rattle.words.specs.Words.{put_words};
 ghost use Rattle.machine_terms.specs.Trees.{kind, argument, parts};
 ghost use Rattle.machine_nodes.specs.Nodes.{nodes_in, node_at};
@@ -14,13 +13,20 @@ ghost use Rattle.machine_nodes.specs.Copying.{copied, copy_nodes};
 
 use rules::kinds::{CONSTANT, UNIT_VALUE, VARIABLE};
 use rules::parts::parts_of_kind;
+use words::runs_past;
 
-// The word at a byte of a node: no test of the length is left to the compiled code, which reads a node at each move of the walk.
-fn word_of(nodes: &[u8], at: usize) -> usize
-    requires { at + 1 < length nodes.now }
-    ensures value { result ≡ word_at nodes.now at }
+// Word k of node i; 0 past the end. No other test of the length is left to the compiled code, which reads a node at each move of
+// the walk.
+fn word_of(nodes: &[u8], i: usize, k: usize) -> usize
+    requires { k < 2 }
+    ensures of_kind { k ≡ 0 → result ≡ kind (node_at (nodes_in nodes.now) i) }
+    ensures of_argument { k ≡ 1 → result ≡ argument (node_at (nodes_in nodes.now) i) }
     ensures upper_bound { result < 65536 }
 {
+    if nodes.len() / 4 <= i {
+        return 0;
+    }
+    let at = 4 * i + 2 * k;
     nodes[at] as usize + 256 * (nodes[at + 1] as usize)
 }
 
@@ -29,11 +35,7 @@ pub fn kind_at(nodes: &[u8], i: usize) -> usize
     ensures value { result ≡ kind (node_at (nodes_in nodes.now) i) }
     ensures upper_bound { result < 65536 }
 {
-    let n = nodes.len() / 4;
-    if n <= i {
-        return 0;
-    }
-    word_of(nodes, 4 * i)
+    word_of(nodes, i, 0)
 }
 
 // The argument of node i; 0 past the end.
@@ -41,14 +43,11 @@ pub fn argument_at(nodes: &[u8], i: usize) -> usize
     ensures value { result ≡ argument (node_at (nodes_in nodes.now) i) }
     ensures upper_bound { result < 65536 }
 {
-    let n = nodes.len() / 4;
-    if n <= i {
-        return 0;
-    }
-    word_of(nodes, 4 * i + 2)
+    word_of(nodes, i, 1)
 }
 
-// Node i becomes this one; past the end nothing changes. The nodes then: node_put of proofs/Laws/Nodes.antt.
+// Node i becomes this one; past the end nothing changes. The nodes then: node_put of proofs/Laws/Nodes.antt. Byte by byte: for each word a
+// cast, a slice and a copy would be no plainer.
 pub fn put_node(nodes: &mut [u8], i: usize, kind: usize, argument: usize)
     ensures { nodes.new ≡ put_words 2 nodes.old i (kind ∷ argument ∷ []) }
 {
@@ -63,18 +62,17 @@ pub fn put_node(nodes: &mut [u8], i: usize, kind: usize, argument: usize)
     nodes[at + 3] = (argument / 256 % 256) as u8;
 }
 
-// How many parts follow a kind; 3 for a number that is no kind.
+// How many parts follow a kind; 3 for a number that is no kind, as the definition `parts` has it.
+#[tactic(auto, using(rules::proofs::Laws::Parts::at_most_two_lem), unfolding(machine_terms::specs::Trees::parts))]
 pub fn parts_of(kind: usize) -> usize
     ensures value { result ≡ parts kind }
     ensures upper_bound { result ≤ 3 }
 {
-    if kind < VARIABLE {
-        return 3;
+    match kind {
+        VARIABLE..=UNIT_VALUE => parts_of_kind(kind),
+        CONSTANT => 0,
+        _ => 3,
     }
-    if kind <= UNIT_VALUE {
-        return parts_of_kind(kind);
-    }
-    if kind == CONSTANT { 0 } else { 3 }
 }
 
 // Where the tree ends that starts at a node: the place behind its last node.
@@ -83,15 +81,13 @@ pub fn subtree_end(nodes: &[u8], at: usize) -> usize
 {
     let n = nodes.len() / 4;
     let mut waiting: usize = 1;
-    let mut i = at;
-    while i < n {
+    for i in at..n {
         if waiting == 0 {
             return i;
         }
         waiting = waiting + parts_of(kind_at(nodes, i)) - 1;
-        i += 1;
     }
-    i
+    at.max(n)
 }
 
 // A node is copied to another place. All its bytes are read before one is written: the compiler then moves them as one.
@@ -116,25 +112,21 @@ fn copy_few(nodes: &mut [u8], from: usize, to: usize, count: usize)
     requires { (from + count ≤ length nodes.old / 4) × (to + count ≤ length nodes.old / 4) }
     ensures { nodes.new ≡ copied nodes.old (4 * from) (4 * to) (4 * count) }
 {
-    let mut i: usize = 0;
-    while i < count {
+    for i in 0..count {
         copy_node(nodes, from + i, to + i);
-        i += 1;
     }
 }
 
-// Nodes are copied byte by byte: the compiler then moves many bytes at a time.
+// Nodes are copied byte by byte: the compiler then moves many bytes at a time. `copy_within` gives other bytes than `copied` of
+// specs/Copying where the other place is behind the first and before the last of them.
 fn copy_many(nodes: &mut [u8], from: usize, to: usize, count: usize)
     requires { (from + count ≤ length nodes.old / 4) × (to + count ≤ length nodes.old / 4) }
     ensures { nodes.new ≡ copied nodes.old (4 * from) (4 * to) (4 * count) }
 {
     let source = 4 * from;
     let at = 4 * to;
-    let size = 4 * count;
-    let mut i: usize = 0;
-    while i < size {
+    for i in 0..4 * count {
         nodes[at + i] = nodes[source + i];
-        i += 1;
     }
 }
 
@@ -143,20 +135,12 @@ const FEW: usize = 5;
 
 // So many nodes are copied from one place to another, the first one first. Where they do not stand in the buffer, or there is
 // no room for them, nothing changes. The nodes then: nodes_copied of proofs/Laws/Bytes.antt.
+#[tactic(auto, unfolding(crate::specs::Copying::copy_nodes))]
 pub fn copy_nodes(nodes: &mut [u8], from: usize, to: usize, count: usize)
     ensures { nodes.new ≡ copy_nodes nodes.old from to count }
 {
     let n = nodes.len() / 4;
-    if n < from {
-        return;
-    }
-    if n < to {
-        return;
-    }
-    if n - from < count {
-        return;
-    }
-    if n - to < count {
+    if runs_past(n, from, count) || runs_past(n, to, count) {
         return;
     }
     if count < FEW {

@@ -1,2 +1,3 @@
 pub mod Memory
 pub mod Outcomes
+pub mod Buffers

@@ -1,5 +1,5 @@
 -- What a step on lent memory has to do: the contract that all step functions have.
-use Rattle.std.specs.Prelude.{ℕ, ◌+◌, ◌≤◌, List, ◌∷◌, ◌++◌, length}
+use Rattle.std.specs.Prelude.{ℕ, ◌+◌, ◌≤◌, List, ◌∷◌, ◌++◌, length, Option, Some, None}
 use Rattle.rules.specs.Types.{Ty}
 use Rattle.rules.specs.Terms.{Boxed}
 use Rattle.rules.specs.Circuits.{Circuit}
@@ -9,8 +9,6 @@ use Rattle.machine_terms.specs.Walks.{Walk, left, right, Stop, Stopped}
 use Rattle.machine_terms.specs.States.{State, state, decode, open_gates, StateFits}
 use Rattle.machine_terms.specs.Forms.{Contracts}
 use Rattle.machine_state.specs.declared.StateNumbers.{StateNumbers}
-use Rattle.machine_state.specs.declared.Stepped.{Stepped}
-use Rattle.machine_state.specs.declared.Stepped.TheVariants.{Taken, TooLarge}
 use Rattle.machine_state.specs.Memory.{Memory, HoldsState}
 
 -- The nodes of all frames.
@@ -39,13 +37,13 @@ pub record AtStop (types : ℕ → Ty) (positions : ℕ) (A : Ty) (m : Memory) (
 
 -- The step to s' is taken, it fits, and the memory holds s'; or it does not fit, and with the same numbers the memory
 -- holds the state that it held before.
-abbrev pub Outcome : (ℕ → Ty) → ℕ → ℕ → StateNumbers → Memory → Memory → State → Stepped → Type 0
-Outcome types positions allowance r m m' s' (Taken r') = SizesFit allowance s' × HoldsState types positions m' r' s'
-Outcome types positions allowance r m m' s' TooLarge =
+abbrev pub Outcome : (ℕ → Ty) → ℕ → ℕ → StateNumbers → Memory → Memory → State → Option StateNumbers → Type 0
+Outcome types positions allowance r m m' s' (Some r') = SizesFit allowance s' × HoldsState types positions m' r' s'
+Outcome types positions allowance r m m' s' None =
     (SizesFit allowance s' → ⊥) × ((s : State) → HoldsState types positions m r s → HoldsState types positions m' r s)
 
 -- The contract of the step at a stop: from the memory m to the memory m', for every typed state that m holds.
-abbrev pub Steps : Stop → ℕ → Memory → Memory → StateNumbers → Stepped → Type 0
+abbrev pub Steps : Stop → ℕ → Memory → Memory → StateNumbers → Option StateNumbers → Type 0
 Steps stop allowance m m' r answer =
     (types : ℕ → Ty) (positions : ℕ) (A : Ty) (s s' : State)
     → allowance ≤ most_gates

@@ -1,9 +1,13 @@
 // The numbers that a state in lent memory has beside its buffers, and what a step on it answers.
+// A step answers the numbers of the next state, or None where the next configuration would exceed a size; then the configuration is
+// as before.
 // Nothing to believe. HoldsState (specs/Memory) says which state the memory holds with its numbers; Steps (specs/Outcomes) is the
 // one contract of all six kinds of step.
 // Main laws: proofs/Laws/Frames, which writes keep the frames.
 // Used by loading, the steps, the machine and the run.
 #![tactic(auto)]
+
+ghost use Rattle.std.specs.Prelude.{◌+◌, ◌≡◌, ltb};
 
 use machine_walk::Place;
 
@@ -29,9 +33,33 @@ pub struct StateNumbers {
     pub counts: Counts,
 }
 
-// A step is taken; or the next configuration would exceed a size, and the configuration is as before.
+// The lent buffers in which a state stands, apart from those that hold nothing between steps. Each contract of a function that takes it
+// says SameBuffers: what holds a `&mut` has to say that it is still the caller's. Functions that need some of the buffers take these one
+// by one: on the struct they would have to say of each other buffer that it is as it was.
 #[derive(Drop)]
-pub enum Stepped {
-    Taken(StateNumbers),
-    TooLarge,
+pub struct Buffers<'a> {
+    // The nodes of all frames, walked and still to be walked.
+    pub nodes: &'a mut [u8],
+    // The stack of opened nodes.
+    pub stack: &'a mut [u8],
+    // The codes of the file's types.
+    pub types: &'a [u8],
+    // The frames.
+    pub frames: &'a mut [u8],
+    // The gates of the open and of the closed circuits.
+    pub gates: &'a mut [u8],
+    // The closed circuits.
+    pub circuits: &'a mut [u8],
+    // Their results, 64 in each buffer.
+    pub results0: &'a mut [u8],
+    pub results1: &'a mut [u8],
+    pub results2: &'a mut [u8],
+    pub results3: &'a mut [u8],
+}
+
+// Do three numbers together exceed a limit? No sum is made, since one could wrap.
+pub fn exceed(limit: usize, a: usize, b: usize, c: usize) -> bool
+    ensures { result ≡ ltb limit (a + b + c) }
+{
+    limit < a || limit - a < b || limit - a - b < c
 }

@@ -4,20 +4,17 @@
 // Called by the machine.
 #![tactic(auto)]
 
-ghost use Rattle.std.specs.Prelude.{ℕ, ◌≤◌, ◌<◌, List, length};
+ghost use Rattle.std.specs.Prelude.{◌≤◌, ◌<◌, length};
 ghost use Rattle.rules.specs.Types.{most_entries};
 ghost use Rattle.rules.specs.Sizes.{most_nodes};
 ghost use Rattle.words.specs.Words.{words};
 ghost use Rattle.machine_terms.specs.Walks.{at_apply};
-ghost use Rattle.machine_nodes.specs.Nodes.{nodes_in};
 ghost use Rattle.machine_walk.specs.Places.{stop_of};
-ghost use Rattle.words.specs.Quadwords.{quadwords_in};
-ghost use Rattle.machine_circuits.specs.Layout.{four_results};
-ghost use Rattle.machine_state.specs.Memory.{memory};
+ghost use Rattle.machine_state.specs.Buffers.{memory_in, SameBuffers};
 ghost use Rattle.machine_state.specs.Outcomes.{Steps};
 
 use machine_nodes::kind_at;
-use machine_state::{StateNumbers, Stepped};
+use machine_state::{Buffers, StateNumbers};
 use machine_walk::Stop;
 use machine_walk::stack::stack_node;
 use rules::kinds::GATE;
@@ -31,78 +28,52 @@ use step_reductions::{application, force, let_in};
 fn apply(
     allowance: usize,
     numbers: StateNumbers,
-    nodes: &mut [u8],
-    stack: &[u8],
+    buffers: &mut Buffers,
     labels: &mut [u8],
-    frames: &mut [u8],
-    gates: &mut [u8],
-    circuits: &[u8],
-    results0: &[u8],
-    results1: &[u8],
-    results2: &[u8],
-    results3: &[u8],
-) -> Stepped
-    ensures { most_entries ≤ length (words labels.old) → (ws : List ℕ) → Steps at_apply allowance
-        (memory (nodes_in nodes.old) (quadwords_in stack.now) (quadwords_in gates.old) (quadwords_in circuits.now) (quadwords_in frames.old) ws
-        (four_results (words results0.now) (words results1.now) (words results2.now) (words results3.now)))
-        (memory (nodes_in nodes.new) (quadwords_in stack.now) (quadwords_in gates.new) (quadwords_in circuits.now) (quadwords_in frames.new) ws
-        (four_results (words results0.now) (words results1.now) (words results2.now) (words results3.now)))
-        numbers result }
+) -> Option<StateNumbers>
+    ensures same_buffers { SameBuffers buffers.old buffers.new }
+    ensures steps { most_entries ≤ length (words labels.old)
+        → Steps at_apply allowance (memory_in buffers.old) (memory_in buffers.new) numbers result }
 {
-    let place = numbers.place;
-    let depth = place.depth;
-    if depth == 0 {
-        return Stepped::TooLarge;
-    }
-    let at = stack_node(stack, depth - 1);
+    let top = numbers.place.depth.checked_sub(1)?;
+    let nodes = &mut *buffers.nodes;
+    let stack = &mut *buffers.stack;
+    let at = stack_node(stack, top);
     if kind_at(nodes, at + 1) == GATE {
+        let gates = &mut *buffers.gates;
+        let frames = &mut *buffers.frames;
         apply_gate(nodes, stack, labels, gates, frames, numbers, allowance)
     } else {
-        apply_constant(
-            nodes, stack, labels, gates, circuits, frames, results0, results1, results2, results3,
-            numbers, allowance,
-        )
+        apply_constant(buffers, labels, numbers, allowance)
     }
 }
 
-// The step at a stop. There is none at the end, and none at a variable, where no typed program stops.
+// The step at a stop. There is none at the end, and none at a variable, where no typed program stops. It is a match, since the stops are
+// a closed enum and each step borrows other buffers.
 pub fn step(
     stop: Stop,
     allowance: usize,
     numbers: StateNumbers,
-    nodes: &mut [u8],
-    stack: &mut [u8],
+    buffers: &mut Buffers,
     waiting: &mut [u8],
     labels: &mut [u8],
-    types: &[u8],
-    frames: &mut [u8],
-    gates: &mut [u8],
-    circuits: &mut [u8],
-    results0: &mut [u8],
-    results1: &mut [u8],
-    results2: &mut [u8],
-    results3: &mut [u8],
-) -> Stepped
-    ensures { most_nodes < length (words waiting.old) → most_entries ≤ length (words labels.old) → Steps (stop_of stop) allowance
-        (memory (nodes_in nodes.old) (quadwords_in stack.old) (quadwords_in gates.old) (quadwords_in circuits.old) (quadwords_in frames.old) (words types.now)
-        (four_results (words results0.old) (words results1.old) (words results2.old) (words results3.old)))
-        (memory (nodes_in nodes.new) (quadwords_in stack.new) (quadwords_in gates.new) (quadwords_in circuits.new) (quadwords_in frames.new) (words types.now)
-        (four_results (words results0.new) (words results1.new) (words results2.new) (words results3.new)))
-        numbers result }
+) -> Option<StateNumbers>
+    ensures same_buffers { SameBuffers buffers.old buffers.new }
+    ensures steps { most_nodes < length (words waiting.old) → most_entries ≤ length (words labels.old)
+        → Steps (stop_of stop) allowance (memory_in buffers.old) (memory_in buffers.new) numbers result }
 {
+    let nodes = &mut *buffers.nodes;
+    let stack = &mut *buffers.stack;
     match stop {
         Stop::AtApplication => application(nodes, stack, waiting, numbers),
         Stop::AtLet => let_in(nodes, stack, waiting, numbers),
-        Stop::AtForce => force(nodes, stack, numbers),
-        Stop::AtBox => open_box(nodes, stack, types, frames, numbers),
-        Stop::AtApply => apply(
-            allowance, numbers, nodes, stack, labels, frames, gates, circuits, results0, results1,
-            results2, results3,
-        ),
-        Stop::AtExit => close_box(
-            nodes, stack, gates, circuits, frames, results0, results1, results2, results3, numbers,
-        ),
-        Stop::AtEnd => Stepped::TooLarge,
-        Stop::AtVariable => Stepped::TooLarge,
+        Stop::AtForce => Some(force(nodes, stack, numbers)),
+        Stop::AtBox => {
+            let frames = &mut *buffers.frames;
+            open_box(nodes, stack, buffers.types, frames, numbers)
+        }
+        Stop::AtApply => apply(allowance, numbers, buffers, labels),
+        Stop::AtExit => close_box(buffers, numbers),
+        Stop::AtEnd | Stop::AtVariable => None,
     }
 }

@@ -1,5 +1,5 @@
 -- Where the nodes stand that a node becomes.
-use Rattle.std.specs.Prelude.{ℕ, zero, suc, ◌+◌, ◌-◌, ◌≤◌, cond, ◌⊎◌, eqb, ltb}
+use Rattle.std.specs.Prelude.{ℕ, zero, suc, ◌+◌, ◌-◌, ◌≤◌, cond, ◌⊎◌, eqb, ltb, unwrap_or}
 use Rattle.rules.specs.Kinds.{variable_kind}
 use Rattle.machine_terms.specs.Trees.{Node, kind, argument}
 use Rattle.machine_substitution.specs.declared.Region.{Region}
@@ -12,7 +12,7 @@ node_region place = record { start = place; length = 1 }
 -- The value of free variable a, counted from the first; where there is none, the variable stays, at its place.
 abbrev pub value_region : Values → ℕ → ℕ → Region
 value_region values zero place = values.first
-value_region values (suc zero) place = cond values.two values.second (node_region place)
+value_region values (suc zero) place = unwrap_or values.second (node_region place)
 value_region values (suc (suc a)) place = node_region place
 
 -- What variable a becomes under b binders.

@@ -1,5 +1,5 @@
 -- Substitution on the nodes of a forest in preorder, with the number of binders around each part that is waited for.
-use Rattle.std.specs.Prelude.{ℕ, zero, suc, cond, List, [], ◌∷◌, ◌++◌, eqb, take, drop}
+use Rattle.std.specs.Prelude.{ℕ, zero, suc, cond, List, [], ◌∷◌, ◌++◌, eqb, take, drop, option_map, option_to_list}
 use Rattle.rules.specs.Kinds.{variable_kind}
 use Rattle.machine_terms.specs.Trees.{Node, kind, argument, parts, one_kind, two_kind, binders_one, binders_two}
 use Rattle.machine_substitution.specs.declared.Region.{Region}
@@ -45,7 +45,7 @@ nodes_of_region ns r = take r.length (drop r.start ns)
 
 -- The nodes of the values: one for an abstraction, two for let.
 abbrev pub nodes_of_values : List Node → Values → List (List Node)
-nodes_of_values ns v = nodes_of_region ns v.first ∷ cond v.two (nodes_of_region ns v.second ∷ []) []
+nodes_of_values ns v = nodes_of_region ns v.first ∷ option_to_list (option_map (nodes_of_region ns) v.second)
 
 -- The nodes of the reduct: those of the source, a body without binders around it, with the values put in.
 unfoldable pub reduct : List Node → Region → Values → List Node

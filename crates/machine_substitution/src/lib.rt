@@ -14,7 +14,9 @@ ghost use Rattle.machine_substitution.specs.Waiting.{stack_of, binders_of};
 ghost use Rattle.machine_substitution.specs.Pieces.{piece_region};
 ghost use Rattle.machine_substitution.specs.Reducts.{Ready, NextPiece, Wrote};
 
+use machine_nodes::{argument_at, copy_nodes, kind_at, parts_of};
 use rules::kinds::{ABSTRACTION, LET, VARIABLE};
+use words::{get, put};
 
 // Some nodes of the buffer: from a place on, so many.
 #[derive(Clone, Copy)]
@@ -31,16 +33,7 @@ pub struct Values {
     // The value of variable 0.
     pub first: Region,
     // The value of variable 1, if there are two.
-    pub second: Region,
-    // Whether there are two.
-    pub two: bool,
-}
-
-// How many nodes the reduct has, if they are not too many.
-#[derive(Drop)]
-pub enum Size {
-    Nodes(usize),
-    TooMany,
+    pub second: Option<Region>,
 }
 
 // What a node becomes, and how many parts are waited for behind it.
@@ -53,16 +46,15 @@ struct Next {
 }
 
 // How many binders a node of a kind puts around its last part.
+#[tactic(auto, using(std::proofs::lemmas::Bool::Decides::nat_tests), unfolding(crate::specs::Waiting::binders_of))]
 fn binders_of(kind: usize) -> usize
     ensures { result ≡ binders_of kind }
 {
-    if kind == ABSTRACTION {
-        return 1;
+    match kind {
+        ABSTRACTION => 1,
+        LET => 2,
+        _ => 0,
     }
-    if kind == LET {
-        return 2;
-    }
-    0
 }
 
 // The parts of a node of a kind, which stands under so many binders, are waited for: the first one on top.
@@ -72,21 +64,23 @@ fn wait_for_parts(waiting: &mut [u8], depth: usize, kind: usize, binders: usize)
     ensures result_after { depth + 1 < length (words waiting.old) → binders + 2 < 65536
         → stack_of (words waiting.new) result ≡ waiting_after kind binders (stack_of (words waiting.old) depth) }
 {
-    let parts = machine_nodes::parts_of(kind);
     let last = binders + binders_of(kind);
-    if parts == 1 {
-        words::put(waiting, depth, last);
-        return depth + 1;
+    match parts_of(kind) {
+        1 => {
+            put(waiting, depth, last);
+            depth + 1
+        }
+        2 => {
+            put(waiting, depth, last);
+            put(waiting, depth + 1, binders);
+            depth + 2
+        }
+        _ => depth,
     }
-    if parts == 2 {
-        words::put(waiting, depth, last);
-        words::put(waiting, depth + 1, binders);
-        return depth + 2;
-    }
-    depth
 }
 
 // Where the nodes stand that the node at a place becomes: itself, or a value.
+#[tactic(auto, using(std::proofs::lemmas::Bool::Decides::nat_tests), unfolding(crate::specs::Pieces::piece_region, crate::specs::Pieces::variable_region))]
 fn piece_for(values: Values, kind: usize, argument: usize, binders: usize, place: usize) -> Region
     ensures { result ≡ piece_region values binders (node kind argument) place }
 {
@@ -94,26 +88,14 @@ fn piece_for(values: Values, kind: usize, argument: usize, binders: usize, place
         start: place,
         length: 1,
     };
-    if kind != VARIABLE {
+    if kind != VARIABLE || argument < binders {
         return own;
     }
-    if argument < binders {
-        return own;
+    match argument - binders {
+        0 => values.first,
+        1 => values.second.unwrap_or(own),
+        _ => own,
     }
-    let index = argument - binders;
-    if 1 < index {
-        return own;
-    }
-    if index == 0 {
-        let first = values.first;
-        return first;
-    }
-    let two = values.two;
-    if two {
-        let second = values.second;
-        return second;
-    }
-    own
 }
 
 // What the node at a place becomes, which is the first of the parts that are waited for.
@@ -122,9 +104,9 @@ fn next_piece(nodes: &[u8], waiting: &mut [u8], place: usize, depth: usize, valu
     ensures { NextPiece (nodes_in nodes.now) (words waiting.old) (words waiting.new)
         values place depth result.piece result.depth }
 {
-    let binders = words::get(waiting, depth - 1);
-    let kind = machine_nodes::kind_at(nodes, place);
-    let argument = machine_nodes::argument_at(nodes, place);
+    let binders = get(waiting, depth - 1);
+    let kind = kind_at(nodes, place);
+    let argument = argument_at(nodes, place);
     let piece = piece_for(values, kind, argument, binders, place);
     let depth = wait_for_parts(waiting, depth - 1, kind, binders);
     Next { piece, depth }
@@ -139,44 +121,29 @@ pub fn write_reduct(
     values: Values,
     to: usize,
     most: usize,
-) -> Size
+) -> Option<usize>
     ensures { Ready (nodes_in nodes.old) (length (words waiting.old)) to most source values
         → Wrote (nodes_in nodes.old) (nodes_in nodes.new) source values to most result }
 {
     let n = nodes.len() / 4;
-    let start = source.start;
-    let count = source.length;
-    if n < start {
-        return Size::TooMany;
+    if n.checked_sub(source.start)? < source.length || n.checked_sub(to)? < most {
+        return None;
     }
-    if n - start < count {
-        return Size::TooMany;
-    }
-    if n < to {
-        return Size::TooMany;
-    }
-    if n - to < most {
-        return Size::TooMany;
-    }
-    words::put(waiting, 0, 0);
-    let mut depth: usize = 1;
-    let mut size: usize = 0;
-    let mut i: usize = 0;
-    while i < count {
+    put(waiting, 0, 0);
+    let mut depth = 1;
+    let mut size = 0;
+    for i in 0..source.length {
         if depth == 0 {
-            return Size::Nodes(size);
+            break;
         }
-        let next = next_piece(nodes, waiting, start + i, depth, values);
+        let next = next_piece(nodes, waiting, source.start + i, depth, values);
         let piece = next.piece;
-        let from = piece.start;
-        let more = piece.length;
-        if most - size < more {
-            return Size::TooMany;
+        if most - size < piece.length {
+            return None;
         }
-        machine_nodes::copy_nodes(nodes, from, to + size, more);
-        size += more;
+        copy_nodes(nodes, piece.start, to + size, piece.length);
+        size += piece.length;
         depth = next.depth;
-        i += 1;
     }
-    Size::Nodes(size)
+    Some(size)
 }

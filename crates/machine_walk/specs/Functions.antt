@@ -7,9 +7,10 @@ use Rattle.machine_walk.specs.Stack.{stack_tag, stack_node}
 use Rattle.machine_walk.specs.Places.{Moves}
 use Rattle.machine_walk.specs.Heads.{head_of}
 use Rattle.machine_walk.specs.declared.Place.{Place}
+use Rattle.machine_walk.specs.declared.Stop.{Stop}
 use Rattle.machine_walk.specs.declared.Head.{Head}
 use Rattle.machine_walk.specs.declared.Head.TheVariants.{OnePart, TwoParts}
-use Rattle.machine_walk.specs.declared.Moved.{Moved}
+use Rattle.std.specs.declared.ops.ControlFlow.{ControlFlow}
 
 -- A tree is evaluated, and this is what is to be done with it.
 pub record Evaluates (ns : List Node) (p : Place) (h : Head) : Type 0 where
@@ -31,5 +32,5 @@ pub record ReturnsTo (rs : List Quadword) (p : Place) (tag at : ℕ) : Type 0 wh
   pub at_is : stack_node (quadword_at rs (p.depth - 1)) ≡ at
 
 -- A move that changes the stack alone, by the kind of the node at place `at`.
-abbrev pub MovesStack : List Quadword → List Quadword → Place → ℕ → ℕ → Moved → Type 0
+abbrev pub MovesStack : List Quadword → List Quadword → Place → ℕ → ℕ → ControlFlow Stop Place → Type 0
 MovesStack rs rs' p at k r = (ns : List Node) → k ≡ kind (node_at ns at) → Moves ns rs ns rs' p r

@@ -12,8 +12,8 @@ use Rattle.machine_walk.specs.declared.Place.{Place}
 use Rattle.machine_walk.specs.declared.Stop.{Stop}
 use Rattle.machine_walk.specs.declared.Stop.TheVariants.{AtApplication, AtLet, AtForce, AtBox, AtApply, AtExit, AtEnd}
 use Rattle.machine_walk.specs.declared.Stop.TheVariants.{AtVariable}
-use Rattle.machine_walk.specs.declared.Moved.{Moved}
-use Rattle.machine_walk.specs.declared.Moved.TheVariants.{GoesOn, Stops}
+use Rattle.std.specs.declared.ops.ControlFlow.{ControlFlow}
+use Rattle.std.specs.declared.ops.ControlFlow.TheVariants.{Continue, Break}
 use Rattle.machine_walk.specs.declared.Stopped.{Stopped}
 
 -- The stack_entry of a hole whose node stands at place p of the walked nodes. The second number is where the second part starts,
@@ -74,12 +74,12 @@ stop_of AtVariable = at_variable
 
 -- What one move of the walk w leaves, by the code's answer: the memory holds the next walk at the place answered; or the
 -- walk stops there, and the memory holds it as before.
-abbrev pub MovedTo : List Node → List Quadword → Place → Walk → Moved → Type 0
-MovedTo ns rs p w (GoesOn q) = (w' : Walk) × (move w ≡ goes_on w') × Holds ns rs q w'
-MovedTo ns rs p w (Stops s) = (move w ≡ stops (stop_of s)) × Holds ns rs p w
+abbrev pub MovedTo : List Node → List Quadword → Place → Walk → ControlFlow Stop Place → Type 0
+MovedTo ns rs p w (Continue q) = (w' : Walk) × (move w ≡ goes_on w') × Holds ns rs q w'
+MovedTo ns rs p w (Break s) = (move w ≡ stops (stop_of s)) × Holds ns rs p w
 
 -- The contract of one move: from the nodes and entries before it to those after it, for every walk that the memory holds.
-abbrev pub Moves : List Node → List Quadword → List Node → List Quadword → Place → Moved → Type 0
+abbrev pub Moves : List Node → List Quadword → List Node → List Quadword → Place → ControlFlow Stop Place → Type 0
 Moves ns rs ns' rs' p r =
     (positions closed : ℕ) (w : Walk) → WalkFits positions closed w → Holds ns rs p w → MovedTo ns' rs' p w r
 

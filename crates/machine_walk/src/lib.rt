@@ -25,10 +25,11 @@ use machine_nodes::{copy_nodes, kind_at, parts_of, subtree_end};
 use rules::kinds::{
     ABSTRACTION, APPLICATION, CONSTANT, FORCE, GATE, LABEL, LET, LIFT, PAIR, UNIT_VALUE,
 };
+use std::ops::ControlFlow;
 use words::quadwords::put_quadword;
 
 // Where the walk stands.
-#[derive(Clone, Copy)]
+#[derive(Clone, Copy, Debug, PartialEq, Eq)]
 pub struct Place {
     // The nodes before this place are walked.
     pub left: usize,
@@ -41,7 +42,7 @@ pub struct Place {
 }
 
 // Where the walk stops: at a redex, at the end of an open box or of the outermost frame, or at a free variable.
-#[derive(Clone, Copy)]
+#[derive(Clone, Copy, Debug, PartialEq, Eq)]
 pub enum Stop {
     AtApplication,
     AtLet,
@@ -53,15 +54,11 @@ pub enum Stop {
     AtVariable,
 }
 
-// What one move leads to.
-#[derive(Drop)]
-enum Moved {
-    GoesOn(Place),
-    Stops(Stop),
-}
+// What one move leads to: the place where the walk goes on, or its stop.
+type Moved = ControlFlow<Stop, Place>;
 
 // The place at which the walk has stopped, and where that is.
-#[derive(Drop)]
+#[derive(Clone, Copy, Debug, PartialEq, Eq)]
 pub struct Stopped {
     // Where the walk stands.
     pub place: Place,
@@ -70,8 +67,8 @@ pub struct Stopped {
 }
 
 // What is to be done with the tree at `right`: it is a value, the part of its node is evaluated, its first part is, or
-// there is nothing to do.
-#[derive(Drop)]
+// there is nothing to do. One of four ways, and no None.
+#[derive(Clone, Copy)]
 enum Head {
     Value,
     OnePart,
@@ -91,16 +88,12 @@ fn head_with(parts: usize) -> Head
 }
 
 // Of a tree whose first node has this kind.
+#[tactic(auto, unfolding(crate::specs::Heads::head_of))]
 fn head_of(kind: usize) -> Head
     ensures { result ≡ head_of kind }
 {
     match kind {
-        LABEL => Head::Value,
-        ABSTRACTION => Head::Value,
-        LIFT => Head::Value,
-        GATE => Head::Value,
-        UNIT_VALUE => Head::Value,
-        CONSTANT => Head::Value,
+        LABEL | ABSTRACTION | LIFT | GATE | UNIT_VALUE | CONSTANT => Head::Value,
         _ => head_with(parts_of(kind)),
     }
 }
@@ -111,16 +104,14 @@ fn pass_value(nodes: &mut [u8], place: Place) -> Moved
     ensures moves { (rs : List Quadword) → Moves (nodes_in nodes.old) rs (nodes_in nodes.new) rs place result }
     ensures falls { Falls (length (nodes_in nodes.old)) place result }
 {
-    let left = place.left;
-    let right = place.right;
-    let end = subtree_end(nodes, right);
-    let count = end - right;
-    copy_nodes(nodes, right, left, count);
-    Moved::GoesOn(Place {
-        left: left + count,
+    let end = subtree_end(nodes, place.right);
+    let count = end - place.right;
+    copy_nodes(nodes, place.right, place.left, count);
+    ControlFlow::Continue(Place {
+        left: place.left + count,
         right: end,
-        depth: place.depth,
         returning: true,
+        ..place
     })
 }
 
@@ -135,11 +126,11 @@ fn open_node(nodes: &mut [u8], stack: &mut [u8], place: Place, tag: usize) -> Mo
     let right = place.right;
     let depth = place.depth;
     if stack.len() / 8 <= depth {
-        return Moved::Stops(Stop::AtVariable);
+        return ControlFlow::Break(Stop::AtVariable);
     }
     copy_nodes(nodes, right, left, 1);
     put_quadword(stack, depth, tag, left, 0, UNUSED);
-    Moved::GoesOn(Place {
+    ControlFlow::Continue(Place {
         left: left + 1,
         right: right + 1,
         depth: depth + 1,
@@ -154,22 +145,19 @@ fn evaluate(nodes: &mut [u8], stack: &mut [u8], place: Place) -> Moved
     ensures falls { Falls (length (nodes_in nodes.old)) place result }
 {
     let right = place.right;
-    if nodes.len() / 4 <= right {
-        return Moved::Stops(Stop::AtVariable);
+    if nodes.len() / 4 <= right || right < place.left {
+        return ControlFlow::Break(Stop::AtVariable);
     }
-    if right < place.left {
-        return Moved::Stops(Stop::AtVariable);
-    }
-    let head = head_of(kind_at(nodes, right));
-    match head {
+    match head_of(kind_at(nodes, right)) {
         Head::Value => pass_value(nodes, place),
         Head::OnePart => open_node(nodes, stack, place, ONLY),
         Head::TwoParts => open_node(nodes, stack, place, FIRST),
-        Head::Neither => Moved::Stops(Stop::AtVariable),
+        Head::Neither => ControlFlow::Break(Stop::AtVariable),
     }
 }
 
 // The stop at a node of one part whose part is a value.
+#[tactic(auto, unfolding(machine_terms::specs::Trees::one_kind))]
 fn stop_one(kind: usize) -> Stop
     ensures { Truth (waits (one_kind kind)) → stop_of result ≡ stop_one (one_kind kind) }
 {
@@ -181,6 +169,7 @@ fn stop_one(kind: usize) -> Stop
 }
 
 // The stop at a node of two values that is no pair.
+#[tactic(auto, unfolding(machine_terms::specs::Trees::two_kind))]
 fn stop_two(kind: usize) -> Stop
     requires { kind ≡ pair_kind → ⊥ }
     ensures { stop_of result ≡ stop_two (two_kind kind) }
@@ -199,16 +188,12 @@ fn return_first(stack: &mut [u8], place: Place, at: usize, kind: usize) -> Moved
     ensures by_index { (n : ℕ) → Falls n place result }
 {
     if kind == LET {
-        return Moved::Stops(Stop::AtLet);
+        return ControlFlow::Break(Stop::AtLet);
     }
-    let left = place.left;
-    let depth = place.depth;
-    put_quadword(stack, depth - 1, SECOND, at, left, UNUSED);
-    Moved::GoesOn(Place {
-        left: left,
-        right: place.right,
-        depth: depth,
+    put_quadword(stack, place.depth - 1, SECOND, at, place.left, UNUSED);
+    ControlFlow::Continue(Place {
         returning: false,
+        ..place
     })
 }
 
@@ -219,14 +204,12 @@ fn return_second(place: Place, kind: usize) -> Moved
     ensures by_index { (n : ℕ) → Falls n place result }
 {
     if kind != PAIR {
-        return Moved::Stops(stop_two(kind));
+        return ControlFlow::Break(stop_two(kind));
     }
-    let depth = place.depth;
-    Moved::GoesOn(Place {
-        left: place.left,
-        right: place.right,
-        depth: depth - 1,
+    ControlFlow::Continue(Place {
+        depth: place.depth - 1,
         returning: true,
+        ..place
     })
 }
 
@@ -238,21 +221,17 @@ fn return_value(nodes: &[u8], stack: &mut [u8], place: Place) -> Moved
 {
     let depth = place.depth;
     if depth == 0 {
-        return Moved::Stops(Stop::AtEnd);
+        return ControlFlow::Break(Stop::AtEnd);
     }
     let tag = stack_tag(stack, depth - 1);
     let at = stack_node(stack, depth - 1);
     let kind = kind_at(nodes, at);
-    if tag == ONLY {
-        return Moved::Stops(stop_one(kind));
+    match tag {
+        ONLY => ControlFlow::Break(stop_one(kind)),
+        FIRST => return_first(stack, place, at, kind),
+        SECOND => return_second(place, kind),
+        _ => ControlFlow::Break(Stop::AtExit),
     }
-    if tag == FIRST {
-        return return_first(stack, place, at, kind);
-    }
-    if tag == SECOND {
-        return return_second(place, kind);
-    }
-    Moved::Stops(Stop::AtExit)
 }
 
 // One move of the walk.
@@ -273,17 +252,9 @@ pub fn walk(nodes: &mut [u8], stack: &mut [u8], place: Place) -> Stopped
 {
     let mut now = place;
     loop {
-        let moved = move_once(nodes, stack, now);
-        match moved {
-            Moved::GoesOn(next) => {
-                now = next;
-            }
-            Moved::Stops(stop) => {
-                return Stopped {
-                    place: now,
-                    stop: stop,
-                };
-            }
+        match move_once(nodes, stack, now) {
+            ControlFlow::Continue(next) => now = next,
+            ControlFlow::Break(stop) => return Stopped { place: now, stop },
         }
     }
 }

@@ -6,7 +6,8 @@ ghost use Rattle.machine_walk.specs.Stack.{stack_tag, stack_node, stack_start};
 
 use words::quadwords::word_in;
 
-// The tags: a node of one part, one of two parts whose first is evaluated, one whose second is, and an open box.
+// The tags: a node of one part, one of two parts whose first is evaluated, one whose second is, and an open box. Numbers and no enum:
+// they are words of lent memory, which may hold any other (`stack_tag` of specs/Stack).
 pub(crate) const ONLY: usize = 0;
 
 pub(crate) const FIRST: usize = 1;

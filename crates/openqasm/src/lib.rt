@@ -4,191 +4,123 @@
 // Called by the export.
 #![tactic(auto)]
 
-ghost use Rattle.std.specs.Prelude.{ℕ, ◌≤◌, cond, List, [], ◌∷◌, ◌++◌, get_or, ◌≡◌};
+ghost use Rattle.std.specs.Prelude.{cond, [], ◌∷◌, ◌++◌, ◌≡◌};
+ghost use Rattle.rules.specs.Gates.{CCX};
 ghost use Rattle.rules.specs.Types.{Bit, Qubit};
 ghost use Rattle.listing.specs.Reading.{input_type};
-ghost use Rattle.text.specs.Text.{ascii, decimal, spaced};
-ghost use Rattle.text.specs.Writing.{Puts};
+ghost use Rattle.text.specs.Text.{decimal, spaced};
+ghost use Rattle.text.specs.Writer.{Writes};
 ghost use Rattle.openqasm.specs.Layout.{header, bit_register, declaration, has_statement, gate_line, register_name};
-ghost use Rattle.openqasm.specs.Lines.{letters, one_line, two_line, register_pair, three_line};
+ghost use Rattle.openqasm.specs.Lines.{one_line, two_line};
 
 use listing::BIT_INPUT;
-use refusals::Refusal;
-use text::{put_byte, put_bytes, put_decimal};
-
-// What an export or an import answers: how many bytes it wrote, or a refusal.
-#[derive(Drop)]
-pub enum Conversion {
-    Written { length: usize },
-    Refused(Refusal),
-}
-
-// The gates for which OpenQASM has no word, and the gate on three qubits.
-const INIT: usize = 9;
-
-const DISCARD: usize = 10;
-
-const CCX: usize = 11;
-
-// The names of the gates on one qubit: H, X, Z, S, T.
-const LETTERS: [u8; 5] = [b'h', b'x', b'z', b's', b't'];
+use rules::gates::{BX, BZ, CCX, CNOT, DISCARD, H, INIT, MEAS, S, T, X, Z};
+use text::Writer;
 
 // The first two lines.
-pub fn write_header(text: &mut [u8], at: usize) -> usize
-    ensures { Puts text.old at header text.new result }
+pub fn write_header(out: &mut Writer)
+    ensures { Writes out.old header out.new }
 {
-    let version = put_bytes(text, at, b"OPENQASM 2.0;\n");
-    put_bytes(text, version, b"include \"qelib1.inc\";\n")
+    out.put_bytes(b"OPENQASM 2.0;\n");
+    out.put_bytes(b"include \"qelib1.inc\";\n");
 }
 
 // A word and a number.
-fn put_named(text: &mut [u8], at: usize, word: &[u8], n: usize) -> usize
-    ensures { Puts text.old at (word.now ++ decimal n) text.new result }
+fn put_named(out: &mut Writer, word: &[u8], n: usize)
+    ensures { Writes out.old (word.now ++ decimal n) out.new }
 {
-    let named = put_bytes(text, at, word);
-    put_decimal(text, named, n)
+    out.put_bytes(word);
+    out.put_decimal(n);
+}
+
+// A line with one number: the bytes before it and behind it.
+#[tactic(auto, using(crate::proofs::Laws::Lines::puts_behind))]
+fn write_one(out: &mut Writer, before: &[u8], n: usize, behind: &[u8])
+    ensures { Writes out.old (before.now ++ (decimal n ++ behind.now)) out.new }
+{
+    put_named(out, before, n);
+    out.put_bytes(behind);
 }
 
 // The declaration of a bit register.
-fn write_bit_register(text: &mut [u8], at: usize, k: usize) -> usize
-    ensures { Puts text.old at (bit_register k) text.new result }
+fn write_bit_register(out: &mut Writer, k: usize)
+    ensures { Writes out.old (bit_register k) out.new }
 {
-    let named = put_named(text, at, b"creg c", k);
-    put_bytes(text, named, b"[1];\n")
+    write_one(out, b"creg c", k, b"[1];\n");
 }
 
 // The declarations of input k, by its kind in a listing.
-pub fn write_declaration(text: &mut [u8], at: usize, k: usize, kind: usize) -> usize
-    ensures { Puts text.old at (declaration k (input_type kind)) text.new result }
+pub fn write_declaration(out: &mut Writer, k: usize, kind: usize)
+    ensures { Writes out.old (declaration k (input_type kind)) out.new }
 {
     if kind == BIT_INPUT {
-        return write_bit_register(text, at, k);
+        write_bit_register(out, k);
+        return;
     }
-    let named = put_named(text, at, b"qreg q", k);
-    let qubit = put_bytes(text, named, b"[1];\n");
-    write_bit_register(text, qubit, k)
+    write_one(out, b"qreg q", k, b"[1];\n");
+    write_bit_register(out, k);
 }
 
-// The name of a gate on one qubit; 0 for other gates.
-fn letter(gate: usize) -> u8
-    ensures { result ≡ get_or letters gate 0 }
+// A statement on one register.
+fn write_on_one(out: &mut Writer, before: &[u8], r: usize)
+    ensures { Writes out.old (one_line before.now r) out.new }
 {
-    if gate < 5 { LETTERS[gate] } else { 0 }
+    write_one(out, before, r, b"[0];\n");
 }
 
-// A line with one register.
-fn write_one(text: &mut [u8], at: usize, name: u8, r: usize) -> usize
-    ensures { Puts text.old at (one_line name r) text.new result }
+// A statement on two: the bytes before the number of each.
+#[tactic(auto, using(crate::proofs::Laws::Lines::puts_behind))]
+fn write_on_two(out: &mut Writer, before: &[u8], r: usize, between: &[u8], s: usize)
+    ensures { Writes out.old (two_line before.now r between.now s) out.new }
 {
-    let begun = put_byte(text, at, name);
-    let parted = put_bytes(text, begun, b" q");
-    let numbered = put_decimal(text, parted, r);
-    put_bytes(text, numbered, b"[0];\n")
-}
-
-// Two registers, and the end of the line.
-fn write_pair(text: &mut [u8], at: usize, r: usize, s: usize) -> usize
-    ensures { Puts text.old at (register_pair r s) text.new result }
-{
-    let first = put_decimal(text, at, r);
-    let parted = put_bytes(text, first, b"[0],q");
-    let second = put_decimal(text, parted, s);
-    put_bytes(text, second, b"[0];\n")
-}
-
-// The line of a CNOT.
-fn write_cnot(text: &mut [u8], at: usize, r: usize, s: usize) -> usize
-    ensures { Puts text.old at (ascii "cx q" ++ register_pair r s) text.new result }
-{
-    let named = put_bytes(text, at, b"cx q");
-    write_pair(text, named, r, s)
+    put_named(out, before, r);
+    write_on_one(out, between, s);
 }
 
 // The line of a CCX.
-fn write_ccx(text: &mut [u8], at: usize, r: usize, s: usize, t: usize) -> usize
-    ensures { Puts text.old at (three_line (ascii "ccx q") r s t) text.new result }
+#[tactic(auto, using(crate::proofs::Laws::Lines::puts_behind), unfolding(crate::specs::Layout::gate_line))]
+fn write_ccx(out: &mut Writer, r: usize, s: usize, t: usize)
+    ensures { Writes out.old (gate_line CCX (r ∷ s ∷ t ∷ [])) out.new }
 {
-    let first = put_named(text, at, b"ccx q", r);
-    let parted = put_bytes(text, first, b"[0],q");
-    write_pair(text, parted, s, t)
-}
-
-// The line of a measurement.
-fn write_measurement(text: &mut [u8], at: usize, r: usize) -> usize
-    ensures { Puts text.old at (two_line (ascii "measure q") r (ascii "[0] -> c") r) text.new result }
-{
-    let named = put_bytes(text, at, b"measure q");
-    let first = put_decimal(text, named, r);
-    let parted = put_bytes(text, first, b"[0] -> c");
-    let second = put_decimal(text, parted, r);
-    put_bytes(text, second, b"[0];\n")
-}
-
-// The first part of the line of a gate under a bit.
-fn write_test(text: &mut [u8], at: usize, r: usize) -> usize
-    ensures { Puts text.old at (ascii "if(c" ++ decimal r) text.new result }
-{
-    let begun = put_bytes(text, at, b"if(c");
-    put_decimal(text, begun, r)
-}
-
-// The last part, with the number of the qubit's register.
-fn write_last(text: &mut [u8], at: usize, s: usize) -> usize
-    ensures { Puts text.old at (decimal s ++ ascii "[0];\n") text.new result }
-{
-    let numbered = put_decimal(text, at, s);
-    put_bytes(text, numbered, b"[0];\n")
-}
-
-// The line of BX or BZ.
-fn write_under_bit(text: &mut [u8], at: usize, gate: usize, r: usize, s: usize) -> usize
-    requires { (7 ≤ gate) × (gate ≤ 8) }
-    ensures { (rs : List ℕ) → Puts text.old at (gate_line gate (r ∷ s ∷ rs)) text.new result }
-{
-    let tested = write_test(text, at, r);
-    if gate == 7 {
-        let named = put_bytes(text, tested, b"==1) x q");
-        return write_last(text, named, s);
-    }
-    let named = put_bytes(text, tested, b"==1) z q");
-    write_last(text, named, s)
+    put_named(out, b"ccx q", r);
+    write_on_two(out, b"[0],q", s, b"[0],q", t);
 }
 
 // Has the gate a statement? Init and Discard have none.
+#[tactic(auto, unfolding(crate::specs::Layout::has_statement))]
 pub fn has_statement(gate: usize) -> bool
     ensures { result ≡ has_statement gate }
 {
-    (gate != INIT) & (gate != DISCARD)
+    !matches!(gate, INIT | DISCARD)
 }
 
 // The line of a gate whose wires are in these registers; nothing where it has no statement or there is no such gate.
-pub fn write_gate(text: &mut [u8], at: usize, gate: usize, r: usize, s: usize, t: usize) -> usize
-    ensures { Puts text.old at (gate_line gate (r ∷ s ∷ t ∷ [])) text.new result }
+#[tactic(auto, unfolding(crate::specs::Layout::gate_line))]
+pub fn write_gate(out: &mut Writer, gate: usize, r: usize, s: usize, t: usize)
+    ensures { Writes out.old (gate_line gate (r ∷ s ∷ t ∷ [])) out.new }
 {
-    if gate < 5 {
-        return write_one(text, at, letter(gate), r);
+    match gate {
+        H => write_on_one(out, b"h q", r),
+        X => write_on_one(out, b"x q", r),
+        Z => write_on_one(out, b"z q", r),
+        S => write_on_one(out, b"s q", r),
+        T => write_on_one(out, b"t q", r),
+        CNOT => write_on_two(out, b"cx q", r, b"[0],q", s),
+        MEAS => write_on_two(out, b"measure q", r, b"[0] -> c", r),
+        BX => write_on_two(out, b"if(c", r, b"==1) x q", s),
+        BZ => write_on_two(out, b"if(c", r, b"==1) z q", s),
+        CCX => write_ccx(out, r, s, t),
+        _ => {}
     }
-    if gate == 5 {
-        return write_cnot(text, at, r, s);
-    }
-    if gate == 6 {
-        return write_measurement(text, at, r);
-    }
-    if gate < 9 {
-        return write_under_bit(text, at, gate, r, s);
-    }
-    if gate == CCX {
-        return write_ccx(text, at, r, s, t);
-    }
-    at
 }
 
 // A space and the name of the register that holds an output.
-pub fn write_output(text: &mut [u8], at: usize, qubit: bool, r: usize) -> usize
-    ensures { Puts text.old at (spaced (register_name (cond qubit Qubit Bit) r ∷ [])) text.new result }
+pub fn write_output(out: &mut Writer, qubit: bool, r: usize)
+    ensures { Writes out.old (spaced (register_name (cond qubit Qubit Bit) r ∷ [])) out.new }
 {
     if qubit {
-        return put_named(text, at, b" q", r);
+        put_named(out, b" q", r);
+    } else {
+        put_named(out, b" c", r);
     }
-    put_named(text, at, b" c", r)
 }

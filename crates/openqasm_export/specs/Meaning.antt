@@ -1,9 +1,8 @@
 -- What 28 means (02, ticket 5). `twenty_eight` of Theorems/Exports: it is the answer exactly where the last record says.
-use Rattle.std.specs.Prelude.{ℕ, ◌≤◌, ◌<◌, ◌≡◌, ◌⊎◌, List}
+use Rattle.std.specs.Prelude.{ℕ, ◌≤◌, ◌<◌, ◌≡◌, ◌⊎◌, List, Ok}
 use Rattle.rules.specs.Gates.{Init, Discard}
 use Rattle.listing.specs.Reading.{input_count, entry_count, kind_at}
 use Rattle.wire_table.specs.WireRules.{First}
-use Rattle.listing_check.specs.declared.ListingAnswer.TheVariants.{Accepted}
 use Rattle.listing_check.specs.Answers.{listing_check_of}
 
 -- Entry e is a gate, and one of these two.
@@ -15,5 +14,5 @@ pub record UnwrittenAt (b : List ℕ) (e : ℕ) : Type 0 where
   pub inputs : ℕ
   pub gates : ℕ
   pub outputs : ℕ
-  pub accepted : listing_check_of b ≡ Accepted inputs gates outputs
+  pub accepted : listing_check_of b ≡ Ok (record { inputs = inputs; gates = gates; outputs = outputs })
   pub first_such : First (InitOrDiscard b) e

@@ -7,15 +7,16 @@
 
 mod places;
 
-ghost use Rattle.std.specs.Prelude.{◌≤◌, ◌<◌, ◌≡◌, [], ◌∷◌, map, length};
+ghost use Rattle.std.specs.Prelude.{◌≤◌, ◌≡◌, [], ◌∷◌, map, length};
 ghost use Rattle.lent.specs.Lent.{first_bytes, last_bytes};
 ghost use Rattle.text.specs.Text.{spaced};
+ghost use Rattle.text.specs.Writer.{SameText, Writes};
 ghost use Rattle.text.specs.Writing.{Puts};
 ghost use Rattle.text.specs.Written.{Written};
 ghost use Rattle.listing.specs.Reading.{inputs_of, gates_of, outputs_of};
 ghost use Rattle.listing_check.specs.Wires.{Whole};
 ghost use Rattle.listing_check.specs.Answers.{most_wires};
-ghost use Rattle.wire_table.specs.Table.{one_more_than};
+ghost use Rattle.words.specs.Found.{option_of};
 ghost use Rattle.openqasm.specs.Layout.{AllWritten, declarations, gate_lines, output_name, output_line, export_of, most_text};
 ghost use Rattle.openqasm_export.specs.Answers.{first_unwritten, export_check_of, exported_as, out_after, export_answer, export_bytes};
 ghost use Rattle.openqasm_export.specs.Places.{places_of, Begins};
@@ -23,15 +24,13 @@ ghost use Rattle.openqasm_export.specs.Places.{places_of, Begins};
 use listing::{
     ENTRY_SLOTS, gate_count, input_count, kind_at, output_count, outputs_from, slots_from,
 };
-use listing_check::{LEAST_WORK, ListingAnswer, check_uncleared};
-use openqasm::{
-    Conversion, has_statement, write_declaration, write_gate, write_header, write_output,
-};
+use listing_check::{LEAST_WORK, ListingSizes, check_uncleared};
+use openqasm::{has_statement, write_declaration, write_gate, write_header, write_output};
 use places::{input_place, keep_places, place_at};
-use refusals::Refusal;
+use refusals::{Refusal, TOO_SHORT};
 use rules::sizes::{MOST_GATES, MOST_LABELS};
 use rules::wires_in;
-use text::{put_byte, put_bytes};
+use text::Writer;
 use wire_table::make_wire;
 use words::{byte_at, clear, word_at};
 
@@ -40,124 +39,92 @@ pub const MOST_TEXT: usize = 36 + 26 * MOST_LABELS + 26 * MOST_GATES + (7 + 4 * 
 
 const LINE_END: u8 = 10;
 
-// The first gate entry whose gate has no statement: one more than its number, or 0 where every gate has one.
-fn unwritten_entry(listing: &[u8]) -> usize
-    ensures { result ≡ one_more_than (first_unwritten listing.now) }
+// The first gate entry whose gate has no statement.
+fn unwritten_entry(listing: &[u8]) -> Option<usize>
+    ensures { result ≡ option_of (first_unwritten listing.now) }
 {
     let inputs = input_count(listing);
     let end = inputs + gate_count(listing);
-    let mut i = inputs;
-    while i < end {
-        if !has_statement(kind_at(listing, i)) {
-            return i + 1;
-        }
-        i += 1;
-    }
-    0
+    (inputs..end).find(|&entry| !has_statement(kind_at(listing, entry)))
 }
 
 // The check of a listing that is to be exported, without clearing its working memory, which has to be long enough.
-pub fn check_export(listing: &[u8], work: &mut [u8]) -> ListingAnswer
+pub fn check_export(listing: &[u8], work: &mut [u8]) -> Result<ListingSizes, Refusal>
     ensures { most_wires ≤ length work.old → result ≡ export_check_of listing.now }
 {
-    match check_uncleared(listing, work) {
-        ListingAnswer::Accepted {
-            inputs,
-            gates,
-            outputs,
-        } => {
-            let entry = unwritten_entry(listing);
-            if 0 < entry {
-                return ListingAnswer::Refused(Refusal::Run {
-                    number: 28,
-                    place: entry - 1,
-                });
-            }
-            ListingAnswer::Accepted {
-                inputs,
-                gates,
-                outputs,
-            }
-        }
-        ListingAnswer::Refused(refusal) => ListingAnswer::Refused(refusal),
+    let sizes = check_uncleared(listing, work)?;
+    if let Some(entry) = unwritten_entry(listing) {
+        return Err(Refusal::Run {
+            number: 28,
+            place: entry,
+        });
     }
+    Ok(sizes)
 }
 
 // The declarations of the inputs; their places are put into a table of zeros.
-fn write_inputs(listing: &[u8], table: &mut [u8], text: &mut [u8], at: usize) -> usize
+fn write_inputs(listing: &[u8], table: &mut [u8], out: &mut Writer)
     requires { Begins table.old [] × Whole listing.now table.old }
-    ensures puts { Puts text.old at (declarations 0 (inputs_of listing.now)) text.new result }
+    ensures puts { Writes out.old (declarations 0 (inputs_of listing.now)) out.new }
     ensures begins { Begins table.new (places_of (inputs_of listing.now) []) }
 {
-    let count = input_count(listing);
-    let mut here = at;
-    let mut i: usize = 0;
-    while i < count {
+    for i in 0..input_count(listing) {
         let kind = kind_at(listing, i);
-        here = write_declaration(text, here, i, kind);
+        write_declaration(out, i, kind);
         make_wire(table, i, input_place(kind, i));
-        i += 1;
     }
-    here
 }
 
 // The lines of the gates, which have to have statements. The table has the places of the inputs, and then those of all wires.
-fn write_gates(listing: &[u8], table: &mut [u8], text: &mut [u8], at: usize) -> usize
+fn write_gates(listing: &[u8], table: &mut [u8], out: &mut Writer)
     requires { Begins table.old (places_of (inputs_of listing.now) []) × Whole listing.now table.old }
+    ensures same_text { SameText out.old out.new }
     ensures puts { AllWritten (gates_of listing.now)
-        → Puts text.old at (gate_lines (inputs_of listing.now) (gates_of listing.now)) text.new result }
+        → Puts out.old.text.now out.old.at (gate_lines (inputs_of listing.now) (gates_of listing.now)) out.new.text.now out.new.at }
     ensures begins { AllWritten (gates_of listing.now)
         → Begins table.new (places_of (inputs_of listing.now) (gates_of listing.now)) }
 {
     let inputs = input_count(listing);
-    let gates = gate_count(listing);
-    let mut from = slots_from(listing, inputs);
+    let slots = slots_from(listing, inputs);
     let mut made = inputs;
-    let mut here = at;
-    let mut i: usize = 0;
-    while i < gates {
+    for i in 0..gate_count(listing) {
         let gate = kind_at(listing, inputs + i);
         let count = wires_in(gate);
+        let from = slots + 2 * ENTRY_SLOTS * i;
         let first = place_at(listing, from, count, 0, table);
         let second = place_at(listing, from, count, 1, table);
         let third = place_at(listing, from, count, 2, table);
-        here = write_gate(text, here, gate, first / 2, second / 2, third / 2);
+        write_gate(out, gate, first / 2, second / 2, third / 2);
         made = keep_places(gate, first, second, third, table, made);
-        from += 2 * ENTRY_SLOTS;
-        i += 1;
     }
-    here
 }
 
 // The names of the outputs, each behind a space. The table has the places of all wires.
-fn write_names(listing: &[u8], table: &[u8], text: &mut [u8], at: usize) -> usize
-    ensures { AllWritten (gates_of listing.now)
+fn write_names(listing: &[u8], table: &[u8], out: &mut Writer)
+    ensures same_text { SameText out.old out.new }
+    ensures puts { AllWritten (gates_of listing.now)
         → Begins table.now (places_of (inputs_of listing.now) (gates_of listing.now))
-        → Puts text.old at
-        (spaced (map (output_name (inputs_of listing.now) (gates_of listing.now)) (outputs_of listing.now))) text.new result }
+        → Puts out.old.text.now out.old.at
+        (spaced (map (output_name (inputs_of listing.now) (gates_of listing.now)) (outputs_of listing.now))) out.new.text.now out.new.at }
 {
-    let count = output_count(listing);
     let from = outputs_from(listing);
-    let mut here = at;
-    let mut j: usize = 0;
-    while j < count {
+    for j in 0..output_count(listing) {
         let place = byte_at(table, word_at(listing, from + 2 * j)) as usize;
-        here = write_output(text, here, place % 2 == 1, place / 2);
-        j += 1;
+        write_output(out, place % 2 == 1, place / 2);
     }
-    here
 }
 
 // The last line, likewise.
-fn write_outputs(listing: &[u8], table: &[u8], text: &mut [u8], at: usize) -> usize
-    ensures { AllWritten (gates_of listing.now)
+fn write_outputs(listing: &[u8], table: &[u8], out: &mut Writer)
+    ensures same_text { SameText out.old out.new }
+    ensures puts { AllWritten (gates_of listing.now)
         → Begins table.now (places_of (inputs_of listing.now) (gates_of listing.now))
-        → Puts text.old at
-        (output_line (inputs_of listing.now) (gates_of listing.now) (outputs_of listing.now)) text.new result }
+        → Puts out.old.text.now out.old.at
+        (output_line (inputs_of listing.now) (gates_of listing.now) (outputs_of listing.now)) out.new.text.now out.new.at }
 {
-    let begun = put_bytes(text, at, b"// out");
-    let named = write_names(listing, table, text, begun);
-    put_byte(text, named, LINE_END)
+    out.put_bytes(b"// out");
+    write_names(listing, table, out);
+    out.put_byte(LINE_END);
 }
 
 // The text of a listing within the sizes, whose gates have statements, is written from the start of a text, as much of it as that
@@ -166,10 +133,12 @@ fn write_parts(listing: &[u8], table: &mut [u8], text: &mut [u8]) -> usize
     requires { Begins table.old [] × Whole listing.now table.old }
     ensures { AllWritten (gates_of listing.now) → Written text.old (export_of listing.now) text.new result }
 {
-    let headed = write_header(text, 0);
-    let declared = write_inputs(listing, table, text, headed);
-    let done = write_gates(listing, table, text, declared);
-    write_outputs(listing, table, text, done)
+    let mut out = Writer::new(text);
+    write_header(&mut out);
+    write_inputs(listing, table, &mut out);
+    write_gates(listing, table, &mut out);
+    write_outputs(listing, table, &mut out);
+    out.at
 }
 
 // The same with a table that may hold anything; nothing is written where a size is beyond its most or the table is too short.
@@ -192,35 +161,24 @@ pub fn write_text(listing: &[u8], table: &mut [u8], text: &mut [u8]) -> usize
 }
 
 // The export with buffers that are long enough, without clearing the working memory.
-fn export_uncleared(listing: &[u8], out: &mut [u8], work: &mut [u8]) -> Conversion
+fn export_uncleared(listing: &[u8], out: &mut [u8], work: &mut [u8]) -> Result<usize, Refusal>
     requires { (most_text ≤ length out.old) × (most_wires ≤ length work.old) }
     ensures value { result ≡ exported_as listing.now (export_check_of listing.now) }
     ensures out_after { out.new ≡ out_after listing.now (export_check_of listing.now) out.old }
 {
-    match check_export(listing, work) {
-        ListingAnswer::Accepted {
-            inputs: _,
-            gates: _,
-            outputs: _,
-        } => Conversion::Written {
-            length: write_text(listing, work, out),
-        },
-        ListingAnswer::Refused(refusal) => Conversion::Refused(refusal),
-    }
+    check_export(listing, work)?;
+    Ok(write_text(listing, work, out))
 }
 
 // The export of a listing. The text starts the output buffer; the other buffer is working memory.
-pub fn export(listing: &[u8], out: &mut [u8], work: &mut [u8]) -> Conversion
+pub fn export(listing: &[u8], out: &mut [u8], work: &mut [u8]) -> Result<usize, Refusal>
     ensures answer { let lent = out ∷ work ∷ [] in
         result ≡ export_answer listing.now (first_bytes lent) }
     ensures bytes { let lent = out ∷ work ∷ [] in
         last_bytes lent ≡ export_bytes listing.now (first_bytes lent) }
 {
-    if (out.len() < MOST_TEXT) | (work.len() < LEAST_WORK) {
-        return Conversion::Refused(Refusal::Run {
-            number: 19,
-            place: 0,
-        });
+    if out.len() < MOST_TEXT || work.len() < LEAST_WORK {
+        return Err(TOO_SHORT);
     }
     let answer = export_uncleared(listing, out, work);
     clear(work);

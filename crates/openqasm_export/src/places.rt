@@ -1,4 +1,5 @@
-// The table of registers: a byte for each wire.
+// The table of registers: a byte for each wire. Its place is twice the number of the register, and one more for a Qubit: one number
+// and no struct, for the lent table has one byte for each wire (most_wires).
 ghost use Rattle.std.specs.Prelude.{ℕ, ◌+◌, ◌*◌, ◌/◌, ◌%◌, ◌≤◌, ◌<◌, ◌≡◌, List, [], ◌∷◌, ◌++◌, map, length, get_or, take};
 ghost use Rattle.rules.specs.Types.{Wire, wire_code};
 ghost use Rattle.rules.specs.Gates.{wires_out};

@@ -1,21 +1,19 @@
 -- What the import of a text answers and leaves in its buffers (02, ticket 4).
-use Rattle.std.specs.Prelude.{ℕ, Bool, true, false, ◌&&◌, cond, List, [], ◌∷◌, ◌++◌, eqb, length, drop}
+use Rattle.std.specs.Prelude.{ℕ, Bool, true, false, ◌&&◌, cond, List, [], ◌∷◌, ◌++◌, eqb, length, drop, Result, Ok, Err}
 use Rattle.std.proofs.Math.Option.{Option, none, some}
 use Rattle.lent.specs.Lent.{too_short, bytes_left}
+use Rattle.refusals.specs.declared.Refusal.{Refusal}
 use Rattle.refusals.specs.declared.Refusal.TheVariants.{Run}
 use Rattle.listing.specs.Listing.{most_bytes}
-use Rattle.listing_check.specs.declared.ListingAnswer.{ListingAnswer}
-use Rattle.listing_check.specs.declared.ListingAnswer.TheVariants.{Accepted, Refused as NotListed}
+use Rattle.listing_check.specs.declared.ListingSizes.{ListingSizes}
 use Rattle.listing_check.specs.Answers.{most_wires}
-use Rattle.openqasm.specs.declared.Conversion.{Conversion}
-use Rattle.openqasm.specs.declared.Conversion.TheVariants.{Written, Refused}
 use Rattle.openqasm.specs.Layout.{export_of, most_text}
 use Rattle.openqasm_export.specs.Answers.{export_check_of}
 use Rattle.openqasm_parts.specs.Reading.{listing_read, slots_bytes}
 
-abbrev pub is_accepted : ListingAnswer → Bool
-is_accepted (Accepted inputs gates outputs) = true
-is_accepted (NotListed x) = false
+abbrev pub is_accepted : Result ListingSizes Refusal → Bool
+is_accepted (Ok sizes) = true
+is_accepted (Err x) = false
 
 -- Are these the same bytes?
 abbrev pub same_bytes : List ℕ → List ℕ → Bool
@@ -36,9 +34,9 @@ abbrev pub import_lengths : List ℕ
 import_lengths = most_bytes ∷ slots_bytes ∷ most_bytes ∷ most_wires ∷ most_text ∷ []
 
 -- "27 a text that is the export of no listing within the sizes, place 0"; else the length of the listing.
-abbrev pub imported_as : Option (List ℕ) → Conversion
-imported_as none = Refused (Run 27 0)
-imported_as (some b) = Written (length b)
+abbrev pub imported_as : Option (List ℕ) → Result ℕ Refusal
+imported_as none = Err (Run 27 0)
+imported_as (some b) = Ok (length b)
 
 -- The listing starts the output buffer; bytes past it keep their values, and after a refusal all do.
 abbrev pub out_after : Option (List ℕ) → List ℕ → List ℕ
@@ -46,9 +44,9 @@ out_after none out = out
 out_after (some b) out = b ++ drop (length b) out
 
 -- The answer, with the buffers that were lent: the output buffer, then the working memory. 01: "19, before all else".
-unfoldable pub import_answer : List ℕ → List (List ℕ) → Conversion
+unfoldable pub import_answer : List ℕ → List (List ℕ) → Result ℕ Refusal
 import_answer text buffers =
-    let later = imported_as (import_of text) in cond (too_short import_lengths buffers) (Refused (Run 19 0)) later
+    let later = imported_as (import_of text) in cond (too_short import_lengths buffers) (Err (Run 19 0)) later
 
 -- Their final bytes.
 abbrev pub import_bytes : List ℕ → List (List ℕ) → List (List ℕ)

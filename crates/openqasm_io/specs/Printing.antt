@@ -1,12 +1,11 @@
 -- What the programs `qasmout` and `qasmin` read and print (02, ticket 4).
-use Rattle.std.specs.Prelude.{ℕ, ◌+◌, List}
+use Rattle.std.specs.Prelude.{ℕ, ◌+◌, List, Result, Ok, Err}
 use Rattle.std.proofs.Math.Option.{Option, none, some}
 use Rattle.refusals.specs.declared.Refusal.{Refusal}
 use Rattle.refusals.specs.declared.Refusal.TheVariants.{Run}
 use Rattle.refusals.specs.Refusals.{refusal_number, refusal_place}
 use Rattle.listing.specs.Listing.{most_bytes}
-use Rattle.listing_check.specs.declared.ListingAnswer.{ListingAnswer}
-use Rattle.listing_check.specs.declared.ListingAnswer.TheVariants.{Accepted, Refused}
+use Rattle.listing_check.specs.declared.ListingSizes.{ListingSizes}
 use Rattle.openqasm.specs.Layout.{export_of, most_text}
 use Rattle.openqasm_export.specs.Answers.{export_check_of}
 use Rattle.openqasm_import.specs.Answers.{import_of}
@@ -24,9 +23,9 @@ abbrev pub refusal_line : Refusal → List ℕ
 refusal_line x = refused_line (refusal_number x) (refusal_place x)
 
 -- The text of a listing that the export takes; the line of the refusal of any other.
-abbrev pub answer_bytes : List ℕ → ListingAnswer → List ℕ
-answer_bytes b (Accepted inputs gates outputs) = export_of b
-answer_bytes b (Refused x) = refusal_line x
+abbrev pub answer_bytes : List ℕ → Result ListingSizes Refusal → List ℕ
+answer_bytes b (Ok sizes) = export_of b
+answer_bytes b (Err x) = refusal_line x
 
 -- All bytes that `qasmout` prints for the bytes of a listing.
 unfoldable pub exported_bytes : List ℕ → List ℕ

@@ -6,20 +6,21 @@
 #![tactic(auto)]
 
 ghost use Rattle.std.specs.Prelude.{◌≤◌, ◌≡◌, length, take, OnOk};
-ghost use Rattle.std.specs.Io.KnownBytes.{Consumes};
-ghost use Rattle.streams.specs.Streamed.{ReadsFirst, WritesAnswer, WritesPart};
-ghost use Rattle.openqasm_io.specs.Printing.{most_listing_read, most_text_read, exported_bytes, imported_bytes};
+ghost use Rattle.streams.specs.Streamed.{WritesAnswer, WritesPart};
+ghost use Rattle.listing.specs.Listing.{most_bytes};
+ghost use Rattle.openqasm.specs.Layout.{most_text};
+ghost use Rattle.openqasm_io.specs.Printing.{exported_bytes, imported_bytes};
 ghost use Rattle.openqasm_io.specs.Answered.{Ends};
 
+use listing::MOST_BYTES;
 use listing_check::LEAST_WORK;
-use openqasm::Conversion;
 use openqasm_export::{MOST_TEXT, export};
-use openqasm_import::{MOST_BYTES, import};
+use openqasm_import::import;
 use openqasm_parts::SLOTS_BYTES;
-use refusals::{number_of, place_of};
+use refusals::{Refusal, number_of, place_of};
 use std::io;
 use std::io::{Read, Write};
-use streams::{read_full, write_all};
+use streams::{Answers, answer_input};
 use wirelist_lines::write_refusal;
 
 // One byte more than the longest listing has, and one more than the longest text.
@@ -29,21 +30,18 @@ const MOST_TEXT_READ: usize = MOST_TEXT + 1;
 
 // All that is printed for an answer is put at the start of the output buffer: what was converted stands there, and the line of a
 // refusal is written; answers how many bytes.
-fn write_answer(answer: Conversion, out: &mut [u8]) -> usize
+fn write_answer(answer: Result<usize, Refusal>, out: &mut [u8]) -> usize
     ensures { Ends answer out.old out.new result }
 {
     match answer {
-        Conversion::Written { length } => length,
-        Conversion::Refused(refusal) => {
-            let number = number_of(refusal);
-            let place = place_of(refusal);
-            write_refusal(number, place, out)
-        }
+        Ok(length) => length,
+        Err(refusal) => write_refusal(number_of(refusal), place_of(refusal), out),
     }
 }
 
-// All that qasmout prints for a listing is written from the start of the output buffer; answers how many bytes.
-pub fn print_export(listing: &[u8], out: &mut [u8; MOST_TEXT]) -> usize
+// All that qasmout prints for a listing is put at the start of an output buffer that is long enough; answers how many bytes.
+fn put_export(listing: &[u8], out: &mut [u8]) -> usize
+    requires { most_text ≤ length out.old }
     ensures out_after { take result out.new ≡ exported_bytes listing.now }
     ensures upper_bound { result ≤ length out.new }
 {
@@ -53,7 +51,8 @@ pub fn print_export(listing: &[u8], out: &mut [u8; MOST_TEXT]) -> usize
 }
 
 // The same of what qasmin prints for a text.
-pub fn print_import(text: &[u8], out: &mut [u8; MOST_BYTES]) -> usize
+fn put_import(text: &[u8], out: &mut [u8]) -> usize
+    requires { most_bytes ≤ length out.old }
     ensures out_after { take result out.new ≡ imported_bytes text.now }
     ensures upper_bound { result ≤ length out.new }
 {
@@ -72,25 +71,54 @@ pub fn print_import(text: &[u8], out: &mut [u8; MOST_BYTES]) -> usize
     write_answer(answer, out)
 }
 
-// Reads a listing, or a text, until it ends, the most bytes are read or a read fails; answers how many bytes, and the error of that
-// read.
-fn read_listing<R: Read>(
-    input: &mut R,
-    listing: &mut [u8; MOST_LISTING_READ],
-) -> (usize, io::Result<()>)
-    ensures within { (result.0 ≤ most_listing_read) × (length listing.new ≡ most_listing_read) }
-    ensures taken { Consumes (R.remaining input.old) (R.remaining input.new) (take result.0 listing.new) }
-    ensures whole { OnOk result.1 (ReadsFirst most_listing_read (R.remaining input.old) (take result.0 listing.new)) }
+// All that qasmout prints for a listing is written from the start of the output buffer; answers how many bytes.
+pub fn print_export(listing: &[u8], out: &mut [u8; MOST_TEXT]) -> usize
+    ensures out_after { take result out.new ≡ exported_bytes listing.now }
+    ensures upper_bound { result ≤ length out.new }
 {
-    read_full(input, listing)
+    put_export(listing, out)
 }
 
-fn read_text<R: Read>(input: &mut R, text: &mut [u8; MOST_TEXT_READ]) -> (usize, io::Result<()>)
-    ensures within { (result.0 ≤ most_text_read) × (length text.new ≡ most_text_read) }
-    ensures taken { Consumes (R.remaining input.old) (R.remaining input.new) (take result.0 text.new) }
-    ensures whole { OnOk result.1 (ReadsFirst most_text_read (R.remaining input.old) (take result.0 text.new)) }
+// The same of what qasmin prints for a text.
+pub fn print_import(text: &[u8], out: &mut [u8; MOST_BYTES]) -> usize
+    ensures out_after { take result out.new ≡ imported_bytes text.now }
+    ensures upper_bound { result ≤ length out.new }
 {
-    read_full(input, text)
+    put_import(text, out)
+}
+
+// What qasmout answers a listing with.
+#[derive(Clone, Copy)]
+struct Qasmout;
+
+impl Answers for Qasmout {
+    ghost answer = { exported_bytes };
+
+    ghost most_written = { most_text };
+
+    fn put_answer(&self, listing: &[u8], out: &mut [u8]) -> usize {
+        if out.len() < MOST_TEXT {
+            return 0;
+        }
+        put_export(listing, out)
+    }
+}
+
+// What qasmin answers a text with.
+#[derive(Clone, Copy)]
+struct Qasmin;
+
+impl Answers for Qasmin {
+    ghost answer = { imported_bytes };
+
+    ghost most_written = { most_bytes };
+
+    fn put_answer(&self, text: &[u8], out: &mut [u8]) -> usize {
+        if out.len() < MOST_BYTES {
+            return 0;
+        }
+        put_import(text, out)
+    }
 }
 
 // Reads a listing and prints its text. Where a read fails, what was read until then is taken for the whole, and the error is answered
@@ -100,11 +128,8 @@ pub fn export_all<R: Read, W: Write>(input: &mut R, output: &mut W) -> io::Resul
     ensures part { WritesPart exported_bytes (R.remaining input.old) (W.contents output.old) (W.contents output.new) }
 {
     let mut listing = [0u8; MOST_LISTING_READ];
-    let (size, read) = read_listing(input, &mut listing);
     let mut out = [0u8; MOST_TEXT];
-    let length = print_export(&listing[..size], &mut out);
-    write_all(output, &out[..length])?;
-    read
+    answer_input(&Qasmout, input, output, &mut listing, &mut out)
 }
 
 // Reads a text and prints its listing, in the same way.
@@ -113,9 +138,6 @@ pub fn import_all<R: Read, W: Write>(input: &mut R, output: &mut W) -> io::Resul
     ensures part { WritesPart imported_bytes (R.remaining input.old) (W.contents output.old) (W.contents output.new) }
 {
     let mut text = [0u8; MOST_TEXT_READ];
-    let (size, read) = read_text(input, &mut text);
     let mut out = [0u8; MOST_BYTES];
-    let length = print_import(&text[..size], &mut out);
-    write_all(output, &out[..length])?;
-    read
+    answer_input(&Qasmin, input, output, &mut text, &mut out)
 }

@@ -3,7 +3,6 @@ use Rattle.std.specs.Prelude.{ℕ, ◌+◌, ◌*◌, ◌≤◌, ◌≡◌, lengt
 use mathlib.Core.List.{List, [], ◌∷◌, ◌++◌, flat_map}
 use Rattle.rules.specs.Gates.{is_gate}
 use Rattle.rules.specs.Sizes.{most_labels, most_gates}
-use Rattle.words.specs.Words.{words}
 use Rattle.words.specs.Regions.{Stands}
 use Rattle.listing.specs.Listing.{bytes_of, kinds as kind_bytes_is, entry_slots, all_slots}
 use Rattle.openqasm_parts.specs.Reading.{Parts, is_input, with_input, with_gate, is_output, with_output, items_read}
@@ -60,7 +59,7 @@ pub record GatesRead (labels gates left : ℕ) (text : List ℕ) (at inputs i ma
   pub so_far : Parts
   pub then_all : items_read is_gate with_gate left so_far ≡ behind_gates labels gates text
   pub stored : Stored so_far text at inputs i 0 kinds slots
-  pub held_are : words held ≡ so_far.held
+  pub held_are : held ≡ so_far.held
   pub made_is : made ≡ so_far.made
   pub few_inputs : inputs ≤ labels
   pub few : i + left ≤ gates
@@ -73,7 +72,7 @@ pub record OutputsRead (labels gates outputs left : ℕ) (text : List ℕ) (at i
   pub so_far : Parts
   pub then_all : items_read is_output with_output left so_far ≡ behind_outputs labels gates outputs text
   pub stored : Stored so_far text at inputs done i kinds slots
-  pub held_are : words held ≡ so_far.held
+  pub held_are : held ≡ so_far.held
   pub few_inputs : inputs ≤ labels
   pub few_gates : done ≤ gates
   pub few : i + left ≤ outputs

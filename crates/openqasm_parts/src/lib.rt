@@ -10,20 +10,19 @@ mod registers;
 ghost use Rattle.std.specs.Prelude.{ℕ, ◌≤◌, ◌≡◌, List, length};
 ghost use Rattle.rules.specs.Circuits.{numbers};
 ghost use Rattle.rules.specs.Sizes.{most_labels, most_gates};
-ghost use Rattle.words.specs.Words.{words};
 ghost use Rattle.text.specs.Written.{Written};
 ghost use Rattle.listing.specs.Listing.{most_outputs};
 ghost use Rattle.openqasm_parts.specs.Reading.{is_input, listing_read, slots_bytes};
 ghost use Rattle.openqasm_parts.specs.Stored.{kinds_bytes, assembled, InputsRead, GatesRead, OutputsRead};
 
-use entries::{put_entry, put_word};
+use entries::{put_entry, put_slot, put_word};
 use listing::{ENTRY_SLOTS, MOST_OUTPUTS};
 use openqasm_reader::{BIT_ITEM, OUTPUT_ITEM, QUBIT_ITEM, read_item};
 use registers::{hold_wires, number_registers, slot_wire, wire_in};
 use rules::sizes::{MOST_GATES, MOST_LABELS};
 use rules::slots::NO_WIRE;
 use rules::{is_gate, wires_in};
-use text::put_bytes;
+use text::Writer;
 
 // What the reading needs: a byte for the kind of each entry; the slots of each entry, and the outputs behind them.
 pub const KINDS_BYTES: usize = MOST_LABELS + MOST_GATES;
@@ -42,14 +41,12 @@ struct Progress {
     at: usize,
 }
 
-// Is an item of this kind a declaration?
+// Is an item of this kind a declaration? The check of a listing asks the like of a listing's kinds; this is `is_input` of items, which the
+// reading of a text is defined by.
 fn is_input(kind: usize) -> bool
     ensures { result ≡ is_input kind }
 {
-    if kind == BIT_ITEM {
-        return true;
-    }
-    kind == QUBIT_ITEM
+    matches!(kind, BIT_ITEM | QUBIT_ITEM)
 }
 
 // The declarations.
@@ -57,18 +54,19 @@ fn read_inputs(text: &[u8], kinds: &mut [u8], slots: &mut [u8]) -> Progress
     requires { (kinds_bytes ≤ length kinds.old) × (slots_bytes ≤ length slots.old) }
     ensures { InputsRead most_labels 0 text.now result.at result.count kinds.new slots.new }
 {
-    let mut at: usize = HEADER;
-    let mut i: usize = 0;
-    while i < MOST_LABELS {
+    let mut at = HEADER;
+    for i in 0..MOST_LABELS {
         let item = read_item(text, at);
         if !is_input(item.kind) {
             return Progress { count: i, at };
         }
         put_entry(kinds, slots, i, item.kind, NO_WIRE, NO_WIRE, NO_WIRE);
         at += item.length;
-        i += 1;
     }
-    Progress { count: i, at }
+    Progress {
+        count: MOST_LABELS,
+        at,
+    }
 }
 
 // The gates, from a place on, behind so many inputs.
@@ -76,13 +74,13 @@ fn read_gates(
     text: &[u8],
     at: usize,
     inputs: usize,
-    held: &mut [u8],
+    held: &mut [u16],
     kinds: &mut [u8],
     slots: &mut [u8],
 ) -> Progress
     requires { (kinds_bytes ≤ length kinds.old)
         × (slots_bytes ≤ length slots.old)
-        × (words held.old ≡ numbers 0 most_labels)
+        × (held.old ≡ numbers 0 most_labels)
         × InputsRead most_labels 0 text.now at inputs kinds.old slots.old }
     ensures { (made : ℕ)
         × GatesRead most_labels most_gates 0 text.now result.at inputs result.count made
@@ -90,8 +88,7 @@ fn read_gates(
 {
     let mut here = at;
     let mut made = inputs;
-    let mut i: usize = 0;
-    while i < MOST_GATES {
+    for i in 0..MOST_GATES {
         let item = read_item(text, here);
         if !is_gate(item.kind) {
             return Progress { count: i, at: here };
@@ -103,9 +100,11 @@ fn read_gates(
         put_entry(kinds, slots, inputs + i, item.kind, first, second, third);
         made = hold_wires(held, count, item.first, item.second, item.third, made);
         here += item.length;
-        i += 1;
     }
-    Progress { count: i, at: here }
+    Progress {
+        count: MOST_GATES,
+        at: here,
+    }
 }
 
 // The outputs, from the place behind so many inputs and gates on; answers how many.
@@ -114,7 +113,7 @@ fn read_outputs(
     at: usize,
     inputs: usize,
     gates: usize,
-    held: &[u8],
+    held: &[u16],
     slots: &mut [u8],
 ) -> usize
     requires { (slots_bytes ≤ length slots.old)
@@ -128,17 +127,15 @@ fn read_outputs(
 {
     let from = 2 * ENTRY_SLOTS * (inputs + gates);
     let mut here = at + OUTPUTS_MARK;
-    let mut i: usize = 0;
-    while i < MOST_OUTPUTS {
+    for i in 0..MOST_OUTPUTS {
         let item = read_item(text, here);
         if item.kind != OUTPUT_ITEM {
             return i;
         }
-        put_word(slots, from + 2 * i, wire_in(held, item.first));
+        put_slot(slots, from + 2 * i, wire_in(held, item.first));
         here += item.length;
-        i += 1;
     }
-    i
+    MOST_OUTPUTS
 }
 
 // The listing of so many inputs, gates and outputs: their numbers, their kinds, and their slots with the outputs behind them.
@@ -161,11 +158,13 @@ fn assemble(
 {
     let entries = inputs + gates;
     let wires = 2 * ENTRY_SLOTS * entries + 2 * outputs;
-    let first = put_word(listing, 0, inputs);
-    let second = put_word(listing, first, gates);
-    let third = put_word(listing, second, outputs);
-    let behind = put_bytes(listing, third, &kinds[..entries]);
-    put_bytes(listing, behind, &slots[..wires])
+    let mut out = Writer::new(listing);
+    put_word(&mut out, inputs);
+    put_word(&mut out, gates);
+    put_word(&mut out, outputs);
+    out.put_bytes(&kinds[..entries]);
+    out.put_bytes(&slots[..wires]);
+    out.at
 }
 
 // The listing of the parts that are read from a text is written from the start of a buffer, as much of it as that holds; answers
@@ -181,7 +180,7 @@ pub fn read_listing(text: &[u8], kinds: &mut [u8], slots: &mut [u8], listing: &m
     if slots.len() < SLOTS_BYTES {
         return 0;
     }
-    let mut held = [0u8; 2 * MOST_LABELS];
+    let mut held = [0u16; MOST_LABELS];
     number_registers(&mut held);
     let inputs = read_inputs(text, kinds, slots);
     let gates = read_gates(text, inputs.at, inputs.count, &mut held, kinds, slots);

@@ -6,25 +6,27 @@
 #![tactic(auto)]
 
 ghost use Rattle.std.specs.Prelude.{◌+◌, ◌≤◌, ◌<◌, ◌^◌, ◌≡◌, get_or, drop};
-ghost use Rattle.openqasm_reader.specs.Items.{is_digit, digits_in, number_in, ccx_item, before, between, behind};
+ghost use Rattle.openqasm_reader.specs.Items.{digits_in, number_in, ccx_item, before, between, behind};
 ghost use Rattle.openqasm_reader.specs.Items.{one_number, two_numbers, three_numbers, item_in};
 ghost use Rattle.openqasm_reader.specs.Bounds.{Bounded};
 
-use words::{byte_at, saturating_sub};
+use rules::gates::{BX, BZ, CCX, CNOT, H, MEAS, S, T, X, Z};
+use words::byte_at;
 
-// The gate on three qubits.
-const CCX_ITEM: usize = 11;
-
-// The kinds of items that are no gate: a declaration of an input, as a listing has its kind; the name of an output; none.
+// The kinds of items are the gates by their numbers, and these: a declaration of an input, as a listing has its kind; the name of an
+// output. Numbers and no enum, for put_entry of openqasm_parts writes the kind of an item into the listing as it is.
 pub const BIT_ITEM: usize = 128;
 
 pub const QUBIT_ITEM: usize = 129;
 
 pub const OUTPUT_ITEM: usize = 130;
 
+// No item. A kind and no Option, for item_in and the theorem nothing_read have this kind where no item begins; and callers ask for
+// the kinds that they want, of which this is none.
 pub const NO_ITEM: usize = 255;
 
-// A declaration, a gate or the name of an output: its kind, its numbers, and how many bytes it has.
+// A declaration, a gate or the name of an output: its kind, its numbers, and how many bytes it has. That these are small (Bounded) stands in
+// each contract and in no ghost field: the definition item_in builds items, and would have to prove it there.
 #[derive(Drop)]
 pub struct Item {
     pub kind: usize,
@@ -48,16 +50,6 @@ pub struct Reader<'a> {
     pub at: usize,
 }
 
-// Is the byte a digit, 48 to 57?
-fn is_digit(byte: u8) -> bool
-    ensures { result ≡ is_digit byte }
-{
-    if byte < 48 {
-        return false;
-    }
-    byte < 58
-}
-
 // The number at a place.
 fn number_at(text: &[u8], at: usize) -> Number
     requires { at + 1 < 2 ^ 64 }
@@ -65,11 +57,11 @@ fn number_at(text: &[u8], at: usize) -> Number
     ensures digits { result.digits ≡ digits_in (drop at text.now) }
     ensures value_bound { (result.value < 4096) × (result.digits ≤ 2) }
 {
-    let first = saturating_sub(byte_at(text, at) as usize, 48);
+    let first = byte_at(text, at).saturating_sub(b'0') as usize;
     let next = byte_at(text, at + 1);
-    if is_digit(next) {
+    if next.is_ascii_digit() {
         return Number {
-            value: 10 * first + saturating_sub(next as usize, 48),
+            value: 10 * first + next.saturating_sub(b'0') as usize,
             digits: 2,
         };
     }
@@ -79,7 +71,9 @@ fn number_at(text: &[u8], at: usize) -> Number
     }
 }
 
-// An item with one number, with so many bytes before it and behind it.
+// An item with one number, with so many bytes before it and behind it. It is no twin of the next two: those differ in how many
+// numbers they read, and where the next one stands follows from the digits of the last. That the place is far from the greatest number
+// is asked of five private functions and stands in no field of Reader: a Reader may stand at any place, and item_at learns it there.
 fn one_number(text: &[u8], at: usize, kind: usize, prefix: usize, suffix: usize) -> Item
     requires at_bound { (at + 64 < 2 ^ 64) × (kind < 256) × (prefix ≤ 9) × (suffix ≤ 5) }
     requires prefix_value { (prefix ≡ before kind) × (suffix ≡ behind kind) }
@@ -126,7 +120,7 @@ fn three_numbers(text: &[u8], at: usize) -> Item
     let third_place = next_place + second.digits + 5;
     let third = number_at(text, third_place);
     Item {
-        kind: CCX_ITEM,
+        kind: CCX,
         first: first.value,
         second: second.value,
         third: third.value,
@@ -135,44 +129,44 @@ fn three_numbers(text: &[u8], at: usize) -> Item
 }
 
 // What begins with c: a bit register, a CCX or a CNOT, by its second byte.
+#[tactic(auto, unfolding(crate::specs::Items::before, crate::specs::Items::between, crate::specs::Items::behind))]
 fn bit_register_or_gate(text: &[u8], at: usize) -> Item
     requires { (at + 64 < 2 ^ 64) × (get_or text.now at 0 ≡ 99) }
     ensures { (result ≡ item_in (drop at text.now)) × Bounded result }
 {
-    let second = byte_at(text, at + 1);
-    if second == b'r' {
-        return one_number(text, at, BIT_ITEM, 6, 5);
+    match byte_at(text, at + 1) {
+        b'r' => one_number(text, at, BIT_ITEM, 6, 5),
+        b'c' => three_numbers(text, at),
+        _ => two_numbers(text, at, CNOT, 4, 5),
     }
-    if second == b'c' {
-        return three_numbers(text, at);
-    }
-    two_numbers(text, at, 5, 4, 5)
 }
 
 // A gate on a Bit and a Qubit: its name, behind the `if`, says which.
+#[tactic(auto, unfolding(crate::specs::Items::before, crate::specs::Items::between, crate::specs::Items::behind))]
 fn controlled_gate(text: &[u8], at: usize) -> Item
     requires { (at + 64 < 2 ^ 64) × (get_or text.now at 0 ≡ 105) }
     ensures { (result ≡ item_in (drop at text.now)) × Bounded result }
 {
     let bit = number_at(text, at + 4);
     if byte_at(text, at + 9 + bit.digits) == b'x' {
-        return two_numbers(text, at, 7, 4, 8);
+        return two_numbers(text, at, BX, 4, 8);
     }
-    two_numbers(text, at, 8, 4, 8)
+    two_numbers(text, at, BZ, 4, 8)
 }
 
 // The item at a place of a text, by its first byte.
+#[tactic(auto, using(crate::proofs::Laws::Items::inside), unfolding(crate::specs::Items::before, crate::specs::Items::between, crate::specs::Items::behind))]
 pub fn item_at(text: &[u8], at: usize) -> Item
     ensures { (result ≡ item_in (drop at text.now)) × Bounded result }
 {
     match byte_at(text, at) {
-        b'h' => one_number(text, at, 0, 3, 5),
-        b'x' => one_number(text, at, 1, 3, 5),
-        b'z' => one_number(text, at, 2, 3, 5),
-        b's' => one_number(text, at, 3, 3, 5),
-        b't' => one_number(text, at, 4, 3, 5),
+        b'h' => one_number(text, at, H, 3, 5),
+        b'x' => one_number(text, at, X, 3, 5),
+        b'z' => one_number(text, at, Z, 3, 5),
+        b's' => one_number(text, at, S, 3, 5),
+        b't' => one_number(text, at, T, 3, 5),
         b'c' => bit_register_or_gate(text, at),
-        b'm' => two_numbers(text, at, 6, 9, 8),
+        b'm' => two_numbers(text, at, MEAS, 9, 8),
         b'i' => controlled_gate(text, at),
         b'q' => two_numbers(text, at, QUBIT_ITEM, 6, 11),
         b' ' => one_number(text, at, OUTPUT_ITEM, 2, 0),
@@ -186,7 +180,7 @@ pub fn item_at(text: &[u8], at: usize) -> Item
     }
 }
 
-// A reader of a text at a place.
+// A reader of a text at a place. Functions and no methods: docs/DEMANDS.md has them for what 01 asks of a reader.
 pub fn reader_at<'a>(text: &'a [u8], at: usize) -> Reader<'a>
     ensures { (result.text ≡ text.entry) × (result.at ≡ at) }
 {

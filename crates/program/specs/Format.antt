@@ -1,5 +1,5 @@
 -- The program file (01, "Program file").
-use Rattle.std.specs.Prelude.{ℕ, ◌+◌, ◌*◌, Bool, true, false, ◌&&◌, cond, List, eqb, leb, ltb, get_or}
+use Rattle.std.specs.Prelude.{ℕ, ◌+◌, ◌*◌, Bool, true, false, ◌&&◌, cond, Option, Some, None, List, eqb, leb, ltb, get_or}
 use Rattle.words.specs.Numbers.{word_at}
 use Rattle.rules.specs.Kinds.{qubit_kind, pair_type_kind, function_kind, reusable_kind, circuit_kind, unit_kind, variable_kind}
 use Rattle.rules.specs.Kinds.{label_kind, abstraction_kind, application_kind, let_kind, lift_kind, force_kind, box_kind}
@@ -9,7 +9,6 @@ use Rattle.program.specs.declared.format.Argument.{Argument}
 use Rattle.program.specs.declared.format.Argument.TheVariants.{Zero, LabelNumber, GateNumber, TypePosition}
 use Rattle.program.specs.declared.format.Argument.TheVariants.{BinderCount}
 use Rattle.program.specs.declared.format.Shape.{Shape}
-use Rattle.program.specs.declared.format.Shape.TheVariants.{Node, Unknown}
 
 -- 01: "Three 16-bit sizes, low byte first: L labels".
 abbrev pub label_count : List ℕ → ℕ
@@ -43,43 +42,42 @@ argument_at f e = word_at f (6 + entry_count f + 2 * e)
 abbrev pub within : ℕ → ℕ → ℕ → Bool
 within least greatest k = leb least k && leb k greatest
 
+-- The shape of a kind with so many parts and this rule for the argument. A number that is no kind of its section has none.
+abbrev pub known : ℕ → Argument → Option Shape
+known parts argument = Some (record { parts = parts; argument = argument })
+
 -- 01: "label section: 0 Bit, 1 Qubit."
-unfoldable pub label_shape : ℕ → Shape
-label_shape k = cond (leb k qubit_kind) (Node 0 Zero) Unknown
+unfoldable pub label_shape : ℕ → Option Shape
+label_shape k = cond (leb k qubit_kind) (known 0 Zero) None
 
 -- 01: "type section: 0 Bit, 1 Qubit (no parts); 2 pair, 3 function, 5 circuit (two parts); 4 reusable (one)." 02, ticket 5: "a
 -- unit type (type kind 6)", without parts.
-unfoldable pub type_shape : ℕ → Shape
+unfoldable pub type_shape : ℕ → Option Shape
 type_shape k =
-    cond (leb k qubit_kind) (Node 0 Zero)
-    (cond (within pair_type_kind function_kind k) (Node 2 Zero)
-    (cond (eqb k reusable_kind) (Node 1 Zero)
-    (cond (eqb k circuit_kind) (Node 2 Zero) (cond (eqb k unit_kind) (Node 0 Zero) Unknown))))
+    cond (leb k qubit_kind) (known 0 Zero)
+    (cond (within pair_type_kind function_kind k) (known 2 Zero)
+    (cond (eqb k reusable_kind) (known 1 Zero)
+    (cond (eqb k circuit_kind) (known 2 Zero) (cond (eqb k unit_kind) (known 0 Zero) None))))
 
 -- 01: "term section: 16 variable, 17 label, 26 gate (no parts); 18 abstraction, 22 lift, 23 force, 24 box (one);
 -- 19 application, 20 pair, 21 let, 25 apply (two)." "A label or gate has its number. Abstraction and box have a type
 -- position, 0 to P−1. Every other argument is 0." 02, ticket 5: "its value (term kind 27)", without parts.
-unfoldable pub term_shape : ℕ → Shape
+unfoldable pub term_shape : ℕ → Option Shape
 term_shape k =
-    cond (eqb k variable_kind) (Node 0 BinderCount)
-    (cond (eqb k label_kind) (Node 0 LabelNumber)
-    (cond (eqb k abstraction_kind) (Node 1 TypePosition)
-    (cond (within application_kind let_kind k) (Node 2 Zero)
-    (cond (within lift_kind force_kind k) (Node 1 Zero)
-    (cond (eqb k box_kind) (Node 1 TypePosition)
-    (cond (eqb k apply_kind) (Node 2 Zero)
-    (cond (eqb k gate_term_kind) (Node 0 GateNumber) (cond (eqb k unit_value_kind) (Node 0 Zero) Unknown))))))))
+    cond (eqb k variable_kind) (known 0 BinderCount)
+    (cond (eqb k label_kind) (known 0 LabelNumber)
+    (cond (eqb k abstraction_kind) (known 1 TypePosition)
+    (cond (within application_kind let_kind k) (known 2 Zero)
+    (cond (within lift_kind force_kind k) (known 1 Zero)
+    (cond (eqb k box_kind) (known 1 TypePosition)
+    (cond (eqb k apply_kind) (known 2 Zero)
+    (cond (eqb k gate_term_kind) (known 0 GateNumber) (cond (eqb k unit_value_kind) (known 0 Zero) None))))))))
 
 -- The shape of an entry, by its section.
-unfoldable pub shape_at : List ℕ → ℕ → Shape
+unfoldable pub shape_at : List ℕ → ℕ → Option Shape
 shape_at f e =
     cond (ltb e (label_count f)) (label_shape (kind_at f e))
     (cond (ltb e (first_term f)) (type_shape (kind_at f e)) (term_shape (kind_at f e)))
-
--- 4: whether a kind is one of its section.
-abbrev pub is_known : Shape → Bool
-is_known (Node parts argument) = true
-is_known Unknown = false
 
 -- Whether an argument is allowed, in a file with this many labels and type entries. Of a variable every argument is:
 -- refusal 9 is about its binder.
@@ -91,6 +89,6 @@ argument_allowed labels types TypePosition a = ltb a types
 argument_allowed labels types BinderCount a = true
 
 -- 5: whether an entry of this shape may have this argument.
-abbrev pub shape_allows : ℕ → ℕ → Shape → ℕ → Bool
-shape_allows labels types (Node parts argument) a = argument_allowed labels types argument a
-shape_allows labels types Unknown a = false
+abbrev pub shape_allows : ℕ → ℕ → Option Shape → ℕ → Bool
+shape_allows labels types (Some shape) a = argument_allowed labels types shape.argument a
+shape_allows labels types None a = false

@@ -6,7 +6,6 @@ pub mod ArgumentRules
 pub mod PartsUnder
 pub mod Traversal
 pub mod Reading
-pub mod Failing
 pub mod Encoding
 pub mod Parts
 pub mod CaseFiles

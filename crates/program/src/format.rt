@@ -1,19 +1,17 @@
 // Bytes, kinds and arguments of a program file (01, "Program file").
 ghost use Rattle.std.specs.Prelude.{◌≡◌, ◌+◌, ◌^◌, ◌<◌};
-ghost use Rattle.rules.specs.Parts.{parts_of_kind};
 ghost use Rattle.program.specs.Format.{kind_at, argument_at, label_shape, type_shape, term_shape};
-ghost use Rattle.program.specs.ArgumentRules.{rule_of, rule_allows, rule_at, shape_by};
+ghost use Rattle.program.specs.ArgumentRules.{rule_of, rule_allows};
 ghost use Rattle.program.specs.Format.{entry_count};
 
 use rules::kinds::{
     ABSTRACTION, APPLICATION, APPLY, BIT, BOX, FORCE, GATE, LABEL, QUBIT, UNIT, UNIT_VALUE,
     VARIABLE,
 };
-use rules::parts::parts_of_kind;
 use words::{byte_at, word_at};
 
 // What an entry's argument must be.
-#[derive(Drop)]
+#[derive(Clone, Copy)]
 pub enum Argument {
     Zero,
     LabelNumber,
@@ -22,18 +20,11 @@ pub enum Argument {
     BinderCount,
 }
 
-// What the kind byte settles: how many parts follow, and the rule for the argument.
-#[derive(Drop)]
-pub enum Shape {
-    Node { parts: usize, argument: Argument },
-    Unknown,
-}
-
-// The rule for an entry's argument, where its kind is one of its section.
-#[derive(Drop)]
-pub enum Rule {
-    Follows(Argument),
-    NoKind,
+// What a kind of its section settles: how many parts follow, and the rule for the argument.
+#[derive(Clone, Copy)]
+pub struct Shape {
+    pub parts: usize,
+    pub argument: Argument,
 }
 
 // The sizes at the start of a file.
@@ -57,6 +48,7 @@ pub const TYPES: usize = 2;
 pub const TERMS: usize = 4;
 
 // The kind byte of entry e; 0 past the end.
+#[tactic(auto, using(words::proofs::Laws::Numbers::byte_past), unfolding(crate::specs::Format::kind_at))]
 pub fn kind_at(file: &[u8], e: usize) -> usize
     ensures value { result ≡ kind_at file.now e }
     ensures upper_bound { result < 256 }
@@ -76,6 +68,7 @@ pub fn entry_count(file: &[u8]) -> usize
 }
 
 // The argument of entry e; 0 past the end.
+#[tactic(auto, using(words::proofs::Laws::Numbers::number_past), unfolding(crate::specs::Format::argument_at))]
 pub fn argument_at(file: &[u8], e: usize) -> usize
     ensures value { result ≡ argument_at file.now e }
     ensures upper_bound { result < 65536 }
@@ -86,83 +79,56 @@ pub fn argument_at(file: &[u8], e: usize) -> usize
     word_at(file, SIZES + entry_count(file) + 2 * e)
 }
 
-// The rule of a kind in each section.
-pub(crate) fn label_rule(kind: usize) -> Rule
+// The rule of a kind in each section, where it is one of the section: a match each, as 01 asks ("by section and range").
+#[tactic(auto, using(crate::proofs::Laws::Scans::label_shapes), unfolding(crate::specs::Format::label_shape))]
+pub(crate) fn label_rule(kind: usize) -> Option<Argument>
     ensures { result ≡ rule_of (label_shape kind) }
 {
     match kind {
-        BIT..=QUBIT => Rule::Follows(Argument::Zero),
-        _ => Rule::NoKind,
+        BIT..=QUBIT => Some(Argument::Zero),
+        _ => None,
     }
 }
 
-pub(crate) fn type_rule(kind: usize) -> Rule
+#[tactic(auto, using(crate::proofs::Laws::Scans::type_section))]
+pub(crate) fn type_rule(kind: usize) -> Option<Argument>
     ensures { result ≡ rule_of (type_shape kind) }
 {
     match kind {
-        BIT..=UNIT => Rule::Follows(Argument::Zero),
-        _ => Rule::NoKind,
+        BIT..=UNIT => Some(Argument::Zero),
+        _ => None,
     }
 }
 
-pub(crate) fn term_rule(kind: usize) -> Rule
+#[tactic(auto, using(crate::proofs::Laws::Scans::term_section), unfolding(crate::specs::Format::term_shape))]
+pub(crate) fn term_rule(kind: usize) -> Option<Argument>
     ensures { result ≡ rule_of (term_shape kind) }
 {
     match kind {
-        VARIABLE => Rule::Follows(Argument::BinderCount),
-        LABEL => Rule::Follows(Argument::LabelNumber),
-        ABSTRACTION => Rule::Follows(Argument::TypePosition),
-        APPLICATION..=FORCE => Rule::Follows(Argument::Zero),
-        BOX => Rule::Follows(Argument::TypePosition),
-        APPLY => Rule::Follows(Argument::Zero),
-        GATE => Rule::Follows(Argument::GateNumber),
-        UNIT_VALUE => Rule::Follows(Argument::Zero),
-        _ => Rule::NoKind,
+        VARIABLE => Some(Argument::BinderCount),
+        LABEL => Some(Argument::LabelNumber),
+        ABSTRACTION => Some(Argument::TypePosition),
+        APPLICATION..=FORCE => Some(Argument::Zero),
+        BOX => Some(Argument::TypePosition),
+        APPLY => Some(Argument::Zero),
+        GATE => Some(Argument::GateNumber),
+        UNIT_VALUE => Some(Argument::Zero),
+        _ => None,
     }
-}
-
-// The rule of an entry of this kind, by its section.
-pub(crate) fn rule_at(s: Sizes, e: usize, kind: usize) -> Rule
-    requires { s.labels + s.types < 2 ^ 64 }
-    ensures { result ≡ rule_at s.labels (s.labels + s.types) e kind }
-{
-    if e < s.labels {
-        return label_rule(kind);
-    }
-    if e < s.labels + s.types {
-        return type_rule(kind);
-    }
-    term_rule(kind)
 }
 
 // Whether a rule allows an argument.
-pub(crate) fn rule_allows(s: Sizes, rule: Rule, a: usize) -> bool
+pub(crate) fn rule_allows(s: Sizes, rule: Option<Argument>, a: usize) -> bool
     ensures { result ≡ rule_allows s.labels s.types rule a }
 {
-    match rule {
-        Rule::Follows(argument) => match argument {
-            Argument::Zero => a == 0,
-            Argument::LabelNumber => a < s.labels,
-            Argument::GateNumber => rules::is_gate(a),
-            Argument::TypePosition => a < s.types,
-            Argument::BinderCount => true,
-        },
-        Rule::NoKind => false,
-    }
-}
-
-// The shape of entry e, which has this kind: its rule, and the parts of the kind. What needs no parts asks for the rule alone, since
-// each lookup in the table of parts builds it.
-pub(crate) fn shape_at(s: Sizes, e: usize, kind: usize) -> Shape
-    requires { s.labels + s.types < 2 ^ 64 }
-    ensures { result ≡ shape_by (rule_at s.labels (s.labels + s.types) e kind) (parts_of_kind kind) }
-{
-    let rule = rule_at(s, e, kind);
-    match rule {
-        Rule::Follows(argument) => Shape::Node {
-            parts: parts_of_kind(kind),
-            argument,
-        },
-        Rule::NoKind => Shape::Unknown,
+    let Some(argument) = rule else {
+        return false;
+    };
+    match argument {
+        Argument::Zero => a == 0,
+        Argument::LabelNumber => a < s.labels,
+        Argument::GateNumber => rules::is_gate(a),
+        Argument::TypePosition => a < s.types,
+        Argument::BinderCount => true,
     }
 }

@@ -1,27 +1,18 @@
 // Traversals over entries that stand in preorder.
-ghost use Rattle.std.specs.Prelude.{◌≡◌, ◌+◌, ◌*◌, ◌^◌, ◌<◌, ◌≤◌};
-ghost use Rattle.program.specs.Format.{entry_count, kind_at, shape_at};
-ghost use Rattle.program.specs.Sized.{Sized};
-ghost use Rattle.program.specs.Reading.{reaches, runs_out};
+ghost use Rattle.std.specs.Prelude.{◌≡◌, ℕ, ◌+◌, ◌*◌, ◌^◌, ◌<◌, ◌≤◌, List, IfOk};
+ghost use Rattle.program.specs.Reading.{runs_out};
 ghost use Rattle.program.specs.PartsUnder.{parts_under};
-ghost use Rattle.program.specs.Traversal.{parts_of, wire_parts, scope_parts, parts_at};
-ghost use Rattle.program.specs.Reach.{InReach, TraversedOf};
+ghost use Rattle.program.specs.Traversal.{Subject, End, parts_of, wire_parts, scope_parts, parts_at};
+ghost use Rattle.program.specs.Reach.{PartsFit, TraversedOf};
+ghost use Rattle.program.specs.declared.traversal.Parts.{Parts};
 
-use crate::format;
-use crate::format::{Shape, Sizes};
+use crate::file::File;
+use crate::format::{Shape, argument_at, kind_at};
 use rules::kinds::{ABSTRACTION, BIT, LET, PAIR_TYPE, UNIT, VARIABLE};
 use rules::parts::parts_of_kind;
 
-// What a traversal looks at: where a type ends, whether it is a wire type, where a term ends, whether its variables are bound.
-#[derive(Clone, Copy)]
-pub enum Subject {
-    TypeEnd,
-    WireType,
-    TermEnd,
-    Scope,
-}
-
-// The parts that an entry waits for, each with the number of binders around it, or that the traversal stops there.
+// The parts that an entry waits for, each with the number of binders around it, or that the traversal stops there: one of four ways to go
+// on, and no None, in the definitions too.
 #[derive(Drop)]
 pub enum Parts {
     Leaf,
@@ -30,10 +21,9 @@ pub enum Parts {
     Stop,
 }
 
-// How a traversal ends: after the last entry of what it traversed, at an entry that stopped it, or at the end of the section.
-#[derive(Drop)]
-pub enum Traversed {
-    To(usize),
+// Why a traversal doesn't come to the end of its type or term: an entry stopped it, or the section ends before.
+#[derive(Clone, Copy)]
+pub enum Halt {
     Stopped(usize),
     Out,
 }
@@ -50,16 +40,17 @@ fn parts_under(parts: usize, binders: usize, last: usize) -> Parts
 }
 
 // The parts that follow an entry of this shape, each under the same number of binders.
-pub(crate) fn parts_of(shape: Shape, binders: usize) -> Parts
+pub(crate) fn parts_of(shape: Option<Shape>, binders: usize) -> Parts
     ensures { result ≡ parts_of shape binders }
 {
     match shape {
-        Shape::Node { parts, argument: _ } => parts_under(parts, binders, binders),
-        Shape::Unknown => Parts::Stop,
+        Some(Shape { parts, .. }) => parts_under(parts, binders, binders),
+        None => Parts::Stop,
     }
 }
 
 // The parts of a wire type's entry; the traversal stops at a kind that no wire type has.
+#[tactic(auto, unfolding(rules::specs::Parts::parts_of_kind))]
 pub(crate) fn wire_parts(kind: usize) -> Parts
     ensures { result ≡ wire_parts kind }
 {
@@ -70,85 +61,67 @@ pub(crate) fn wire_parts(kind: usize) -> Parts
     }
 }
 
-// The parts of a term's entry, with the binders around each; the traversal stops at a variable with no binder.
-pub(crate) fn scope_parts(shape: Shape, kind: usize, file: &[u8], e: usize, binders: usize) -> Parts
-    requires { (shape ≡ shape_at file.now e) × (kind ≡ kind_at file.now e) × (binders + 2 < 2 ^ 64) }
-    ensures { result ≡ scope_parts file.now e binders }
-{
-    match kind {
-        VARIABLE => {
-            if format::argument_at(file, e) < binders {
-                return parts_under(parts_of_kind(kind), binders, binders);
-            }
-            Parts::Stop
-        }
-        ABSTRACTION => parts_under(parts_of_kind(kind), binders, binders + 1),
-        LET => parts_under(parts_of_kind(kind), binders, binders + 2),
-        _ => parts_of(shape, binders),
-    }
-}
-
-// The parts that entry e waits for, by what the traversal looks at. Its shape is asked for at one place, so that the compiler puts the
-// code for it there.
-pub(crate) fn parts_at(subject: Subject, file: &[u8], s: Sizes, e: usize, binders: usize) -> Parts
-    requires { Sized file.now s × (e < entry_count file.now) × (binders ≤ 2 * e) }
-    ensures { result ≡ parts_at subject file.now e binders }
-{
-    let kind = format::kind_at(file, e);
-    let shape = format::shape_at(s, e, kind);
-    match subject {
-        Subject::TypeEnd => parts_of(shape, binders),
-        Subject::WireType => wire_parts(kind),
-        Subject::TermEnd => parts_of(shape, binders),
-        Subject::Scope => scope_parts(shape, kind, file, e, binders),
-    }
-}
-
-// Whether a traversal came to the end of what it traversed.
-pub(crate) fn reaches(w: Traversed) -> bool
-    ensures { result ≡ reaches w }
-{
-    match w {
-        Traversed::To(_) => true,
-        Traversed::Stopped(_) => false,
-        Traversed::Out => false,
-    }
-}
-
 // Whether a traversal came to the end of the section before.
-pub(crate) fn runs_out(w: Traversed) -> bool
+pub(crate) fn runs_out(w: Result<usize, Halt>) -> bool
     ensures { result ≡ runs_out w }
 {
-    match w {
-        Traversed::To(_) => false,
-        Traversed::Stopped(_) => false,
-        Traversed::Out => true,
+    matches!(w, Err(Halt::Out))
+}
+
+impl File<'_> {
+    // The parts of a term's entry, with the binders around each; the traversal stops at a variable with no binder.
+    #[tactic(auto, unfolding(rules::specs::Parts::parts_of_kind))]
+    pub(crate) fn scope_parts(&self, e: usize, binders: usize) -> Parts
+        requires { binders + 2 < 2 ^ 64 }
+        ensures { result ≡ scope_parts self.now.bytes.now e binders }
+    {
+        let kind = kind_at(self.bytes, e);
+        match kind {
+            VARIABLE => {
+                if argument_at(self.bytes, e) < binders {
+                    return parts_under(parts_of_kind(kind), binders, binders);
+                }
+                Parts::Stop
+            }
+            ABSTRACTION => parts_under(parts_of_kind(kind), binders, binders + 1),
+            LET => parts_under(parts_of_kind(kind), binders, binders + 2),
+            _ => parts_of(self.shape_at(e, kind), binders),
+        }
+    }
+
+    // The parts of any entry, each under the same number of binders.
+    pub(crate) fn whole_parts(&self, e: usize, binders: usize) -> Parts
+        ensures { result ≡ parts_at End self.now.bytes.now e binders }
+    {
+        parts_of(self.shape_at(e, kind_at(self.bytes, e)), binders)
     }
 }
 
-// Traversals over one type or term from entry e, in a section that ends before entry `end`.
-pub(crate) fn traverse(
-    subject: Subject,
-    file: &[u8],
-    s: Sizes,
+// Traverses one type or term from entry e on, in a section that ends before entry `end`: gives the entry behind its last. Of each entry
+// `parts` says which parts it waits for, under so many binders.
+pub(crate) fn traverse<F: Fn(usize, usize) -> Parts>(
+    parts: &F,
     end: usize,
     e: usize,
     binders: usize,
-) -> Traversed
-    requires { InReach file.now s end e binders }
-    ensures { TraversedOf subject file.now end e binders result }
+) -> Result<usize, Halt>
+    requires callable { (x b : ℕ) → x < end → b ≤ 2 * x → F.pre parts.now x b }
+    requires fit { (x b : ℕ) (r : Parts) → F.post parts.now x b r → PartsFit (b + 2) r }
+    requires few { binders ≤ 2 * e }
+    ensures ends_later { IfOk result (λ m. e < m) }
+    ensures reads { (subject : Subject) (f : List ℕ) → ((x b : ℕ) (r : Parts) → F.post parts.now x b r → r ≡ parts_at subject f x b)
+        → TraversedOf subject f end e binders result }
 {
     if end <= e {
-        return Traversed::Out;
+        return Err(Halt::Out);
     }
-    match parts_at(subject, file, s, e, binders) {
-        Parts::Leaf => Traversed::To(e + 1),
-        Parts::One(x) => traverse(subject, file, s, end, e + 1, x),
-        Parts::Two(x, y) => match traverse(subject, file, s, end, e + 1, x) {
-            Traversed::To(m) => traverse(subject, file, s, end, m, y),
-            Traversed::Stopped(at) => Traversed::Stopped(at),
-            Traversed::Out => Traversed::Out,
-        },
-        Parts::Stop => Traversed::Stopped(e),
+    match parts(e, binders) {
+        Parts::Leaf => Ok(e + 1),
+        Parts::One(x) => traverse(parts, end, e + 1, x),
+        Parts::Two(x, y) => {
+            let m = traverse(parts, end, e + 1, x)?;
+            traverse(parts, end, m, y)
+        }
+        Parts::Stop => Err(Halt::Stopped(e)),
     }
 }

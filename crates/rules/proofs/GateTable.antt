@@ -2,8 +2,8 @@
 -- `at_each` turns the test into the rule for every number. Assumes nothing.
 use Prim.Native.Nat.{ℕ, zero, suc, ◌≤◌, ◌<◌}
 use native.Mathlib.Omega.{arith}
-use mathlib.Core.Path.{◌≡◌, refl, sym, ◌∙◌, ap, subst}
-use mathlib.Core.Bool.{Bool, true, ◌&&◌}
+use mathlib.Core.Path.{◌≡◌, refl, sym, ◌∙◌, ap}
+use mathlib.Core.Bool.{Bool, ◌&&◌}
 use mathlib.Core.List.{List, [], ◌∷◌, map}
 use mathlib.Core.Option.{Option, none, some}
 use lib.Dec.{T as Truth, leb, ltb, leb→le, leb-zero, leb-suc-zero, leb-suc-suc}
@@ -29,13 +29,12 @@ of_no_gate P [] p n h = p
 of_no_gate P (g ∷ l) p zero h = absurd (omega arith)
 of_no_gate P (g ∷ l) p (suc n) h = of_no_gate P l p n (omega arith)
 
--- A table with one entry a gate, looked up at a gate: a number of each, or a row.
-pub entry_at : {X : Type 0} (entry : Option GateType → X) (default : X) (l : List GateType) (n : ℕ)
-    → n < length l
-    → get_or (map (λ g. entry (some g)) l) n default ≡ entry (nth l n)
-entry_at entry default [] n h = absurd (omega arith)
-entry_at entry default (g ∷ l) zero h = refl
-entry_at entry default (g ∷ l) (suc n) h = entry_at entry default l n (omega arith)
+-- A table with one entry a gate, looked up at any number: what there is where there is no gate stands past its end.
+pub entry_at : {X : Type 0} (entry : Option GateType → X) (l : List GateType) (n : ℕ)
+    → get_or (map (λ g. entry (some g)) l) n (entry none) ≡ entry (nth l n)
+entry_at entry [] n = refl
+entry_at entry (g ∷ l) zero = refl
+entry_at entry (g ∷ l) (suc n) = entry_at entry l n
 
 -- Codes filled up to a number of places, looked up at one of them.
 filled_at : (k : ℕ) (codes : List ℕ) (i : ℕ) → i < k → get_or (filled k codes) i 0 ≡ code_at codes i
@@ -57,23 +56,11 @@ abbrev pub type_of_gate : List ℕ
 type_of_gate = 0 ∷ 0 ∷ 0 ∷ 0 ∷ 0 ∷ 1 ∷ 2 ∷ 3 ∷ 3 ∷ 4 ∷ 5 ∷ 6 ∷ []
 
 -- Which row a gate has, looked up at a gate: one of the rows, and that of the gate.
-row_at : (which : List ℕ) (n : ℕ)
-    → n < length which → get_or (map (λ k. get_or rows k []) which) n [] ≡ get_or rows (get_or which n 0) []
-row_at [] n h = absurd (omega arith)
-row_at (k ∷ which) zero h = refl
-row_at (k ∷ which) (suc n) h = row_at which n (omega arith)
-
-abbrev all_below : ℕ → List ℕ → Bool
-all_below m [] = true
-all_below m (k ∷ ks) = ltb k m && all_below m ks
-
-below_at : (m : ℕ) (ks : List ℕ) → Truth (all_below m ks) → (n : ℕ) → n < length ks → get_or ks n 0 < m
-below_at m [] t n h = absurd (omega arith)
-below_at m (k ∷ ks) t zero h = leb→le (suc k) m (and_left (ltb k m) (all_below m ks) t)
-below_at m (k ∷ ks) t (suc n) h = below_at m ks (and_right (ltb k m) (all_below m ks) t) n (omega arith)
-
-pub is_row : (n k : ℕ) → k ≡ get_or type_of_gate n 0 → n < length gate_table → k < length rows
-is_row n k at below = subst (λ k. k < length rows) (sym at) (below_at (length rows) type_of_gate tt n below)
+row_at : (which : List ℕ) (n : ℕ) (default : List ℕ)
+    → n < length which → get_or (map (λ k. get_or rows k []) which) n default ≡ get_or rows (get_or which n 0) []
+row_at [] n default h = absurd (omega arith)
+row_at (k ∷ which) zero default h = refl
+row_at (k ∷ which) (suc n) default h = row_at which n default (omega arith)
 
 -- The code's rows at a gate and a place, and what there is elsewhere.
 pub code_inside : (n i k : ℕ)
@@ -84,7 +71,7 @@ pub code_inside : (n i k : ℕ)
 unfolding type_code
 code_inside n i k at below inside =
     ap (λ r. get_or r i 0)
-    (ap (λ k. get_or rows k []) at ∙ sym (row_at type_of_gate n below) ∙ entry_at row_of [] gate_table n below)
+    (ap (λ k. get_or rows k []) at ∙ sym (row_at type_of_gate n (row_of none) below) ∙ entry_at row_of gate_table n)
     ∙ filled_at most_type (circ_codes (gate_type n)) i inside
 
 pub no_such_gate : (n i : ℕ) → length gate_table ≤ n → 255 ≡ type_code n i

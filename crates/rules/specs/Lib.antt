@@ -5,7 +5,6 @@ pub mod Types
 pub mod Gates
 pub mod Terms
 pub mod Parts
-pub mod PartsColumn
 pub mod Circuits
 pub mod Typing
 pub mod Contexts

@@ -1,4 +1,5 @@
-// The kinds of 01's type section and term section and of 02's unit, by name.
+// The kinds of 01's type section and term section and of 02's unit, by name. Numbers and no enum: a file has them as bytes and lent
+// memory as words, either of which may hold a number that is no kind, and `parts_of_kind` answers for every number.
 
 // Types.
 pub const BIT: usize = 0;

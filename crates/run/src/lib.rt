@@ -10,13 +10,14 @@ ghost use Rattle.run_answers.specs.Answers.{run_answer, run_bytes};
 ghost use Rattle.run_answers.specs.Demand2.{RunMeans};
 ghost use Rattle.run_answers.specs.Safe.{RunIsSafe};
 
-use refusals::Refusal;
-use run_answers::RunAnswer;
+use refusals::{Refusal, TOO_SHORT};
+use run_answers::Finished;
 use run_buffers::{clear_all, too_short};
 use run_parts::run_uncleared;
 
 // The run: the check, then the steps from the file's start, at most as many as the limit; at the finish the listing at the start
-// of the output buffer. The other buffers are working memory.
+// of the output buffer. The other buffers are working memory. The eleven are arguments of their own, here and below, as the contract
+// (lent) and the definitions of run_answers name them in this order and the exports of cabinet get them apart.
 pub fn run(
     file: &[u8],
     limit: u32,
@@ -31,7 +32,7 @@ pub fn run(
     results1: &mut [u8],
     results2: &mut [u8],
     results3: &mut [u8],
-) -> RunAnswer
+) -> Result<Finished, Refusal>
     ensures answer { let lent = out ∷ nodes ∷ stack ∷ types ∷ frames ∷ gates ∷ circuits ∷ results0 ∷ results1 ∷ results2 ∷ results3 ∷ [] in
         result ≡ run_answer file.now limit (first_bytes lent) }
     ensures bytes { let lent = out ∷ nodes ∷ stack ∷ types ∷ frames ∷ gates ∷ circuits ∷ results0 ∷ results1 ∷ results2 ∷ results3 ∷ [] in
@@ -52,10 +53,7 @@ pub fn run(
         results2.len(),
         results3.len(),
     ) {
-        return RunAnswer::Refused(Refusal::Run {
-            number: 19,
-            place: 0,
-        });
+        return Err(TOO_SHORT);
     }
     let answer = run_uncleared(
         file,

@@ -1,6 +1,6 @@
 -- What a run answers and leaves in its buffers, as functions of the file's bytes and the limit (01, "When each operation
 -- says no", Run).
-use Rattle.std.specs.Prelude.{ℕ, cond, List, ◌++◌, length, drop}
+use Rattle.std.specs.Prelude.{ℕ, cond, List, ◌++◌, length, drop, Result, Ok, Err}
 use Rattle.std.proofs.Math.Option.{Option, none, some}
 use Rattle.rules.specs.Types.{Wire, is_wire_type}
 use Rattle.rules.specs.Terms.{Tuple, Gate}
@@ -14,8 +14,7 @@ use Rattle.refusals.specs.declared.Refusal.{Refusal}
 use Rattle.refusals.specs.declared.Refusal.TheVariants.{Run}
 use Rattle.check_program.specs.Answers.{labels_of, term_of, Judged, accepts, refuses, check_of}
 use Rattle.listing.specs.Listing.{listing}
-use Rattle.run_answers.specs.declared.RunAnswer.{RunAnswer}
-use Rattle.run_answers.specs.declared.RunAnswer.TheVariants.{Finished, Refused}
+use Rattle.run_answers.specs.declared.Finished.{Finished}
 use Rattle.run_answers.specs.Lengths.{run_lengths}
 
 -- What a run whose buffers are long enough comes to: steps, gates and the bytes of the listing; or a refusal.
@@ -52,9 +51,12 @@ ran_as f limit (accepts A) =
 unfoldable pub run_of : List ℕ → ℕ → Ran
 run_of f limit = ran_as f limit (check_of f)
 
-abbrev pub answer_to : Ran → RunAnswer
-answer_to (ran steps gates bytes) = Finished steps gates (length bytes)
-answer_to (declines r) = Refused r
+abbrev pub finished : ℕ → ℕ → ℕ → Result Finished Refusal
+finished steps gates listing_length = Ok (record { steps = steps; gates = gates; length = listing_length })
+
+abbrev pub answer_to : Ran → Result Finished Refusal
+answer_to (ran steps gates bytes) = finished steps gates (length bytes)
+answer_to (declines r) = Err r
 
 -- "The listing starts the output buffer." "output bytes past the answer keep their values; after a refusal all do".
 abbrev pub out_to : List ℕ → Ran → List ℕ
@@ -62,9 +64,9 @@ out_to out (ran steps gates bytes) = bytes ++ drop (length bytes) out
 out_to out (declines r) = out
 
 -- The answer, with the buffers that were lent: the output buffer, then the working memory. "19, before all else".
-unfoldable pub run_answer : List ℕ → ℕ → List (List ℕ) → RunAnswer
+unfoldable pub run_answer : List ℕ → ℕ → List (List ℕ) → Result Finished Refusal
 run_answer f limit buffers =
-    let later = answer_to (run_of f limit) in cond (too_short run_lengths buffers) (Refused (Run 19 0)) later
+    let later = answer_to (run_of f limit) in cond (too_short run_lengths buffers) (Err (Run 19 0)) later
 
 -- The final bytes of these buffers.
 abbrev pub run_bytes : List ℕ → ℕ → List (List ℕ) → List (List ℕ)

@@ -4,15 +4,10 @@
 // The contract of run speaks in these definitions. It needs nothing of the machine, so that it is proved beside it.
 #![tactic(auto)]
 
-use refusals::Refusal;
-
-// What a run answers: steps, gates and the length of the listing that it wrote, or a refusal.
-#[derive(Drop)]
-pub enum RunAnswer {
-    Finished {
-        steps: usize,
-        gates: usize,
-        length: usize,
-    },
-    Refused(Refusal),
+// What a finished run answers: its steps, its gates, and the length of the listing that it wrote. Any other run answers a refusal.
+#[derive(Clone, Copy)]
+pub struct Finished {
+    pub steps: usize,
+    pub gates: usize,
+    pub length: usize,
 }

@@ -8,12 +8,12 @@ ghost use Rattle.std.specs.Prelude.{◌≡◌, [], ◌∷◌, map};
 ghost use Rattle.lent.specs.Lent.{any_below, first_bytes, last_bytes, zeroed};
 ghost use Rattle.run_answers.specs.Lengths.{run_lengths};
 
-use listing::{ENTRY_BYTES, MOST_OUTPUTS, SIZES};
+use listing::MOST_BYTES;
 use rules::sizes::{MOST_BOXES, MOST_ENTRIES, MOST_GATES, MOST_LABELS, MOST_NODES, MOST_TYPES};
 use words::clear;
 
 // The least lengths, as run_lengths has them.
-const LEAST_OUT: usize = SIZES + ENTRY_BYTES * (MOST_LABELS + MOST_GATES) + 2 * MOST_OUTPUTS;
+const LEAST_OUT: usize = MOST_BYTES;
 
 const LEAST_NODES: usize = 4 * (4 * MOST_NODES);
 
@@ -46,17 +46,17 @@ pub fn too_short(
 ) -> bool
     ensures { result ≡ any_below run_lengths (out ∷ nodes ∷ stack ∷ types ∷ frames ∷ gates ∷ circuits ∷ results0 ∷ results1 ∷ results2 ∷ results3 ∷ []) }
 {
-    (out < LEAST_OUT)
-        | ((nodes < LEAST_NODES)
-            | ((stack < LEAST_STACK)
-                | ((types < LEAST_TYPES)
-                    | ((frames < LEAST_FRAMES)
-                        | ((gates < LEAST_GATES)
-                            | ((circuits < LEAST_CIRCUITS)
-                                | ((results0 < LEAST_RESULTS)
-                                    | ((results1 < LEAST_RESULTS)
-                                        | ((results2 < LEAST_RESULTS)
-                                            | (results3 < LEAST_RESULTS))))))))))
+    out < LEAST_OUT
+        || nodes < LEAST_NODES
+        || stack < LEAST_STACK
+        || types < LEAST_TYPES
+        || frames < LEAST_FRAMES
+        || gates < LEAST_GATES
+        || circuits < LEAST_CIRCUITS
+        || results0 < LEAST_RESULTS
+        || results1 < LEAST_RESULTS
+        || results2 < LEAST_RESULTS
+        || results3 < LEAST_RESULTS
 }
 
 // All working memory becomes zero.

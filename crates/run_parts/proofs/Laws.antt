@@ -1,4 +1,3 @@
 pub mod Parts
 pub mod Finish
 pub mod Running
-pub mod Begin

@@ -9,7 +9,7 @@ ghost use Rattle.run_parts.specs.Parts.{EndsAs};
 use listing_writer::write_listing;
 use machine::{Advanced, Ending};
 use refusals::Refusal;
-use run_answers::RunAnswer;
+use run_answers::Finished;
 use words::quadwords::word_in;
 
 // At the finish the listing is written; otherwise the steps' limit is reached, or the next step exceeds a size.
@@ -20,30 +20,28 @@ pub fn finish(
     types: &[u8],
     frames: &[u8],
     gates: &[u8],
-) -> RunAnswer
+) -> Result<Finished, Refusal>
     ensures { (rs : List Quadword) (cs : List Quadword) (results : ℕ → List ℕ)
         → EndsAs (memory (nodes_in nodes.now) rs (quadwords_in gates.now) cs (quadwords_in frames.now) (words types.now) results)
         out.old out.new advanced result }
 {
-    let ending = advanced.ending;
-    let numbers = advanced.numbers;
-    match ending {
+    match advanced.ending {
         Ending::Finished => {
-            let place = numbers.place;
-            let counts = numbers.counts;
+            let place = advanced.numbers.place;
+            let counts = advanced.numbers.counts;
             let inputs = word_in(frames, 0, 2);
             let length = write_listing(types, inputs, gates, counts.gates, nodes, place.left, out);
-            RunAnswer::Finished {
+            Ok(Finished {
                 steps: advanced.steps,
                 gates: counts.gates,
                 length,
-            }
+            })
         }
-        Ending::Running => RunAnswer::Refused(Refusal::Run {
+        Ending::Running => Err(Refusal::Run {
             number: 21,
             place: 0,
         }),
-        Ending::TooLarge => RunAnswer::Refused(Refusal::Run {
+        Ending::TooLarge => Err(Refusal::Run {
             number: 22,
             place: 0,
         }),

@@ -10,28 +10,16 @@ pub mod finish;
 ghost use Rattle.std.specs.Prelude.{◌≡◌, [], ◌∷◌};
 ghost use Rattle.lent.specs.Lent.{first_bytes};
 ghost use Rattle.run_answers.specs.Answers.{run_answer};
-ghost use Rattle.run_parts.specs.Parts.{out_left, refusal_of_begin};
+ghost use Rattle.run_parts.specs.Parts.{out_left};
 
-use begin::{Begun, begin};
+use begin::begin;
 use finish::finish;
 use machine::advance;
-use refusals::Refusal;
+use machine_state::Buffers;
+use refusals::{Refusal, TOO_SHORT};
 use rules::sizes::MOST_GATES;
-use run_answers::RunAnswer;
+use run_answers::Finished;
 use run_buffers::too_short;
-
-// A refusal of `begin`, handed up unchanged. It is not called where the start is loaded.
-fn refusal_of_begin(begun: Begun) -> RunAnswer
-    ensures { result ≡ refusal_of_begin begun }
-{
-    match begun {
-        Begun::Loaded(_) => RunAnswer::Refused(Refusal::Run {
-            number: 19,
-            place: 0,
-        }),
-        Begun::NotBegun(refusal) => RunAnswer::Refused(refusal),
-    }
-}
 
 // The answer of a run, and its listing at the start of the output buffer.
 pub fn run_uncleared(
@@ -48,7 +36,7 @@ pub fn run_uncleared(
     results1: &mut [u8],
     results2: &mut [u8],
     results3: &mut [u8],
-) -> RunAnswer
+) -> Result<Finished, Refusal>
     ensures answer { let lent = out ∷ nodes ∷ stack ∷ types ∷ frames ∷ gates ∷ circuits ∷ results0 ∷ results1 ∷ results2 ∷ results3 ∷ [] in
         result ≡ run_answer file.now limit (first_bytes lent) }
     ensures bytes { let lent = out ∷ nodes ∷ stack ∷ types ∷ frames ∷ gates ∷ circuits ∷ results0 ∷ results1 ∷ results2 ∷ results3 ∷ [] in
@@ -67,18 +55,28 @@ pub fn run_uncleared(
         results2.len(),
         results3.len(),
     ) {
-        return RunAnswer::Refused(Refusal::Run {
-            number: 19,
-            place: 0,
-        });
+        return Err(TOO_SHORT);
     }
-    let begun = begin(file, nodes, types, frames);
-    let Begun::Loaded(numbers) = begun else {
-        return refusal_of_begin(begun);
+    let numbers = begin(file, nodes, types, frames)?;
+    let mut buffers = Buffers {
+        nodes,
+        stack,
+        types,
+        frames,
+        gates,
+        circuits,
+        results0,
+        results1,
+        results2,
+        results3,
     };
-    let advanced = advance(
-        limit, MOST_GATES, numbers, nodes, stack, types, frames, gates, circuits, results0,
-        results1, results2, results3,
-    );
+    let advanced = advance(limit, MOST_GATES, numbers, &mut buffers);
+    let Buffers {
+        nodes,
+        types,
+        frames,
+        gates,
+        ..
+    } = buffers;
     finish(advanced, out, nodes, types, frames, gates)
 }

@@ -1,5 +1,5 @@
 -- What apply of a closed circuit reads before it writes, when there is room for it, and what it is to leave.
-use Rattle.std.specs.Prelude.{ℕ, ◌+◌, ◌-◌, ◌≤◌, ◌<◌, ◌^◌, ◌≡◌, false, List, length}
+use Rattle.std.specs.Prelude.{ℕ, ◌+◌, ◌-◌, ◌≤◌, ◌<◌, ◌^◌, ◌≡◌, false, List, length, Some}
 use Rattle.rules.specs.Kinds.{gate_term_kind}
 use Rattle.rules.specs.Types.{most_entries}
 use Rattle.rules.specs.Circuits.{outputs}
@@ -12,7 +12,6 @@ use Rattle.words.specs.Quadwords.{Quadword, quadword_at, word_in}
 use Rattle.machine_circuits.specs.Layout.{gates_in}
 use Rattle.rules.specs.Slots.{no_wire}
 use Rattle.machine_state.specs.declared.StateNumbers.{StateNumbers}
-use Rattle.machine_state.specs.declared.Stepped.TheVariants.{Taken}
 use Rattle.machine_state.specs.Memory.{memory}
 use Rattle.machine_state.specs.Outcomes.{Steps}
 use Rattle.step_apply_circuit.specs.declared.Redex.{Redex}
@@ -83,4 +82,4 @@ Applied ns ns' wide gs gs' fs fs' results x r r' =
     → Room x r (length ns) allowance
     → most_entries ≤ wide
     → (kind (node_at ns (stack_node (quadword_at rs (r.place.depth - 1)) + 1)) ≡ gate_term_kind → ⊥)
-    → Steps at_apply allowance (memory ns rs gs cs fs ws results) (memory ns' rs gs' cs fs' ws results) r (Taken r')
+    → Steps at_apply allowance (memory ns rs gs cs fs ws results) (memory ns' rs gs' cs fs' ws results) r (Some r')

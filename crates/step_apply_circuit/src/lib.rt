@@ -5,7 +5,7 @@
 // Called by machine_steps.
 #![tactic(auto)]
 
-ghost use Rattle.std.specs.Prelude.{ℕ, ◌+◌, ◌-◌, ◌*◌, ◌/◌, ◌%◌, ◌≤◌, ◌<◌, ◌≡◌, true, false, List, ltb, length, take};
+ghost use Rattle.std.specs.Prelude.{ℕ, ◌+◌, ◌-◌, ◌*◌, ◌/◌, ◌%◌, ◌≤◌, ◌<◌, ◌≡◌, true, false, List, length};
 ghost use Rattle.rules.specs.Kinds.{gate_term_kind};
 ghost use Rattle.rules.specs.Types.{most_entries};
 ghost use Rattle.rules.specs.Terms.{Tuple};
@@ -17,16 +17,18 @@ ghost use Rattle.words.specs.Regions.{over};
 ghost use Rattle.words.specs.Quadwords.{quadword_at, quadwords_in};
 ghost use Rattle.machine_walk.specs.Stack.{stack_node};
 ghost use Rattle.machine_circuits.specs.Layout.{four_results, most_result, results_each};
+ghost use Rattle.machine_circuits.specs.Renamings.{labels_of};
 ghost use Rattle.machine_circuits.specs.Results.{ResultFits, result_nodes};
-ghost use Rattle.machine_state.specs.Memory.{memory as memory_of};
+ghost use Rattle.machine_state.specs.Buffers.{memory_with, SameBuffers};
 ghost use Rattle.machine_state.specs.Outcomes.{Steps};
 ghost use Rattle.step_apply_circuit.specs.Redexes.{RedexRead, Room, Writable, numbers_after, Applied};
 
 use machine_circuits::closed::{closed_circuit, result_buffer, result_start};
 use machine_circuits::gates::{copy_gates, wires_made};
+use machine_circuits::renamings::Renaming;
 use machine_circuits::tuples::{collect_labels, load_result};
 use machine_nodes::argument_at;
-use machine_state::{Counts, StateNumbers, Stepped};
+use machine_state::{Buffers, Counts, StateNumbers, exceed};
 use machine_walk::Place;
 use machine_walk::stack::{stack_node, stack_start};
 use rules::sizes::MOST_NODES;
@@ -52,19 +54,6 @@ struct Redex {
     made: usize,
 }
 
-// Do three numbers together exceed a limit?
-fn exceed(limit: usize, a: usize, b: usize, c: usize) -> bool
-    ensures { result ≡ ltb limit (a + b + c) }
-{
-    if limit < a {
-        return true;
-    }
-    if limit - a < b {
-        return true;
-    }
-    limit - a - b < c
-}
-
 // The apply whose quadword is on top of the stack, with the quadword of the innermost frame.
 fn read_redex(
     nodes: &[u8],
@@ -82,9 +71,9 @@ fn read_redex(
     let index = argument_at(nodes, at + 1);
     let circuit = closed_circuit(circuits, index);
     Redex {
-        at: at,
+        at,
         start: stack_start(stack, top),
-        index: index,
+        index,
         first: circuit.first,
         gates: circuit.gates,
         nodes: circuit.nodes,
@@ -100,27 +89,13 @@ fn has_room(redex: Redex, numbers: StateNumbers, size: usize, allowance: usize) 
     ensures room { result ≡ true → Room redex numbers size allowance }
     ensures no_room { result ≡ false → Room redex numbers size allowance → ⊥ }
 {
-    let place = numbers.place;
-    let counts = numbers.counts;
-    if place.left < redex.start {
-        return false;
-    }
-    if size < place.right {
-        return false;
-    }
-    if place.right < redex.nodes {
-        return false;
-    }
-    if NO_WIRE < redex.made {
-        return false;
-    }
-    if exceed(MOST_NODES, redex.at, redex.nodes, size - place.right) {
-        return false;
-    }
-    if exceed(allowance, counts.gates, counts.kept, redex.gates) {
-        return false;
-    }
-    true
+    let StateNumbers { place, counts } = numbers;
+    redex.start <= place.left
+        && place.right <= size
+        && redex.nodes <= place.right
+        && redex.made <= NO_WIRE
+        && !exceed(MOST_NODES, redex.at, redex.nodes, size - place.right)
+        && !exceed(allowance, counts.gates, counts.kept, redex.gates)
 }
 
 // The result of closed circuit i is loaded from the buffer that has it.
@@ -133,32 +108,21 @@ fn load_constant(
     count: usize,
     nodes: &mut [u8],
     to: usize,
-    labels: &[u8],
-    n: usize,
-    next: usize,
+    renaming: Renaming,
 )
-    ensures { (k : Tuple) (m : ℕ)
+    ensures { let r = renaming.entry in (k : Tuple) (m : ℕ)
         → ResultFits k m (four_results (words results0.now) (words results1.now) (words results2.now) (words results3.now) (i / results_each))
-        (most_result * (i % results_each)) count (length (nodes_in nodes.old)) to (length (words labels.now)) n next
-        → nodes_in nodes.new ≡ over (nodes_in nodes.old) to (result_nodes k (take n (words labels.now)) next) }
+        (most_result * (i % results_each)) count (length (nodes_in nodes.old)) to (length (words r.labels.now)) r.inputs r.next
+        → nodes_in nodes.new ≡ over (nodes_in nodes.old) to (result_nodes k (labels_of r) r.next) }
 {
-    let buffer = result_buffer(i);
-    let from = result_start(i);
-    if buffer == 0 {
-        load_result(results0, from, count, nodes, to, labels, n, next);
-        return;
-    }
-    if buffer == 1 {
-        load_result(results1, from, count, nodes, to, labels, n, next);
-        return;
-    }
-    if buffer == 2 {
-        load_result(results2, from, count, nodes, to, labels, n, next);
-        return;
-    }
-    if buffer == 3 {
-        load_result(results3, from, count, nodes, to, labels, n, next);
-    }
+    let results = match result_buffer(i) {
+        0 => results0,
+        1 => results1,
+        2 => results2,
+        3 => results3,
+        _ => return,
+    };
+    load_result(results, result_start(i), count, nodes, to, renaming);
 }
 
 // The place and the counts after the step.
@@ -166,23 +130,18 @@ fn numbers_after(redex: Redex, numbers: StateNumbers) -> StateNumbers
     requires { Writable redex numbers }
     ensures { result ≡ numbers_after redex numbers }
 {
-    let place = numbers.place;
-    let counts = numbers.counts;
-    let next_place = Place {
-        left: redex.at,
-        right: place.right - redex.nodes,
-        depth: place.depth - 1,
-        returning: false,
-    };
-    let next_counts = Counts {
-        frames: counts.frames,
-        gates: counts.gates + redex.gates,
-        boxes: counts.boxes,
-        kept: counts.kept,
-    };
+    let StateNumbers { place, counts } = numbers;
     StateNumbers {
-        place: next_place,
-        counts: next_counts,
+        place: Place {
+            left: redex.at,
+            right: place.right - redex.nodes,
+            depth: place.depth - 1,
+            returning: false,
+        },
+        counts: Counts {
+            gates: counts.gates + redex.gates,
+            ..counts
+        },
     }
 }
 
@@ -204,18 +163,14 @@ fn append_constant(
         (quadwords_in gates.old) (quadwords_in gates.new) (quadwords_in frames.old) (quadwords_in frames.new)
         (four_results (words results0.now) (words results1.now) (words results2.now) (words results3.now)) redex numbers result }
 {
-    let place = numbers.place;
-    let counts = numbers.counts;
+    let StateNumbers { place, counts } = numbers;
     let found = collect_labels(nodes, redex.start, place.left - redex.start, labels);
-    copy_gates(
-        gates,
-        redex.first,
-        redex.gates,
-        counts.gates,
+    let renaming = Renaming {
         labels,
-        found,
-        redex.next,
-    );
+        inputs: found,
+        next: redex.next,
+    };
+    copy_gates(gates, redex.first, redex.gates, counts.gates, renaming);
     load_constant(
         results0,
         results1,
@@ -225,9 +180,7 @@ fn append_constant(
         redex.nodes,
         nodes,
         place.right - redex.nodes,
-        labels,
-        found,
-        redex.next,
+        renaming,
     );
     put_quadword(
         frames,
@@ -243,38 +196,35 @@ fn append_constant(
 // Apply of a closed circuit, at the stop of the walk at an apply whose first part is no gate. `labels` is room for the labels
 // of the argument, at least 512 words.
 pub fn apply_constant(
-    nodes: &mut [u8],
-    stack: &[u8],
+    buffers: &mut Buffers,
     labels: &mut [u8],
-    gates: &mut [u8],
-    circuits: &[u8],
-    frames: &mut [u8],
-    results0: &[u8],
-    results1: &[u8],
-    results2: &[u8],
-    results3: &[u8],
     numbers: StateNumbers,
     allowance: usize,
-) -> Stepped
-    ensures { most_entries ≤ length (words labels.old) → (ws : List ℕ)
-        → (kind (node_at (nodes_in nodes.old) (stack_node (quadword_at (quadwords_in stack.now) (numbers.place.depth - 1)) + 1)) ≡ gate_term_kind → ⊥)
-        → Steps at_apply allowance
-        (memory_of (nodes_in nodes.old) (quadwords_in stack.now) (quadwords_in gates.old) (quadwords_in circuits.now)
-        (quadwords_in frames.old) ws
-        (four_results (words results0.now) (words results1.now) (words results2.now) (words results3.now)))
-        (memory_of (nodes_in nodes.new) (quadwords_in stack.now) (quadwords_in gates.new) (quadwords_in circuits.now)
-        (quadwords_in frames.new) ws
-        (four_results (words results0.now) (words results1.now) (words results2.now) (words results3.now)))
-        numbers result }
+) -> Option<StateNumbers>
+    ensures same_buffers { SameBuffers buffers.old buffers.new }
+    ensures kept { (buffers.new.stack.now ≡ buffers.old.stack.now)
+        × (buffers.new.circuits.now ≡ buffers.old.circuits.now)
+        × (buffers.new.results0.now ≡ buffers.old.results0.now)
+        × (buffers.new.results1.now ≡ buffers.old.results1.now)
+        × (buffers.new.results2.now ≡ buffers.old.results2.now)
+        × (buffers.new.results3.now ≡ buffers.old.results3.now) }
+    ensures steps { most_entries ≤ length (words labels.old) → (ws : List ℕ)
+        → (kind (node_at (nodes_in buffers.old.nodes.now) (stack_node (quadword_at (quadwords_in buffers.old.stack.now) (numbers.place.depth - 1)) + 1)) ≡ gate_term_kind → ⊥)
+        → Steps at_apply allowance (memory_with ws buffers.old) (memory_with ws buffers.new) numbers result }
 {
-    let place = numbers.place;
-    let counts = numbers.counts;
-    if place.depth == 0 {
-        return Stepped::TooLarge;
+    let StateNumbers { place, counts } = numbers;
+    if place.depth == 0 || counts.frames == 0 {
+        return None;
     }
-    if counts.frames == 0 {
-        return Stepped::TooLarge;
-    }
+    let nodes = &mut *buffers.nodes;
+    let stack = &mut *buffers.stack;
+    let frames = &mut *buffers.frames;
+    let gates = &mut *buffers.gates;
+    let circuits = &mut *buffers.circuits;
+    let results0 = &mut *buffers.results0;
+    let results1 = &mut *buffers.results1;
+    let results2 = &mut *buffers.results2;
+    let results3 = &mut *buffers.results3;
     let redex = read_redex(
         nodes,
         stack,
@@ -284,11 +234,10 @@ pub fn apply_constant(
         place.depth - 1,
         counts.frames - 1,
     );
-    if has_room(redex, numbers, nodes.len() / 4, allowance) {
-        Stepped::Taken(append_constant(
-            nodes, labels, gates, frames, results0, results1, results2, results3, redex, numbers,
-        ))
-    } else {
-        Stepped::TooLarge
+    if !has_room(redex, numbers, nodes.len() / 4, allowance) {
+        return None;
     }
+    Some(append_constant(
+        nodes, labels, gates, frames, results0, results1, results2, results3, redex, numbers,
+    ))
 }

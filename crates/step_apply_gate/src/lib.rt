@@ -5,10 +5,9 @@
 // Called by machine_steps.
 #![tactic(auto)]
 
-ghost use Rattle.std.specs.Prelude.{ℕ, ◌+◌, ◌-◌, ◌≤◌, ◌≡◌, List, ltb, length};
+ghost use Rattle.std.specs.Prelude.{ℕ, ◌+◌, ◌-◌, ◌≤◌, ◌≡◌, List, length};
 ghost use Rattle.rules.specs.Kinds.{gate_term_kind};
 ghost use Rattle.rules.specs.Types.{most_entries};
-ghost use Rattle.rules.specs.Sizes.{most_nodes};
 ghost use Rattle.machine_terms.specs.Trees.{kind};
 ghost use Rattle.machine_terms.specs.Walks.{at_apply};
 ghost use Rattle.words.specs.Words.{words};
@@ -22,39 +21,14 @@ ghost use Rattle.step_apply_gate.specs.Applying.{GatePut, OutputsPut};
 use machine_circuits::gates::append_gate;
 use machine_circuits::tuples::{collect_labels, output_size, write_outputs};
 use machine_nodes::argument_at;
-use machine_state::{Counts, StateNumbers, Stepped};
+use machine_state::{Counts, StateNumbers, exceed};
 use machine_walk::Place;
 use machine_walk::stack::{stack_node, stack_start};
 use rules::sizes::MOST_NODES;
 use words::quadwords::{put_quadword, word_in};
-use words::saturating_sub;
 
 // How many numbers a word has.
 const WORD_END: usize = 65536;
-
-// Do the nodes below the redex, those of the reduct and those still to be walked exceed the most that there may be?
-fn too_many_nodes(below: usize, reduct: usize, rest: usize) -> bool
-    ensures { result ≡ ltb most_nodes (below + reduct + rest) }
-{
-    if MOST_NODES < rest {
-        return true;
-    }
-    let room = MOST_NODES - rest;
-    if room < below {
-        return true;
-    }
-    room - below < reduct
-}
-
-// Does one more gate exceed the number allowed, with those of the open and those of the closed circuits?
-fn too_many_gates(gates: usize, closed: usize, allowance: usize) -> bool
-    ensures { result ≡ ltb allowance (gates + closed + 1) }
-{
-    if allowance <= gates {
-        return true;
-    }
-    allowance - gates <= closed
-}
 
 // The gate is put into a quadword, on the labels of the tuple that starts at a node and has so many nodes.
 fn put_gate(
@@ -80,8 +54,14 @@ fn put_outputs(nodes: &mut [u8], from: usize, number: usize, frames: &mut [u8], 
     let next = word_in(frames, frame, 1);
     let inputs = word_in(frames, frame, 2);
     let made = write_outputs(nodes, from, number, next);
-    let labels = made.labels;
-    put_quadword(frames, frame, base, next + labels % WORD_END, inputs, 0);
+    put_quadword(
+        frames,
+        frame,
+        base,
+        next + made.labels % WORD_END,
+        inputs,
+        0,
+    );
 }
 
 // The step where the walk has stopped at an apply whose first part is a gate. `labels` is lent to work in.
@@ -93,7 +73,7 @@ pub fn apply_gate(
     frames: &mut [u8],
     numbers: StateNumbers,
     allowance: usize,
-) -> Stepped
+) -> Option<StateNumbers>
     ensures { most_entries ≤ length (words labels.old) → (cs : List Quadword) (ws : List ℕ) (results : ℕ → List ℕ)
         → kind (node_at (nodes_in nodes.old) (stack_node (quadword_at (quadwords_in stack.now) (numbers.place.depth - 1)) + 1)) ≡ gate_term_kind
         → Steps at_apply allowance
@@ -101,37 +81,31 @@ pub fn apply_gate(
         (memory (nodes_in nodes.new) (quadwords_in stack.now) (quadwords_in gates.new) cs (quadwords_in frames.new) ws results)
         numbers result }
 {
-    let place = numbers.place;
-    let counts = numbers.counts;
-    let depth = saturating_sub(place.depth, 1);
+    let StateNumbers { place, counts } = numbers;
+    let depth = place.depth.saturating_sub(1);
     let at = stack_node(stack, depth);
     let number = argument_at(nodes, at + 1);
     let size = output_size(number);
-    let rest = saturating_sub(nodes.len() / 4, place.right);
-    if too_many_nodes(at, size, rest) {
-        return Stepped::TooLarge;
-    }
-    if too_many_gates(counts.gates, counts.kept, allowance) {
-        return Stepped::TooLarge;
+    let rest = (nodes.len() / 4).saturating_sub(place.right);
+    if exceed(MOST_NODES, at, size, rest) || exceed(allowance, counts.gates, counts.kept, 1) {
+        return None;
     }
     let start = stack_start(stack, depth);
-    let count = saturating_sub(place.left, start);
+    let count = place.left.saturating_sub(start);
     put_gate(nodes, start, count, labels, gates, counts.gates, number);
-    let right = saturating_sub(place.right, size);
-    let frame = saturating_sub(counts.frames, 1);
+    let right = place.right.saturating_sub(size);
+    let frame = counts.frames.saturating_sub(1);
     put_outputs(nodes, right, number, frames, frame);
-    Stepped::Taken(StateNumbers {
+    Some(StateNumbers {
         place: Place {
             left: at,
-            right: right,
-            depth: depth,
+            right,
+            depth,
             returning: false,
         },
         counts: Counts {
-            frames: counts.frames,
             gates: counts.gates + 1,
-            boxes: counts.boxes,
-            kept: counts.kept,
+            ..counts
         },
     })
 }

@@ -1,5 +1,5 @@
 -- Box entry in lent memory: what is measured, and what is written.
-use Rattle.std.specs.Prelude.{ℕ, ◌+◌, ◌-◌, ◌≤◌, ◌<◌, ◌≡◌, Bool, true, false, List, T as Truth, length, drop}
+use Rattle.std.specs.Prelude.{ℕ, ◌+◌, ◌-◌, ◌≤◌, ◌<◌, ◌≡◌, Bool, true, false, List, T as Truth, length, drop, Option, Some, None}
 use Rattle.rules.specs.Kinds.{application_kind}
 use Rattle.rules.specs.Types.{Ty, is_wire_type, wires, entries, most_entries, type_codes}
 use Rattle.rules.specs.Terms.{tuple_from}
@@ -15,8 +15,6 @@ use Rattle.machine_circuits.specs.Tuples.{code_span}
 use Rattle.machine_state.specs.declared.Counts.{Counts}
 use Rattle.machine_state.specs.declared.StateNumbers.{StateNumbers}
 use Rattle.step_box_entry.specs.declared.Entry.{Entry}
-use Rattle.step_box_entry.specs.declared.Measured.{Measured}
-use Rattle.step_box_entry.specs.declared.Measured.TheVariants.{Fits, Exceeds}
 
 -- The term of the new frame, the lift's body t applied to one label for each wire of T, left to right from 0 (01: "evaluates
 -- M applied to that tuple"), with unit's value where T has unit (02, ticket 5).
@@ -56,9 +54,9 @@ EntryExceeds ns rs ws p =
     → most_nodes < p.left + new_nodes ns ws (stack_node (quadword_at rs (p.depth - 1))) p.left + (length ns - p.right)
 
 -- What is measured, by the answer.
-abbrev pub Measures : List Node → List Quadword → List ℕ → Place → Measured → Type 0
-Measures ns rs ws p (Fits e) = EntryFits ns rs ws p e
-Measures ns rs ws p Exceeds = EntryExceeds ns rs ws p
+abbrev pub Measures : List Node → List Quadword → List ℕ → Place → Option Entry → Type 0
+Measures ns rs ws p (Some e) = EntryFits ns rs ws p e
+Measures ns rs ws p None = EntryExceeds ns rs ws p
 
 -- What is written, for every wire type T at the box's position and every lift's body t: the application, with as many
 -- labels as the answer says.

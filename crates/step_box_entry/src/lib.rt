@@ -17,11 +17,12 @@ ghost use Rattle.step_box_entry.specs.Opening.{RoomFor, Measures, Writes, entere
 
 use machine_circuits::tuples::{type_size, write_tuple};
 use machine_nodes::{argument_at, copy_nodes, put_node};
-use machine_state::{Counts, StateNumbers, Stepped};
+use machine_state::{Counts, StateNumbers, exceed};
 use machine_walk::Place;
 use machine_walk::stack::{OPENED, UNUSED, stack_node};
 use rules::kinds::APPLICATION;
 use rules::sizes::MOST_NODES;
+use words::quadwords::put_quadword;
 
 // What box entry writes, and of which box.
 #[derive(Clone, Copy)]
@@ -38,13 +39,6 @@ struct Entry {
     to: usize,
 }
 
-// The new nodes fit, or there are too many.
-#[derive(Drop)]
-enum Measured {
-    Fits(Entry),
-    Exceeds,
-}
-
 // The least number of nodes that a buffer has room for.
 const LEAST_NODES: usize = 4 * MOST_NODES;
 
@@ -53,53 +47,33 @@ fn has_room(n: usize, left: usize, right: usize, new: usize) -> bool
     requires { n < 2 ^ 63 }
     ensures { RoomFor n left right new result }
 {
-    if n < LEAST_NODES {
-        return false;
-    }
-    if n < right {
-        return false;
-    }
-    if MOST_NODES < left {
-        return false;
-    }
-    if MOST_NODES < new {
-        return false;
-    }
-    left + new + (n - right) <= MOST_NODES
+    LEAST_NODES <= n && right <= n && !exceed(MOST_NODES, left, new, n - right)
 }
 
-// What box entry writes at a place where the walk has stopped: the application's node, the lift's body, and a tuple with as
-// many nodes as the type has entries.
-fn measure(nodes: &[u8], stack: &[u8], types: &[u8], place: Place) -> Measured
+// What box entry writes at a place where the walk has stopped, if it fits: the application's node, the lift's body, and a tuple with
+// as many nodes as the type has entries.
+fn measure(nodes: &[u8], stack: &[u8], types: &[u8], place: Place) -> Option<Entry>
     ensures { Measures (nodes_in nodes.now) (quadwords_in stack.now) (words types.now) place result }
 {
-    let depth = place.depth;
-    let left = place.left;
-    let right = place.right;
-    if depth == 0 {
-        return Measured::Exceeds;
-    }
-    if MOST_NODES < left {
-        return Measured::Exceeds;
-    }
-    let at = stack_node(stack, depth - 1);
-    if left < at + 2 {
-        return Measured::Exceeds;
-    }
-    let count = left - (at + 2);
+    let Place { left, right, .. } = place;
+    let at = stack_node(stack, place.depth.checked_sub(1)?);
+    let count = left.checked_sub(at + 2)?;
     let position = argument_at(nodes, at);
     let size = type_size(types, position);
-    let new = 1 + count + size;
-    if has_room(nodes.len() / 4, left, right, new) {
-        return Measured::Fits(Entry {
-            at: at,
-            position: position,
-            size: size,
-            count: count,
-            to: right - new,
-        });
+    if MOST_NODES < left {
+        return None;
     }
-    Measured::Exceeds
+    let new = 1 + count + size;
+    if !has_room(nodes.len() / 4, left, right, new) {
+        return None;
+    }
+    Some(Entry {
+        at,
+        position,
+        size,
+        count,
+        to: right - new,
+    })
 }
 
 // The application is written, its last nodes first; answers how many labels its tuple has.
@@ -107,9 +81,7 @@ fn write_application(nodes: &mut [u8], types: &[u8], entry: Entry) -> usize
     requires { (entry.at + 2 + entry.count ≤ entry.to) × (entry.to + 1 + entry.count ≤ length (nodes_in nodes.old)) }
     ensures { Writes (nodes_in nodes.old) (nodes_in nodes.new) (words types.now) entry result }
 {
-    let at = entry.at;
-    let to = entry.to;
-    let count = entry.count;
+    let Entry { at, to, count, .. } = entry;
     let tuple = write_tuple(types, entry.position, entry.size, nodes, to + 1 + count, 0);
     copy_nodes(nodes, at + 2, to + 1, count);
     put_node(nodes, to, APPLICATION, 0);
@@ -118,44 +90,34 @@ fn write_application(nodes: &mut [u8], types: &[u8], entry: Entry) -> usize
 
 // The box's quadword says that it is open and where the frame above starts; the new frame's quadword, that its circuit has no gate
 // yet and so many inputs.
-fn put_frame(
-    stack: &mut [u8],
-    frames: &mut [u8],
-    place: Place,
-    counts: Counts,
-    at: usize,
-    wires: usize,
-)
-    requires { 0 < place.depth }
-    ensures stack_after { quadwords_in stack.new ≡ set (quadwords_in stack.old) (place.depth - 1) (stack_entry 3 (at % 65536) (place.left % 65536)) }
-    ensures frames_after { quadwords_in frames.new ≡ set (quadwords_in frames.old) counts.frames (quadword (counts.gates % 65536) (wires % 65536) (wires % 65536) 0) }
+fn put_frame(stack: &mut [u8], frames: &mut [u8], numbers: StateNumbers, at: usize, wires: usize)
+    requires { 0 < numbers.place.depth }
+    ensures stack_after { quadwords_in stack.new ≡ set (quadwords_in stack.old) (numbers.place.depth - 1) (stack_entry 3 (at % 65536) (numbers.place.left % 65536)) }
+    ensures frames_after { quadwords_in frames.new
+        ≡ set (quadwords_in frames.old) numbers.counts.frames (quadword (numbers.counts.gates % 65536) (wires % 65536) (wires % 65536) 0) }
 {
-    let depth = place.depth;
-    words::quadwords::put_quadword(stack, depth - 1, OPENED, at, place.left, UNUSED);
-    words::quadwords::put_quadword(frames, counts.frames, counts.gates, wires, wires, 0);
+    let StateNumbers { place, counts } = numbers;
+    put_quadword(stack, place.depth - 1, OPENED, at, place.left, UNUSED);
+    put_quadword(frames, counts.frames, counts.gates, wires, wires, 0);
 }
 
 // The numbers after box entry: the walked nodes are the same, the application is next to be walked, there is one more
 // frame.
-fn numbers_after(place: Place, counts: Counts, entry: Entry) -> StateNumbers
-    requires { counts.frames + 1 < 2 ^ 64 }
-    ensures { result ≡ entered place counts entry }
+fn numbers_after(numbers: StateNumbers, entry: Entry) -> StateNumbers
+    requires { numbers.counts.frames + 1 < 2 ^ 64 }
+    ensures { result ≡ entered numbers.place numbers.counts entry }
 {
-    let next = Place {
-        left: place.left,
-        right: entry.to,
-        depth: place.depth,
-        returning: false,
-    };
-    let more = Counts {
-        frames: counts.frames + 1,
-        gates: counts.gates,
-        boxes: counts.boxes,
-        kept: counts.kept,
-    };
+    let StateNumbers { place, counts } = numbers;
     StateNumbers {
-        place: next,
-        counts: more,
+        place: Place {
+            right: entry.to,
+            returning: false,
+            ..place
+        },
+        counts: Counts {
+            frames: counts.frames + 1,
+            ..counts
+        },
     }
 }
 
@@ -166,22 +128,17 @@ pub fn open_box(
     types: &[u8],
     frames: &mut [u8],
     numbers: StateNumbers,
-) -> Stepped
+) -> Option<StateNumbers>
     ensures { (gs cs : List Quadword) (results : ℕ → List ℕ) (allowance : ℕ) → Steps at_box allowance
         (memory (nodes_in nodes.old) (quadwords_in stack.old) gs cs (quadwords_in frames.old) (words types.now) results)
         (memory (nodes_in nodes.new) (quadwords_in stack.new) gs cs (quadwords_in frames.new) (words types.now) results)
         numbers result }
 {
-    let place = numbers.place;
-    let counts = numbers.counts;
-    if frames.len() / 8 <= counts.frames {
-        return Stepped::TooLarge;
+    if frames.len() / 8 <= numbers.counts.frames {
+        return None;
     }
-    let measured = measure(nodes, stack, types, place);
-    let Measured::Fits(entry) = measured else {
-        return Stepped::TooLarge;
-    };
+    let entry = measure(nodes, stack, types, numbers.place)?;
     let wires = write_application(nodes, types, entry);
-    put_frame(stack, frames, place, counts, entry.at, wires);
-    Stepped::Taken(numbers_after(place, counts, entry))
+    put_frame(stack, frames, numbers, entry.at, wires);
+    Some(numbers_after(numbers, entry))
 }

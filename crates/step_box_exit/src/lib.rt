@@ -13,22 +13,20 @@ ghost use Rattle.words.specs.Words.{words};
 ghost use Rattle.machine_nodes.specs.Nodes.{nodes_in, node_at};
 ghost use Rattle.words.specs.Quadwords.{quadwords_in};
 ghost use Rattle.machine_circuits.specs.Layout.{four_results};
-ghost use Rattle.machine_state.specs.Memory.{memory};
+ghost use Rattle.machine_state.specs.Buffers.{memory_with, SameBuffers};
 ghost use Rattle.machine_state.specs.Outcomes.{Steps};
-ghost use Rattle.machine_state.specs.declared.Stepped.TheVariants.{Taken};
 ghost use Rattle.step_box_exit.specs.Closing.{ExitAt, Saves, CircuitPut, ConstantPut, after_exit};
 
 use machine_circuits::closed::{result_buffer, result_start};
 use machine_circuits::gates::{CLOSED_FROM, move_gates};
 use machine_circuits::tuples::save_result;
 use machine_nodes::{argument_at, put_node};
-use machine_state::{Counts, StateNumbers, Stepped};
+use machine_state::{Buffers, Counts, StateNumbers};
 use machine_walk::Place;
 use machine_walk::stack::{stack_node, stack_start};
 use rules::kinds::CONSTANT;
 use rules::sizes::{MOST_BOXES, MOST_GATES};
 use words::quadwords::{put_quadword, word_in};
-use words::saturating_sub;
 
 // The box that is left: its node, the result, and the gates of the innermost frame.
 #[derive(Clone, Copy)]
@@ -49,21 +47,21 @@ struct Exit {
 fn exit_at(stack: &[u8], frames: &[u8], numbers: StateNumbers) -> Exit
     ensures { ExitAt (quadwords_in stack.now) (quadwords_in frames.now) numbers result }
 {
-    let place = numbers.place;
-    let counts = numbers.counts;
-    let top = saturating_sub(place.depth, 1);
+    let StateNumbers { place, counts } = numbers;
+    let top = place.depth.saturating_sub(1);
     let start = stack_start(stack, top);
-    let base = word_in(frames, saturating_sub(counts.frames, 1), 0);
+    let base = word_in(frames, counts.frames.saturating_sub(1), 0);
     Exit {
         at: stack_node(stack, top),
-        start: start,
-        nodes: saturating_sub(place.left, start),
-        base: base,
-        gates: saturating_sub(counts.gates, base),
+        start,
+        nodes: place.left.saturating_sub(start),
+        base,
+        gates: counts.gates.saturating_sub(base),
     }
 }
 
-// The result is saved in the slot of closed circuit i.
+// The result is saved in the slot of closed circuit i. Each arm has a call of its own, since the prover's borrow checker does not cover a
+// `&mut` that is one of four by the arm taken, and C lends the four buffers one by one.
 fn save_among(
     nodes: &[u8],
     exit: Exit,
@@ -77,23 +75,13 @@ fn save_among(
         (four_results (words results0.old) (words results1.old) (words results2.old) (words results3.old))
         (four_results (words results0.new) (words results1.new) (words results2.new) (words results3.new)) }
 {
-    let start = exit.start;
-    let count = exit.nodes;
-    let buffer = result_buffer(i);
     let from = result_start(i);
-    if buffer == 0 {
-        save_result(nodes, start, count, results0, from);
-        return;
+    match result_buffer(i) {
+        0 => save_result(nodes, exit.start, exit.nodes, results0, from),
+        1 => save_result(nodes, exit.start, exit.nodes, results1, from),
+        2 => save_result(nodes, exit.start, exit.nodes, results2, from),
+        _ => save_result(nodes, exit.start, exit.nodes, results3, from),
     }
-    if buffer == 1 {
-        save_result(nodes, start, count, results1, from);
-        return;
-    }
-    if buffer == 2 {
-        save_result(nodes, start, count, results2, from);
-        return;
-    }
-    save_result(nodes, start, count, results3, from);
 }
 
 // The gates of the innermost frame move behind those of the closed circuits, and the quadword of the circuit is put.
@@ -116,19 +104,18 @@ fn put_constant(nodes: &mut [u8], exit: Exit, numbers: StateNumbers) -> StateNum
     ensures constant_put { ConstantPut (nodes_in nodes.old) (nodes_in nodes.new) numbers }
     ensures value { result ≡ after_exit numbers exit }
 {
-    let place = numbers.place;
-    let counts = numbers.counts;
-    let right = saturating_sub(place.right, 1);
+    let StateNumbers { place, counts } = numbers;
+    let right = place.right.saturating_sub(1);
     put_node(nodes, right, CONSTANT, counts.boxes);
     StateNumbers {
         place: Place {
             left: exit.at,
-            right: right,
-            depth: saturating_sub(place.depth, 1),
+            right,
+            depth: place.depth.saturating_sub(1),
             returning: false,
         },
         counts: Counts {
-            frames: saturating_sub(counts.frames, 1),
+            frames: counts.frames.saturating_sub(1),
             gates: exit.base,
             boxes: counts.boxes + 1,
             kept: counts.kept + exit.gates,
@@ -137,29 +124,24 @@ fn put_constant(nodes: &mut [u8], exit: Exit, numbers: StateNumbers) -> StateNum
 }
 
 // Box exit where one more circuit may be closed.
-fn leave(
-    nodes: &mut [u8],
-    stack: &[u8],
-    gates: &mut [u8],
-    circuits: &mut [u8],
-    frames: &[u8],
-    results0: &mut [u8],
-    results1: &mut [u8],
-    results2: &mut [u8],
-    results3: &mut [u8],
-    numbers: StateNumbers,
-) -> StateNumbers
+fn leave(buffers: &mut Buffers, numbers: StateNumbers) -> StateNumbers
     requires boxes_lt_most_boxes { numbers.counts.boxes < most_boxes }
     requires gates_le_most_gates { numbers.counts.gates ≤ most_gates }
     requires kept_le_most_gates { numbers.counts.kept ≤ most_gates }
-    ensures { (ws : List ℕ) (allowance : ℕ) → Steps at_exit allowance
-        (memory (nodes_in nodes.old) (quadwords_in stack.now) (quadwords_in gates.old) (quadwords_in circuits.old) (quadwords_in frames.now) ws
-        (four_results (words results0.old) (words results1.old) (words results2.old) (words results3.old)))
-        (memory (nodes_in nodes.new) (quadwords_in stack.now) (quadwords_in gates.new) (quadwords_in circuits.new) (quadwords_in frames.now) ws
-        (four_results (words results0.new) (words results1.new) (words results2.new) (words results3.new)))
-        numbers (Taken result) }
+    ensures same_buffers { SameBuffers buffers.old buffers.new }
+    ensures kept { (buffers.new.stack.now ≡ buffers.old.stack.now) × (buffers.new.frames.now ≡ buffers.old.frames.now) }
+    ensures steps { (ws : List ℕ) (allowance : ℕ) → Steps at_exit allowance (memory_with ws buffers.old) (memory_with ws buffers.new) numbers (Some result) }
 {
     let counts = numbers.counts;
+    let nodes = &mut *buffers.nodes;
+    let stack = &mut *buffers.stack;
+    let frames = &mut *buffers.frames;
+    let gates = &mut *buffers.gates;
+    let circuits = &mut *buffers.circuits;
+    let results0 = &mut *buffers.results0;
+    let results1 = &mut *buffers.results1;
+    let results2 = &mut *buffers.results2;
+    let results3 = &mut *buffers.results3;
     let exit = exit_at(stack, frames, numbers);
     save_among(
         nodes,
@@ -176,36 +158,14 @@ fn leave(
 
 // Box exit. The 257th does not fit (01: "at most 256 boxes closed"). Nodes and gates always do: there are fewer nodes than
 // before, and as many gates. More gates than may be are in no configuration; without these tests a sum could wrap.
-pub fn close_box(
-    nodes: &mut [u8],
-    stack: &[u8],
-    gates: &mut [u8],
-    circuits: &mut [u8],
-    frames: &[u8],
-    results0: &mut [u8],
-    results1: &mut [u8],
-    results2: &mut [u8],
-    results3: &mut [u8],
-    numbers: StateNumbers,
-) -> Stepped
-    ensures { (ws : List ℕ) (allowance : ℕ) → Steps at_exit allowance
-        (memory (nodes_in nodes.old) (quadwords_in stack.now) (quadwords_in gates.old) (quadwords_in circuits.old) (quadwords_in frames.now) ws
-        (four_results (words results0.old) (words results1.old) (words results2.old) (words results3.old)))
-        (memory (nodes_in nodes.new) (quadwords_in stack.now) (quadwords_in gates.new) (quadwords_in circuits.new) (quadwords_in frames.now) ws
-        (four_results (words results0.new) (words results1.new) (words results2.new) (words results3.new)))
-        numbers result }
+pub fn close_box(buffers: &mut Buffers, numbers: StateNumbers) -> Option<StateNumbers>
+    ensures same_buffers { SameBuffers buffers.old buffers.new }
+    ensures kept { (buffers.new.stack.now ≡ buffers.old.stack.now) × (buffers.new.frames.now ≡ buffers.old.frames.now) }
+    ensures steps { (ws : List ℕ) (allowance : ℕ) → Steps at_exit allowance (memory_with ws buffers.old) (memory_with ws buffers.new) numbers result }
 {
     let counts = numbers.counts;
-    if MOST_BOXES <= counts.boxes {
-        return Stepped::TooLarge;
+    if MOST_BOXES <= counts.boxes || MOST_GATES < counts.gates || MOST_GATES < counts.kept {
+        return None;
     }
-    if MOST_GATES < counts.gates {
-        return Stepped::TooLarge;
-    }
-    if MOST_GATES < counts.kept {
-        return Stepped::TooLarge;
-    }
-    Stepped::Taken(leave(
-        nodes, stack, gates, circuits, frames, results0, results1, results2, results3, numbers,
-    ))
+    Some(leave(buffers, numbers))
 }

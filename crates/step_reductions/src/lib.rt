@@ -17,48 +17,39 @@ ghost use Rattle.step_reductions.specs.Taking.{taken_to};
 ghost use Rattle.step_reductions.specs.Reductions.{most_between};
 
 use machine_nodes::{copy_nodes, subtree_end};
-use machine_state::{StateNumbers, Stepped};
-use machine_substitution::{Region, Size, Values, write_reduct};
+use machine_state::StateNumbers;
+use machine_substitution::{Region, Values, write_reduct};
 use machine_walk::Place;
 use machine_walk::stack::{stack_node, stack_start};
 use rules::sizes::MOST_NODES;
-use words::saturating_sub;
 
-// The step is taken: the redex, whose node stood at place `at`, is out of the walked nodes, its quadword is off the stack, and
-// the reduct, which starts at place `to`, is evaluated next.
-fn taken(numbers: StateNumbers, at: usize, to: usize) -> Stepped
+// The numbers after the step: the redex, whose node stood at place `at`, is out of the walked nodes, its quadword is off the stack,
+// and the reduct, which starts at place `to`, is evaluated next.
+fn taken(numbers: StateNumbers, at: usize, to: usize) -> StateNumbers
     ensures { result ≡ taken_to numbers at to }
 {
-    let place = numbers.place;
-    let counts = numbers.counts;
-    let next = Place {
-        left: at,
-        right: to,
-        depth: saturating_sub(place.depth, 1),
-        returning: false,
-    };
-    Stepped::Taken(StateNumbers {
-        place: next,
-        counts: counts,
-    })
+    StateNumbers {
+        place: Place {
+            left: at,
+            right: to,
+            depth: numbers.place.depth.saturating_sub(1),
+            returning: false,
+        },
+        ..numbers
+    }
 }
 
 // The value that an abstraction is applied to, from a place on; it is the last of the walked nodes.
 fn applied_to(start: usize, left: usize) -> Values
     ensures { result ≡ application_value start left }
 {
-    let first = Region {
-        start: start,
-        length: saturating_sub(left, start),
-    };
-    let second = Region {
-        start: 0,
-        length: 0,
+    let value = Region {
+        start,
+        length: left.saturating_sub(start),
     };
     Values {
-        first: first,
-        second: second,
-        two: false,
+        first: value,
+        second: None,
     }
 }
 
@@ -68,22 +59,22 @@ fn most_between(nodes: &[u8], at: usize, next: usize) -> usize
     requires { at < 65536 }
     ensures { result ≡ most_between (nodes_in nodes.now) at next }
 {
-    let rest = saturating_sub(nodes.len() / 4, next);
-    saturating_sub(MOST_NODES, at + rest)
+    let rest = (nodes.len() / 4).saturating_sub(next);
+    MOST_NODES.saturating_sub(at + rest)
 }
 
-// The step at a force of a lift: the lift's body stands behind the two nodes, and is evaluated.
-pub fn force(nodes: &mut [u8], stack: &[u8], numbers: StateNumbers) -> Stepped
+// The step at a force of a lift: the lift's body stands behind the two nodes, and is evaluated. It always fits.
+pub fn force(nodes: &mut [u8], stack: &[u8], numbers: StateNumbers) -> StateNumbers
     ensures { (gs cs fs : List Quadword) (ws : List ℕ) (results : ℕ → List ℕ) (allowance : ℕ)
         → Steps at_force allowance
         (memory (nodes_in nodes.old) (quadwords_in stack.now) gs cs fs ws results)
-        (memory (nodes_in nodes.new) (quadwords_in stack.now) gs cs fs ws results) numbers result }
+        (memory (nodes_in nodes.new) (quadwords_in stack.now) gs cs fs ws results) numbers (Some result) }
 {
     let place = numbers.place;
-    let at = stack_node(stack, saturating_sub(place.depth, 1));
+    let at = stack_node(stack, place.depth.saturating_sub(1));
     let body = at + 2;
-    let count = saturating_sub(place.left, body);
-    let to = saturating_sub(place.right, count);
+    let count = place.left.saturating_sub(body);
+    let to = place.right.saturating_sub(count);
     copy_nodes(nodes, body, to, count);
     taken(numbers, at, to)
 }
@@ -95,7 +86,7 @@ pub fn application(
     stack: &[u8],
     waiting: &mut [u8],
     numbers: StateNumbers,
-) -> Stepped
+) -> Option<StateNumbers>
     ensures { most_nodes < length (words waiting.old)
         → (gs cs fs : List Quadword) (ws : List ℕ) (results : ℕ → List ℕ) (allowance : ℕ)
         → Steps at_application allowance
@@ -103,24 +94,19 @@ pub fn application(
         (memory (nodes_in nodes.new) (quadwords_in stack.now) gs cs fs ws results) numbers result }
 {
     let place = numbers.place;
-    let top = saturating_sub(place.depth, 1);
+    let top = place.depth.saturating_sub(1);
     let at = stack_node(stack, top);
     let start = stack_start(stack, top);
-    let behind = at + 2;
     let source = Region {
-        start: behind,
-        length: saturating_sub(start, behind),
+        start: at + 2,
+        length: start.saturating_sub(at + 2),
     };
     let values = applied_to(start, place.left);
     let most = most_between(nodes, at, place.right);
-    let left = place.left;
-    let size = write_reduct(nodes, waiting, source, values, left, most);
-    let Size::Nodes(count) = size else {
-        return Stepped::TooLarge;
-    };
-    let to = saturating_sub(place.right, count);
-    copy_nodes(nodes, left, to, count);
-    taken(numbers, at, to)
+    let count = write_reduct(nodes, waiting, source, values, place.left, most)?;
+    let to = place.right.saturating_sub(count);
+    copy_nodes(nodes, place.left, to, count);
+    Some(taken(numbers, at, to))
 }
 
 // The halves of a pair, which are the last of the walked nodes: the first stands behind the let's node, at place `at`, and
@@ -129,25 +115,28 @@ fn halves(at: usize, middle: usize, left: usize) -> Values
     requires { at < 65536 }
     ensures { result ≡ let_values at middle left }
 {
-    let start = at + 2;
+    let first_half = Region {
+        start: at + 2,
+        length: middle.saturating_sub(at + 2),
+    };
     let second_half = Region {
         start: middle,
-        length: saturating_sub(left, middle),
-    };
-    let first_half = Region {
-        start: start,
-        length: saturating_sub(middle, start),
+        length: left.saturating_sub(middle),
     };
     Values {
         first: second_half,
-        second: first_half,
-        two: true,
+        second: Some(first_half),
     }
 }
 
 // The step at a let of a pair: the halves take the places of the two variables in the body, which is next to be walked. The
 // reduct is written at the start of the gap, as far as it is not too large, and then copied to where the body ended.
-pub fn let_in(nodes: &mut [u8], stack: &[u8], waiting: &mut [u8], numbers: StateNumbers) -> Stepped
+pub fn let_in(
+    nodes: &mut [u8],
+    stack: &[u8],
+    waiting: &mut [u8],
+    numbers: StateNumbers,
+) -> Option<StateNumbers>
     ensures { most_nodes < length (words waiting.old)
         → (gs cs fs : List Quadword) (ws : List ℕ) (results : ℕ → List ℕ) (allowance : ℕ)
         → Steps at_let allowance
@@ -155,23 +144,17 @@ pub fn let_in(nodes: &mut [u8], stack: &[u8], waiting: &mut [u8], numbers: State
         (memory (nodes_in nodes.new) (quadwords_in stack.now) gs cs fs ws results) numbers result }
 {
     let place = numbers.place;
-    let left = place.left;
-    let right = place.right;
-    let at = stack_node(stack, saturating_sub(place.depth, 1));
+    let at = stack_node(stack, place.depth.saturating_sub(1));
     let middle = subtree_end(nodes, at + 2);
-    let values = halves(at, middle, left);
-    let next = subtree_end(nodes, right);
-    let length = saturating_sub(next, right);
+    let values = halves(at, middle, place.left);
+    let next = subtree_end(nodes, place.right);
     let body = Region {
-        start: right,
-        length: length,
+        start: place.right,
+        length: next.saturating_sub(place.right),
     };
     let most = most_between(nodes, at, next);
-    let size = write_reduct(nodes, waiting, body, values, left, most);
-    let Size::Nodes(count) = size else {
-        return Stepped::TooLarge;
-    };
-    let to = saturating_sub(next, count);
-    copy_nodes(nodes, left, to, count);
-    taken(numbers, at, to)
+    let count = write_reduct(nodes, waiting, body, values, place.left, most)?;
+    let to = next.saturating_sub(count);
+    copy_nodes(nodes, place.left, to, count);
+    Some(taken(numbers, at, to))
 }

@@ -11,6 +11,10 @@ ReadsFirst most input read = IfSome input (λ all. read ≡ take most all)
 abbrev pub AppendsPart : Option (List ℕ) → Option (List ℕ) → List ℕ → Type 0
 AppendsPart old new bytes = (size : ℕ) × Appends old new (take size bytes)
 
+-- To read no more than the first bytes, so many, loses nothing.
+abbrev pub NeedsFirst : (List ℕ → List ℕ) → ℕ → Type 0
+NeedsFirst f most = (all : List ℕ) → f (take most all) ≡ f all
+
 -- The output grows by f of all bytes of the input.
 abbrev pub WritesAnswer : (List ℕ → List ℕ) → Option (List ℕ) → Option (List ℕ) → Option (List ℕ) → Type 0
 WritesAnswer f input old new = IfSome input (λ all. Appends old new (f all))

@@ -1,12 +1,12 @@
 // Reading an input into a lent buffer until it is full or the input ends, and writing bytes to an output.
 // Believe: specs/Streamed.
 // No theorem beyond the contracts; proofs/Laws/Answered is for the crates that answer an input.
-// Called by wirelist_io, listcheck_io and openqasm_io.
+// Called by wirelist_io, listcheck_io and openqasm_io, each of which answers an input's bytes with bytes.
 #![tactic(auto)]
 
-ghost use Rattle.std.specs.Prelude.{◌≤◌, length, take, OnOk};
+ghost use Rattle.std.specs.Prelude.{ℕ, ◌≡◌, ◌≤◌, List, length, take, OnOk};
 ghost use Rattle.std.specs.Io.KnownBytes.{Appends, Consumes};
-ghost use Rattle.streams.specs.Streamed.{ReadsFirst, AppendsPart};
+ghost use Rattle.streams.specs.Streamed.{ReadsFirst, AppendsPart, NeedsFirst, WritesAnswer, WritesPart};
 
 use std::io;
 use std::io::{ErrorKind, Read, Write};
@@ -18,6 +18,7 @@ pub fn read_full<R: Read>(input: &mut R, buffer: &mut [u8]) -> (usize, io::Resul
     ensures taken { Consumes (R.remaining input.old) (R.remaining input.new) (take result.0 buffer.new) }
     ensures whole { OnOk result.1 (ReadsFirst (length buffer.new) (R.remaining input.old) (take result.0 buffer.new)) }
 {
+    // No `for`: each read says how far it came.
     let mut done = 0;
     while done < buffer.len() {
         match input.read(&mut buffer[done..]) {
@@ -34,6 +35,7 @@ pub fn write_all<W: Write>(output: &mut W, bytes: &[u8]) -> io::Result<()>
     ensures whole { OnOk result (Appends (W.contents output.old) (W.contents output.new) bytes.now) }
     ensures part { AppendsPart (W.contents output.old) (W.contents output.new) bytes.now }
 {
+    // No `for`: each write says how far it came.
     let mut done = 0;
     while done < bytes.len() {
         match output.write(&bytes[done..]) {
@@ -43,6 +45,40 @@ pub fn write_all<W: Write>(output: &mut W, bytes: &[u8]) -> io::Result<()>
         }
     }
     Ok(())
+}
+
+// What answers the bytes of an input with bytes.
+pub trait Answers {
+    // The answer to all bytes of an input.
+    ghost answer: { List ℕ → List ℕ };
+
+    // The length of a buffer that holds every answer.
+    ghost most_written: { ℕ };
+
+    // The answer is written from the start of the text; answers how many bytes.
+    fn put_answer(&self, bytes: &[u8], text: &mut [u8]) -> usize
+        ensures within { result ≤ length text.new }
+        ensures whole { most_written ≤ length text.old → take result text.new ≡ answer bytes.now };
+}
+
+// Reads an input, as much of it as the buffer holds, and writes its answer. Where a read fails, what was read until then is taken for
+// the whole, and the error is answered when that is written. The buffers are lent: one for what is read, one for the answer.
+pub fn answer_input<A: Answers, R: Read, W: Write>(
+    program: &A,
+    input: &mut R,
+    output: &mut W,
+    buffer: &mut [u8],
+    text: &mut [u8],
+) -> io::Result<()>
+    ensures whole { NeedsFirst A.answer (length buffer.old) → A.most_written ≤ length text.old
+        → OnOk result (WritesAnswer A.answer (R.remaining input.old) (W.contents output.old) (W.contents output.new)) }
+    ensures part { A.most_written ≤ length text.old
+        → WritesPart A.answer (R.remaining input.old) (W.contents output.old) (W.contents output.new) }
+{
+    let (size, read) = read_full(input, buffer);
+    let length = program.put_answer(&buffer[..size], text);
+    write_all(output, &text[..length])?;
+    read
 }
 
 #[cfg(test)]

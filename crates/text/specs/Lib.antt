@@ -1,3 +1,4 @@
 pub mod Writing
 pub mod Text
 pub mod Written
+pub mod Writer

@@ -15,11 +15,6 @@ pub record Holds (m : List ℕ) (types : List Wire) (gone : List ℕ) : Type 0 w
   pub bytes : (w : ℕ) → get_or m w 0 ≡ wire_byte (there types gone w)
   pub gone_made : (w : ℕ) → 1 ≤ count w gone → w < length types
 
--- What is found, as a number: one more than it, or 0 where nothing is.
-abbrev pub one_more_than : Option ℕ → ℕ
-one_more_than none = 0
-one_more_than (some n) = suc n
-
 -- Wires are taken one after the other: whether all were there, and the table if they were.
 pub record TakesAll (types : List Wire) (gone ws : List ℕ) (αs : List Wire) (m : List ℕ) (all : Bool) : Type 0 where
   pub answers : all ≡ all_there types gone ws αs

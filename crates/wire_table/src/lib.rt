@@ -1,5 +1,5 @@
 // The table of a circuit's wires in lent memory (02, ticket 3): one byte a wire, 0 where it is not there, else one more than the code
-// of its type. It knows inputs and gates, and no bytes of a listing.
+// of its type: what is lent is bytes, so no Option stands in it. It knows inputs and gates, and no bytes of a listing.
 // Believe: specs/Wires and WireRules.
 // Main theorem: wires_mean (proofs/Theorems/Wires), the place where a wire rule is broken, and that none is broken exactly if the
 // circuit is sound and each wire goes exactly once.
@@ -11,7 +11,8 @@ ghost use Rattle.words.specs.Numbers.{words_at};
 ghost use Rattle.rules.specs.Types.{Wire};
 ghost use Rattle.rules.specs.Gates.{gate_type, gate_outputs, wires_in, wires_out, input_wires};
 ghost use Rattle.wire_table.specs.Wires.{first_where};
-ghost use Rattle.wire_table.specs.Table.{Holds, one_more_than, TakesAll, MakesAll};
+ghost use Rattle.words.specs.Found.{option_of};
+ghost use Rattle.wire_table.specs.Table.{Holds, TakesAll, MakesAll};
 
 use words::{byte_at, word_at};
 
@@ -30,13 +31,15 @@ fn take_wire(table: &mut [u8], w: usize, byte: u8) -> bool
     false
 }
 
-// The wires that a gate takes, 16-bit numbers from a place on: are they there, each with its type? Then they are gone.
+// The wires that a gate takes, 16-bit numbers from a place on: are they there, each with its type? Then they are gone. The bound of the
+// place is that of slots_from of crate listing, a number among others for this crate, which knows no listing.
 pub fn take_wires(source: &[u8], from: usize, gate: usize, table: &mut [u8]) -> bool
     requires { from < 134217728 }
     ensures { (types : List Wire) (gone : List ℕ)
         → Holds table.old types gone
         → TakesAll types gone (words_at source.now from (wires_in gate)) (input_wires (gate_type gate)) table.new result }
 {
+    // No `for`: the digits of the number end the loop, and a count beside them would say the same a second time.
     let mut needed = rules::taken_code(gate);
     let mut at = from;
     while 0 < needed {
@@ -79,6 +82,7 @@ pub fn make_wires(gate: usize, table: &mut [u8], made: usize) -> usize
         → made + wires_out gate ≤ length table.old
         → MakesAll types gone (gate_outputs gate) table.new result }
 {
+    // No `for`: the digits of the number end the loop, as in take_wires.
     let mut codes = rules::made_code(gate);
     let mut next = made;
     while 0 < codes {
@@ -89,16 +93,9 @@ pub fn make_wires(gate: usize, table: &mut [u8], made: usize) -> usize
     next
 }
 
-// The lowest of so many wires that is there: one more than its number, or 0 where none is.
-pub fn lowest_there(table: &[u8], count: usize) -> usize
-    ensures { result ≡ one_more_than (first_where (λ w. ltb 0 (get_or table.now w 0)) 0 count) }
+// The lowest of so many wires that is there.
+pub fn lowest_there(table: &[u8], count: usize) -> Option<usize>
+    ensures { result ≡ option_of (first_where (λ w. ltb 0 (get_or table.now w 0)) 0 count) }
 {
-    let mut w: usize = 0;
-    while w < count {
-        if 0 < byte_at(table, w) {
-            return w + 1;
-        }
-        w += 1;
-    }
-    0
+    (0..count).find(|&w| 0 < byte_at(table, w))
 }

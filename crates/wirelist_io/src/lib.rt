@@ -4,22 +4,21 @@
 // Called by the program wirelist.
 #![tactic(auto)]
 
-ghost use Rattle.std.specs.Prelude.{◌≤◌, ◌≡◌, length, take, OnOk};
-ghost use Rattle.std.specs.Io.KnownBytes.{Consumes};
-ghost use Rattle.streams.specs.Streamed.{ReadsFirst, WritesAnswer, WritesPart};
+ghost use Rattle.std.specs.Prelude.{◌≤◌, length, OnOk};
+ghost use Rattle.streams.specs.Streamed.{WritesAnswer, WritesPart};
 ghost use Rattle.wirelist_lines.specs.Least.{least_text};
 ghost use Rattle.text.specs.Written.{Written};
-ghost use Rattle.wirelist_io.specs.Printing.{most_read, printed};
+ghost use Rattle.wirelist_io.specs.Printing.{printed};
 ghost use Rattle.wirelist_io.specs.Answered.{answer_text, RefusalFits};
 
 use program::format::SIZES;
-use refusals::{number_of, place_of};
+use refusals::{Refusal, number_of, place_of};
 use rules::sizes::{MOST_LABELS, MOST_TERMS, MOST_TYPES};
 use run::run;
-use run_answers::RunAnswer;
+use run_answers::Finished;
 use std::io;
 use std::io::{Read, Write};
-use streams::{read_full, write_all};
+use streams::{Answers, answer_input};
 use wirelist_lines::{LEAST_TEXT, write_lines, write_refusal};
 
 // 01: "reads at most 7,879 bytes of a program file" and "runs it with limit 1,000,000".
@@ -31,17 +30,13 @@ const LIMIT: u32 = 1000000;
 const LARGE: usize = 65536;
 
 // The text for an answer of a run and its output buffer.
-fn write_answer(answer: RunAnswer, out: &[u8], text: &mut [u8]) -> usize
+fn write_answer(answer: Result<Finished, Refusal>, out: &[u8], text: &mut [u8]) -> usize
     ensures written { Written text.old (answer_text answer out.now) text.new result }
     ensures refusal_fits { RefusalFits answer }
 {
     match answer {
-        RunAnswer::Finished {
-            steps,
-            gates: _,
-            length: _,
-        } => write_lines(out, steps, text),
-        RunAnswer::Refused(refusal) => {
+        Ok(finished) => write_lines(out, finished.steps, text),
+        Err(refusal) => {
             let number = number_of(refusal);
             let place = place_of(refusal);
             write_refusal(number, place, text)
@@ -84,21 +79,18 @@ pub fn print_text(file: &[u8], text: &mut [u8]) -> usize
     write_answer(answer, &out, text)
 }
 
-// The same with a text of the least length: the bytes before the number that it answers are all that is printed.
-fn print_all(file: &[u8], text: &mut [u8; LEAST_TEXT]) -> usize
-    ensures text_after { take result text.new ≡ printed file.now }
-    ensures upper_bound { result ≤ length text.new }
-{
-    print_text(file, text)
-}
+// What wirelist answers a program file with.
+#[derive(Clone, Copy)]
+struct Wirelist;
 
-// Reads a program file until it ends, the most bytes are read or a read fails; answers how many bytes, and the error of that read.
-fn read_file<R: Read>(input: &mut R, file: &mut [u8; MOST_READ]) -> (usize, io::Result<()>)
-    ensures within { (result.0 ≤ most_read) × (length file.new ≡ most_read) }
-    ensures taken { Consumes (R.remaining input.old) (R.remaining input.new) (take result.0 file.new) }
-    ensures whole { OnOk result.1 (ReadsFirst most_read (R.remaining input.old) (take result.0 file.new)) }
-{
-    read_full(input, file)
+impl Answers for Wirelist {
+    ghost answer = { printed };
+
+    ghost most_written = { least_text };
+
+    fn put_answer(&self, file: &[u8], text: &mut [u8]) -> usize {
+        print_text(file, text)
+    }
 }
 
 // Reads a program file, runs it and prints its text. Where a read fails, what was read until then is taken for the whole, and the
@@ -108,9 +100,6 @@ pub fn print_run<R: Read, W: Write>(input: &mut R, output: &mut W) -> io::Result
     ensures part { WritesPart printed (R.remaining input.old) (W.contents output.old) (W.contents output.new) }
 {
     let mut file = [0u8; MOST_READ];
-    let (size, read) = read_file(input, &mut file);
     let mut text = [0u8; LEAST_TEXT];
-    let length = print_all(&file[..size], &mut text);
-    write_all(output, &text[..length])?;
-    read
+    answer_input(&Wirelist, input, output, &mut file, &mut text)
 }

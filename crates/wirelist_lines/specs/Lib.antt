@@ -1,4 +1,3 @@
-pub mod Names
 pub mod Lines
 pub mod Least
 pub mod LinesAt

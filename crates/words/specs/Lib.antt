@@ -2,3 +2,4 @@ pub mod Words
 pub mod Numbers
 pub mod Regions
 pub mod Quadwords
+pub mod Found

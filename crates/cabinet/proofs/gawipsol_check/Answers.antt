@@ -4,4 +4,4 @@ use Rattle.cabinet_answers.specs.Packed.{packed_check}
 use Rattle.cabinet.proofs.gawipsol_check.Goals as goal
 
 pub returns : goal.returns
-returns c = record { answer = c.pack_check.ensures ∙ ap packed_check c.check.ensures.answer; bytes = c.check.ensures.bytes }
+returns c = record { answer = c.pack_answer.ensures ∙ ap packed_check c.check.ensures.answer; bytes = c.check.ensures.bytes }

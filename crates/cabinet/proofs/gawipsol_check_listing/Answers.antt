@@ -4,4 +4,4 @@ use Rattle.cabinet_answers.specs.Packed.{packed_listing}
 use Rattle.cabinet.proofs.gawipsol_check_listing.Goals as goal
 
 pub returns : goal.returns
-returns c = record { answer = c.pack_listing.ensures ∙ ap packed_listing c.check_listing.ensures.answer; bytes = c.check_listing.ensures.bytes }
+returns c = record { answer = c.pack_answer.ensures ∙ ap packed_listing c.check_listing.ensures.answer; bytes = c.check_listing.ensures.bytes }

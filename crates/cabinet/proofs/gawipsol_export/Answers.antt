@@ -4,4 +4,4 @@ use Rattle.cabinet_answers.specs.Packed.{packed_conversion}
 use Rattle.cabinet.proofs.gawipsol_export.Goals as goal
 
 pub returns : goal.returns
-returns c = record { answer = c.pack_conversion.ensures ∙ ap packed_conversion c.export.ensures.answer; bytes = c.export.ensures.bytes }
+returns c = record { answer = c.pack_answer.ensures ∙ ap packed_conversion c.export.ensures.answer; bytes = c.export.ensures.bytes }

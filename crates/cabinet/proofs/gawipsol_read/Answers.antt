@@ -4,4 +4,4 @@ use Rattle.cabinet_answers.specs.Packed.{packed_read}
 use Rattle.cabinet.proofs.gawipsol_read.Goals as goal
 
 pub returns : goal.returns
-returns c = c.pack_read.ensures ∙ ap packed_read c.read.ensures
+returns c = c.pack_answer.ensures ∙ ap packed_read c.read.ensures

@@ -4,4 +4,4 @@ use Rattle.cabinet_answers.specs.Packed.{packed_run}
 use Rattle.cabinet.proofs.gawipsol_run.Goals as goal
 
 pub returns : goal.returns
-returns c = record { answer = c.pack_run.ensures ∙ ap packed_run c.run.ensures.answer; bytes = c.run.ensures.bytes }
+returns c = record { answer = c.pack_answer.ensures ∙ ap packed_run c.run.ensures.answer; bytes = c.run.ensures.bytes }

@@ -1,5 +1,5 @@
 -- Unpacking gives back every answer that an operation has.
-use Rattle.std.specs.Prelude.{ℕ, ◌≤◌, ◌<◌, ◌≡◌, refl, Bool, true, false, ◌&&◌, cond, List, length, eqb}
+use Rattle.std.specs.Prelude.{ℕ, ◌≤◌, ◌<◌, ◌≡◌, refl, Bool, true, false, ◌&&◌, cond, List, length, eqb, Result, Ok, Err}
 use Rattle.std.proofs.Common.{arith, ◌∙◌, ap, ap₂, le-leb, ne_eqb}
 use Rattle.std.proofs.Math.Option.{Option, none, some}
 use Rattle.std.proofs.lemmas.Bool.{lt-leb}
@@ -8,36 +8,29 @@ use Rattle.refusals.specs.declared.Refusal.{Refusal}
 use Rattle.refusals.specs.declared.Refusal.TheVariants.{Form, Typing, Run}
 use Rattle.program.specs.Format.{within}
 use Rattle.program.specs.Reading.{read_of}
-use Rattle.program.specs.declared.ReadAnswer.{ReadAnswer}
-use Rattle.program.specs.declared.ReadAnswer.TheVariants.{Accepted as IsRead, Refused as NotRead}
 use Rattle.check_program.specs.Answers.{Judged, accepts, refuses, check_of, check_answer, answer_to as check_answer_to}
 use Rattle.lent.specs.Lent.{too_short}
 use Rattle.check_program.specs.Lengths.{check_lengths}
-use Rattle.check_program.specs.declared.CheckAnswer.{CheckAnswer}
-use Rattle.check_program.specs.declared.CheckAnswer.TheVariants.{Accepted as IsChecked, Refused as NotChecked}
 use Rattle.run_answers.specs.Answers.{Ran, ran, declines, run_of, answer_to, run_answer}
 use Rattle.run_answers.specs.Lengths.{run_lengths}
 use Rattle.run_answers.proofs.Theorems.Families.{most_places, ReadBounds, read_bounds, CheckBounds, of_read, check_bounds}
 use Rattle.run_answers.proofs.Theorems.Running.{OfRun, of_check, RunBounds, run_bounds}
-use Rattle.run_answers.specs.declared.RunAnswer.{RunAnswer}
-use Rattle.run_answers.specs.declared.RunAnswer.TheVariants.{Finished, Refused}
 use Rattle.listing_check.specs.Answers.{listing_lengths, listing_check_of, listing_check_answer}
 use Rattle.listing_check.proofs.Laws.Places.{most_listed, OfListing, ListingBounds, listing_bounds}
-use Rattle.listing_check.specs.declared.ListingAnswer.{ListingAnswer}
-use Rattle.listing_check.specs.declared.ListingAnswer.TheVariants.{Accepted as IsListed, Refused as NotListed}
 use Rattle.listing.proofs.Laws.Lengths.{length_listing}
-use Rattle.openqasm.specs.declared.Conversion.{Conversion}
-use Rattle.openqasm.specs.declared.Conversion.TheVariants.{Written, Refused as NotConverted}
 use Rattle.openqasm_export.specs.Answers.{export_lengths, export_check_of, exported_as, export_answer}
 use Rattle.openqasm_export.proofs.Laws.Answering.{accepted_fits}
 use Rattle.openqasm_export.proofs.Laws.Statements.{export_bounds}
 use Rattle.openqasm_import.specs.Answers.{import_lengths, import_of, imported_as, import_answer}
 use Rattle.openqasm_import.proofs.Theorems.Imports.{import_means}
+use Rattle.program.specs.declared.format.Sizes.{Sizes}
+use Rattle.run_answers.specs.declared.Finished.{Finished}
+use Rattle.listing_check.specs.declared.ListingSizes.{ListingSizes}
 use Rattle.cabinet_answers.specs.Packed.{packed_refusal, packed_sizes, packed_length, packed_ran, packed_read, packed_check}
 use Rattle.cabinet_answers.specs.Packed.{packed_run, number_in, place_in, labels_in, types_in, terms_in, written_in}
 use Rattle.cabinet_answers.specs.Packed.{gates_in, length_in, steps_in, refusal_with, refusal_in, unpacked_read}
 use Rattle.cabinet_answers.specs.Packed.{unpacked_check, unpacked_run, packed_counts, packed_listing, inputs_in}
-use Rattle.cabinet_answers.specs.Packed.{listed_gates_in, outputs_in, unpacked_listing, packed_conversion, unpacked_conversion}
+use Rattle.cabinet_answers.specs.Packed.{listed_gates_in, outputs_in, unpacked_listing, packed_conversion, unpacked_conversion, packed_answer, unpacked_answer}
 
 -- REFUSALS
 
@@ -104,69 +97,94 @@ pub answer_back : {X : Type 0} (accepted refused : X) (answer : ℕ)
     → cond (eqb (number_in answer) 0) accepted refused ≡ accepted
 answer_back accepted refused answer h = ap (λ n. cond (eqb n 0) accepted refused) h
 
+-- What fits is what was answered, where that does, or a refusal that does.
+abbrev pub AnswerFits : {X : Type 0} → (X → Type 0) → Result X Refusal → Type 0
+AnswerFits P (Ok x) = P x
+AnswerFits P (Err x) = RefusalFits x
+
+-- Any answer comes back, if what is answered does.
+pub any_back : {X : Type 0} (packed : X → ℕ) (unpacked : ℕ → X) (P : X → Type 0)
+    → ((x : X) → P x → (number_in (packed x) ≡ 0) × (unpacked (packed x) ≡ x))
+    → (a : Result X Refusal)
+    → AnswerFits P a
+    → unpacked_answer unpacked (packed_answer packed a) ≡ a
+any_back packed unpacked P back (Ok x) h =
+    let b = back x h in
+    answer_back (Ok (unpacked (packed x))) (Err (refusal_in (packed x))) (packed x) b.0 ∙ ap Ok b.1
+any_back packed unpacked P back (Err x) h =
+    let answer = packed_refusal (refusal_number x) (refusal_place x) in
+    refusal_back (Ok (unpacked answer)) Err x h
+
+-- The same with 19 where a buffer is too short.
+short_fits : {X : Type 0} (P : X → Type 0) (t : Bool) (a : Result X Refusal)
+    → AnswerFits P a
+    → AnswerFits P (cond t (Err (Run 19 0)) a)
+short_fits P true a h = (omega arith, omega arith, omega arith)
+short_fits P false a h = h
+
 -- The refusals of the operations on programs fit.
 fits : (x : Refusal) → OfRun x → refusal_place x ≤ most_places → RefusalFits x
 fits (Form number place) h p = (h.0, h.1, omega arith)
 fits (Typing number place) h p = (h.0, h.1, omega arith)
 fits (Run number place) h p = (omega (arith, h.0), omega (arith, h.1), omega arith)
 
--- 19, place 0.
-nineteen_fits : RefusalFits (Run 19 0)
-nineteen_fits = (omega arith, omega arith, omega arith)
-
 -- READ
 
-abbrev pub ReadFits : ReadAnswer → Type 0
-ReadFits (IsRead labels types terms) = (labels < 128) × (types < 1024) × (terms < 4096)
-ReadFits (NotRead x) = RefusalFits x
+abbrev pub SizesFit : Sizes → Type 0
+SizesFit s = (s.labels < 128) × (s.types < 1024) × (s.terms < 4096)
 
-sizes_back : (labels types terms : ℕ)
-    → ReadFits (IsRead labels types terms)
-    → (let answer = packed_sizes labels types terms in
-    (number_in answer ≡ 0) × (labels_in answer ≡ labels) × (types_in answer ≡ types) × (terms_in answer ≡ terms))
+sizes_back : (s : Sizes)
+    → SizesFit s
+    → (let answer = packed_sizes s.labels s.types s.terms in
+    (number_in answer ≡ 0) × (labels_in answer ≡ s.labels) × (types_in answer ≡ s.types) × (terms_in answer ≡ s.terms))
 unfolding packed_sizes
-sizes_back labels types terms h = (omega arith, omega arith, omega arith, omega arith)
+sizes_back s h = (omega arith, omega arith, omega arith, omega arith)
 
-pub read_back : (a : ReadAnswer) → ReadFits a → unpacked_read (packed_read a) ≡ a
+sizes_same : (s : Sizes) (l t m : ℕ)
+    → l ≡ s.labels
+    → t ≡ s.types
+    → m ≡ s.terms
+    → ◌≡◌ {A = Sizes} (record { labels = l; types = t; terms = m }) s
+sizes_same s l t m e e' e'' =
+    ap (λ x. record { labels = x; types = t; terms = m }) e
+    ∙ ap (λ x. record { labels = s.labels; types = x; terms = m }) e'
+    ∙ ap (λ x. record { labels = s.labels; types = s.types; terms = x }) e''
+
+abbrev pub ReadFits : Result Sizes Refusal → Type 0
+ReadFits = AnswerFits SizesFit
+
+pub read_back : (a : Result Sizes Refusal) → ReadFits a → unpacked_read (packed_read a) ≡ a
 unfolding unpacked_read
-read_back (IsRead labels types terms) h =
-    let answer = packed_sizes labels types terms in
-    let s = sizes_back labels types terms h in
-    answer_back (IsRead (labels_in answer) (types_in answer) (terms_in answer)) (NotRead (refusal_in answer)) answer s.0
-    ∙ (let l = s.1 in let t = s.2 in let m = s.3 in cc)
-read_back (NotRead x) h =
-    let answer = packed_refusal (refusal_number x) (refusal_place x) in
-    refusal_back (IsRead (labels_in answer) (types_in answer) (terms_in answer)) NotRead x h
+read_back =
+    any_back (λ s. packed_sizes s.labels s.types s.terms)
+    (λ x. record { labels = labels_in x; types = types_in x; terms = terms_in x }) SizesFit
+    (λ s h. let b = sizes_back s h in (b.0, sizes_same s _ _ _ b.1 b.2 b.3))
 
 -- Every answer of a reading comes back.
 pub unpacked_read_lem : (f : List ℕ) → unpacked_read (packed_read (read_of f)) ≡ read_of f
 unpacked_read_lem f = read_back (read_of f) (of (read_of f) (read_bounds f))
   where
-    of : (a : ReadAnswer) → ReadBounds a → ReadFits a
-    of (IsRead labels types terms) b = (omega (arith, b.0), omega (arith, b.1), omega (arith, b.2))
-    of (NotRead x) b = fits x (of_check x (of_read x b.0)) b.1
+    of : (a : Result Sizes Refusal) → ReadBounds a → ReadFits a
+    of (Ok s) b = (omega (arith, b.0), omega (arith, b.1), omega (arith, b.2))
+    of (Err x) b = fits x (of_check x (of_read x b.0)) b.1
 
 -- CHECK
 
-abbrev pub CheckFits : CheckAnswer → Type 0
-CheckFits (IsChecked length) = length < 65536
-CheckFits (NotChecked x) = RefusalFits x
+abbrev pub LengthFits : ℕ → Type 0
+LengthFits length = length < 65536
 
 length_back : (length : ℕ)
-    → length < 65536
+    → LengthFits length
     → (let answer = packed_length length in (number_in answer ≡ 0) × (written_in answer ≡ length))
 unfolding packed_length
 length_back length h = (omega arith, omega arith)
 
-pub check_back : (a : CheckAnswer) → CheckFits a → unpacked_check (packed_check a) ≡ a
+abbrev pub CheckFits : Result ℕ Refusal → Type 0
+CheckFits = AnswerFits LengthFits
+
+pub check_back : (a : Result ℕ Refusal) → CheckFits a → unpacked_check (packed_check a) ≡ a
 unfolding unpacked_check
-check_back (IsChecked length) h =
-    let answer = packed_length length in
-    let s = length_back length h in
-    answer_back (IsChecked (written_in answer)) (NotChecked (refusal_in answer)) answer s.0 ∙ ap IsChecked s.1
-check_back (NotChecked x) h =
-    let answer = packed_refusal (refusal_number x) (refusal_place x) in
-    refusal_back (IsChecked (written_in answer)) NotChecked x h
+check_back = any_back packed_length written_in LengthFits length_back
 
 -- The answer of a check whose buffers are long enough.
 check_fits : (f : List ℕ) → CheckFits (check_answer_to (check_of f))
@@ -181,36 +199,40 @@ pub unpacked_check_lem : (f : List ℕ) (buffers : List (List ℕ))
     → unpacked_check (packed_check (check_answer f buffers)) ≡ check_answer f buffers
 unfolding check_answer
 unpacked_check_lem f buffers =
-    check_back (check_answer f buffers) (of (too_short check_lengths buffers) (check_answer_to (check_of f)) (check_fits f))
-  where
-    of : (b : Bool) (a : CheckAnswer) → CheckFits a → CheckFits (cond b (NotChecked (Run 19 0)) a)
-    of true a h = nineteen_fits
-    of false a h = h
+    check_back (check_answer f buffers)
+    (short_fits LengthFits (too_short check_lengths buffers) (check_answer_to (check_of f)) (check_fits f))
 
 -- RUN
 
-abbrev pub RunFits : RunAnswer → Type 0
-RunFits (Finished steps gates length) = (steps < 4294967296) × (gates < 4096) × (length < 16384)
-RunFits (Refused x) = RefusalFits x
+abbrev pub FinishedFits : Finished → Type 0
+FinishedFits a = (a.steps < 4294967296) × (a.gates < 4096) × (a.length < 16384)
 
-ran_back : (steps gates length : ℕ)
-    → RunFits (Finished steps gates length)
-    → (let answer = packed_ran steps gates length in
-    (number_in answer ≡ 0) × (steps_in answer ≡ steps) × (gates_in answer ≡ gates) × (length_in answer ≡ length))
+ran_back : (a : Finished)
+    → FinishedFits a
+    → (let answer = packed_ran a.steps a.gates a.length in
+    (number_in answer ≡ 0) × (steps_in answer ≡ a.steps) × (gates_in answer ≡ a.gates) × (length_in answer ≡ a.length))
 unfolding packed_ran
-ran_back steps gates length h = (omega arith, omega arith, omega arith, omega arith)
+ran_back a h = (omega arith, omega arith, omega arith, omega arith)
 
-pub run_back : (a : RunAnswer) → RunFits a → unpacked_run (packed_run a) ≡ a
+finished_same : (a : Finished) (k g l : ℕ)
+    → k ≡ a.steps
+    → g ≡ a.gates
+    → l ≡ a.length
+    → ◌≡◌ {A = Finished} (record { steps = k; gates = g; length = l }) a
+finished_same a k g l e e' e'' =
+    ap (λ x. record { steps = x; gates = g; length = l }) e
+    ∙ ap (λ x. record { steps = a.steps; gates = x; length = l }) e'
+    ∙ ap (λ x. record { steps = a.steps; gates = a.gates; length = x }) e''
+
+abbrev pub RunFits : Result Finished Refusal → Type 0
+RunFits = AnswerFits FinishedFits
+
+pub run_back : (a : Result Finished Refusal) → RunFits a → unpacked_run (packed_run a) ≡ a
 unfolding unpacked_run
-run_back (Finished steps gates length) h =
-    let answer = packed_ran steps gates length in
-    let s = ran_back steps gates length h in
-    answer_back (Finished (steps_in answer) (gates_in answer) (length_in answer)) (Refused (refusal_in answer)) answer
-    s.0
-    ∙ (let k = s.1 in let g = s.2 in let l = s.3 in cc)
-run_back (Refused x) h =
-    let answer = packed_refusal (refusal_number x) (refusal_place x) in
-    refusal_back (Finished (steps_in answer) (gates_in answer) (length_in answer)) Refused x h
+run_back =
+    any_back (λ a. packed_ran a.steps a.gates a.length)
+    (λ x. record { steps = steps_in x; gates = gates_in x; length = length_in x }) FinishedFits
+    (λ a k. let b = ran_back a k in (b.0, finished_same a _ _ _ b.1 b.2 b.3))
 
 -- The answer of a run whose buffers are long enough. 01: "The step limit is a 32-bit number."
 run_fits : (f : List ℕ) (limit : ℕ) → limit < 4294967296 → RunFits (answer_to (run_of f limit))
@@ -226,36 +248,40 @@ pub unpacked_run_lem : (f : List ℕ) (limit : ℕ) (buffers : List (List ℕ))
     → unpacked_run (packed_run (run_answer f limit buffers)) ≡ run_answer f limit buffers
 unfolding run_answer
 unpacked_run_lem f limit buffers h =
-    run_back (run_answer f limit buffers) (of (too_short run_lengths buffers) (answer_to (run_of f limit)) (run_fits f limit h))
-  where
-    of : (b : Bool) (a : RunAnswer) → RunFits a → RunFits (cond b (Refused (Run 19 0)) a)
-    of true a k = nineteen_fits
-    of false a k = k
+    run_back (run_answer f limit buffers)
+    (short_fits FinishedFits (too_short run_lengths buffers) (answer_to (run_of f limit)) (run_fits f limit h))
 
 -- THE CHECK OF A LISTING
 
-abbrev pub ListingFits : ListingAnswer → Type 0
-ListingFits (IsListed inputs gates outputs) = (inputs < 128) × (gates < 4096) × (outputs < 512)
-ListingFits (NotListed x) = RefusalFits x
+abbrev pub CountsFit : ListingSizes → Type 0
+CountsFit n = (n.inputs < 128) × (n.gates < 4096) × (n.outputs < 512)
 
-counts_back : (inputs gates outputs : ℕ)
-    → ListingFits (IsListed inputs gates outputs)
-    → (let answer = packed_counts inputs gates outputs in
-    (number_in answer ≡ 0) × (inputs_in answer ≡ inputs) × (listed_gates_in answer ≡ gates) × (outputs_in answer ≡ outputs))
+counts_back : (n : ListingSizes)
+    → CountsFit n
+    → (let answer = packed_counts n.inputs n.gates n.outputs in
+    (number_in answer ≡ 0) × (inputs_in answer ≡ n.inputs) × (listed_gates_in answer ≡ n.gates) × (outputs_in answer ≡ n.outputs))
 unfolding packed_counts
-counts_back inputs gates outputs h = (omega arith, omega arith, omega arith, omega arith)
+counts_back n h = (omega arith, omega arith, omega arith, omega arith)
 
-pub listing_back : (a : ListingAnswer) → ListingFits a → unpacked_listing (packed_listing a) ≡ a
+counts_same : (n : ListingSizes) (i g o : ℕ)
+    → i ≡ n.inputs
+    → g ≡ n.gates
+    → o ≡ n.outputs
+    → ◌≡◌ {A = ListingSizes} (record { inputs = i; gates = g; outputs = o }) n
+counts_same n i g o e e' e'' =
+    ap (λ x. record { inputs = x; gates = g; outputs = o }) e
+    ∙ ap (λ x. record { inputs = n.inputs; gates = x; outputs = o }) e'
+    ∙ ap (λ x. record { inputs = n.inputs; gates = n.gates; outputs = x }) e''
+
+abbrev pub ListingFits : Result ListingSizes Refusal → Type 0
+ListingFits = AnswerFits CountsFit
+
+pub listing_back : (a : Result ListingSizes Refusal) → ListingFits a → unpacked_listing (packed_listing a) ≡ a
 unfolding unpacked_listing
-listing_back (IsListed inputs gates outputs) h =
-    let answer = packed_counts inputs gates outputs in
-    let s = counts_back inputs gates outputs h in
-    answer_back (IsListed (inputs_in answer) (listed_gates_in answer) (outputs_in answer)) (NotListed (refusal_in answer))
-    answer s.0
-    ∙ (let i = s.1 in let g = s.2 in let o = s.3 in cc)
-listing_back (NotListed x) h =
-    let answer = packed_refusal (refusal_number x) (refusal_place x) in
-    refusal_back (IsListed (inputs_in answer) (listed_gates_in answer) (outputs_in answer)) NotListed x h
+listing_back =
+    any_back (λ n. packed_counts n.inputs n.gates n.outputs)
+    (λ x. record { inputs = inputs_in x; gates = listed_gates_in x; outputs = outputs_in x }) CountsFit
+    (λ n h. let k = counts_back n h in (k.0, counts_same n _ _ _ k.1 k.2 k.3))
 
 -- The refusals of operations on listings.
 listed_refusal : (x : Refusal) (last : ℕ) → last < 64 → OfListing last x → refusal_place x < most_listed → RefusalFits x
@@ -267,9 +293,9 @@ listed_refusal (Run number place) last l h p = (omega (arith, h.0), omega (arith
 listing_fits : (b : List ℕ) → ListingFits (listing_check_of b)
 listing_fits b = of (listing_check_of b) (listing_bounds b)
   where
-    of : (a : ListingAnswer) → ListingBounds 26 a → ListingFits a
-    of (IsListed inputs gates outputs) h = (omega (arith, h.0), omega (arith, h.1), omega (arith, h.2))
-    of (NotListed x) h = listed_refusal x 26 (omega arith) h.0 h.1
+    of : (a : Result ListingSizes Refusal) → ListingBounds 26 a → ListingFits a
+    of (Ok n) h = (omega (arith, h.0), omega (arith, h.1), omega (arith, h.2))
+    of (Err x) h = listed_refusal x 26 (omega arith) h.0 h.1
 
 -- Every answer of a check of a listing comes back, 19 too.
 pub unpacked_listing_lem : (b : List ℕ) (buffers : List (List ℕ))
@@ -277,32 +303,16 @@ pub unpacked_listing_lem : (b : List ℕ) (buffers : List (List ℕ))
 unfolding listing_check_answer
 unpacked_listing_lem b buffers =
     listing_back (listing_check_answer b buffers)
-    (of (too_short listing_lengths buffers) (listing_check_of b) (listing_fits b))
-  where
-    of : (t : Bool) (a : ListingAnswer) → ListingFits a → ListingFits (cond t (NotListed (Run 19 0)) a)
-    of true a h = nineteen_fits
-    of false a h = h
+    (short_fits CountsFit (too_short listing_lengths buffers) (listing_check_of b) (listing_fits b))
 
 -- EXPORT AND IMPORT
 
-abbrev pub ConversionFits : Conversion → Type 0
-ConversionFits (Written length) = length < 65536
-ConversionFits (NotConverted x) = RefusalFits x
+abbrev pub ConversionFits : Result ℕ Refusal → Type 0
+ConversionFits = AnswerFits LengthFits
 
-pub conversion_back : (a : Conversion) → ConversionFits a → unpacked_conversion (packed_conversion a) ≡ a
+pub conversion_back : (a : Result ℕ Refusal) → ConversionFits a → unpacked_conversion (packed_conversion a) ≡ a
 unfolding unpacked_conversion
-conversion_back (Written length) h =
-    let answer = packed_length length in
-    let s = length_back length h in
-    answer_back (Written (written_in answer)) (NotConverted (refusal_in answer)) answer s.0 ∙ ap Written s.1
-conversion_back (NotConverted x) h =
-    let answer = packed_refusal (refusal_number x) (refusal_place x) in
-    refusal_back (Written (written_in answer)) NotConverted x h
-
--- The same with 19.
-short_fits : (t : Bool) (a : Conversion) → ConversionFits a → ConversionFits (cond t (NotConverted (Run 19 0)) a)
-short_fits true a h = nineteen_fits
-short_fits false a h = h
+conversion_back = any_back packed_length written_in LengthFits length_back
 
 -- Every answer of an export comes back.
 pub unpacked_export : (b : List ℕ) (buffers : List (List ℕ))
@@ -310,11 +320,11 @@ pub unpacked_export : (b : List ℕ) (buffers : List (List ℕ))
 unfolding export_answer
 unpacked_export b buffers =
     conversion_back (export_answer b buffers)
-    (short_fits (too_short export_lengths buffers) (exported_as b (export_check_of b)) (of (export_check_of b) refl (export_bounds b)))
+    (short_fits LengthFits (too_short export_lengths buffers) (exported_as b (export_check_of b)) (of (export_check_of b) refl (export_bounds b)))
   where
-    of : (a : ListingAnswer) → export_check_of b ≡ a → ListingBounds 28 a → ConversionFits (exported_as b a)
-    of (IsListed inputs gates outputs) e h = omega (arith, accepted_fits b e)
-    of (NotListed x) e h = listed_refusal x 28 (omega arith) h.0 h.1
+    of : (a : Result ListingSizes Refusal) → export_check_of b ≡ a → ListingBounds 28 a → ConversionFits (exported_as b a)
+    of (Ok n) e h = omega (arith, accepted_fits b e)
+    of (Err x) e h = listed_refusal x 28 (omega arith) h.0 h.1
 
 -- Every answer of an import comes back.
 pub unpacked_import : (text : List ℕ) (buffers : List (List ℕ))
@@ -322,7 +332,7 @@ pub unpacked_import : (text : List ℕ) (buffers : List (List ℕ))
 unfolding import_answer
 unpacked_import text buffers =
     conversion_back (import_answer text buffers)
-    (short_fits (too_short import_lengths buffers) (imported_as (import_of text)) (of (import_of text) refl))
+    (short_fits LengthFits (too_short import_lengths buffers) (imported_as (import_of text)) (of (import_of text) refl))
   where
     of : (o : Option (List ℕ)) → import_of text ≡ o → ConversionFits (imported_as o)
     of none e = (omega arith, omega arith, omega arith)

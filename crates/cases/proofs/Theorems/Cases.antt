@@ -1,5 +1,5 @@
 -- Every case of the table holds, by computation from the bytes of its file; so all answers to it are known.
-use Rattle.std.specs.Prelude.{ℕ, ◌≡◌, refl, false, length, drop}
+use Rattle.std.specs.Prelude.{ℕ, ◌≡◌, refl, false, length, drop, Ok, Err}
 use Rattle.std.proofs.Common.{sym, ◌∙◌}
 use Rattle.std.proofs.Math.Path.{ap, ap₂}
 use Rattle.std.proofs.Math.Bool.{cond}
@@ -9,7 +9,6 @@ use Rattle.rules.proofs.Laws.TypeCodes.{type_codes_entries}
 use Rattle.lent.specs.Lent.{any_below, too_short, zeroed, answered, bytes_left}
 use Rattle.refusals.specs.declared.Refusal.TheVariants.{Run}
 use Rattle.program.specs.Encoding.{program_kinds, program_arguments, encode}
-use Rattle.check_program.specs.declared.CheckAnswer.TheVariants.{Accepted, Refused}
 use Rattle.check_program.specs.Answers.{Judged, accepts, refuses, check_of, check_answer, check_bytes, answer_to as judged_answer_is}
 use Rattle.check_program.specs.Answers.{out_to as judged_out}
 use Rattle.check_program.specs.Lengths.{check_lengths}
@@ -17,7 +16,6 @@ use Rattle.check_program.proofs.Laws.Opened.{opened as check_opened}
 use Rattle.listing.specs.Listing.{listing_bytes}
 use Rattle.boxing.specs.Spots.{whole, in_abstraction, in_application_right, in_lift}
 use Rattle.run_boxing.specs.Files.{OneBoxLessFile}
-use Rattle.run_answers.specs.declared.RunAnswer.TheVariants.{Refused as RunRefused}
 use Rattle.run_answers.specs.Lengths.{run_lengths}
 use Rattle.run_answers.specs.Answers.{Ran, run_of, answer_to, out_to, run_answer, run_bytes}
 use Rattle.cases.specs.Case.{CheckResult, LimitedRun, limit◌gives◌, Case, checked_as, ran_with, computed, AllHold}
@@ -121,7 +119,7 @@ one_box_less_file =
 
 -- The answer to a judgement, by what the table has of it.
 same_answer : (j : Judged) → judged_answer_is j ≡ check_answer_to (checked_as j)
-same_answer (accepts A) = ap Accepted (sym (type_codes_entries A))
+same_answer (accepts A) = ap Ok (sym (type_codes_entries A))
 same_answer (refuses r) = refl
 
 same_out : (out : List ℕ) (j : Judged) → judged_out out j ≡ check_out_to out (checked_as j)
@@ -138,7 +136,7 @@ module _ (check_buffers run_buffers : List (List ℕ))
         × (run_bytes f n run_buffers ≡ answered (λ out. out_to out r) run_buffers)
     unfolding run_answer bytes_left
     run_answers_lem f n r e = (
-      ap₂ (λ short x. cond short (RunRefused (Run 19 0)) (answer_to x)) run_long e,
+      ap₂ (λ short x. cond short (Err (Run 19 0)) (answer_to x)) run_long e,
       ap₂ (λ short x. cond short run_buffers (answered (λ out. out_to out x) run_buffers)) run_long e,
     )
 
@@ -154,7 +152,7 @@ module _ (check_buffers run_buffers : List (List ℕ))
         × (check_bytes f check_buffers ≡ answered (λ out. check_out_to out g) check_buffers)
     unfolding check_answer bytes_left
     check_answers f g e = (
-      ap₂ (λ short x. cond short (Refused (Run 19 0)) x) check_long (same_answer (check_of f) ∙ ap check_answer_to e),
+      ap₂ (λ short x. cond short (Err (Run 19 0)) x) check_long (same_answer (check_of f) ∙ ap check_answer_to e),
       ap₂ (λ short x. cond short check_buffers x) check_long
           (same_buffers (check_of f) check_buffers ∙ ap (λ g. answered (λ out. check_out_to out g) check_buffers) e),
     )

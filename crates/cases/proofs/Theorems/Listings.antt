@@ -1,6 +1,6 @@
 -- Every case of the table of listings holds, by computation from the bytes; so a check of any of them answers this, whatever its
 -- working memory holds.
-use Rattle.std.specs.Prelude.{ℕ, ◌≤◌, ◌≡◌, refl, false, length}
+use Rattle.std.specs.Prelude.{ℕ, ◌≤◌, ◌≡◌, refl, false, length, Result, Err}
 use Rattle.std.proofs.Common.{sym, ap}
 use Rattle.std.proofs.Math.Path.{ap₂}
 use Rattle.std.proofs.Math.Bool.{cond}
@@ -9,11 +9,11 @@ use Rattle.rules.specs.Gates.{is_gate, wires_in}
 use Rattle.lent.specs.Lent.{too_short, zeroed}
 use Rattle.lent.proofs.Laws.Lent.{below_later, long_memory}
 use Rattle.words.specs.Numbers.{word_at}
+use Rattle.refusals.specs.declared.Refusal.{Refusal}
 use Rattle.refusals.specs.declared.Refusal.TheVariants.{Run}
 use Rattle.listing.specs.Reading.{kind_at}
 use Rattle.wire_table.specs.Wires.{broken_at}
-use Rattle.listing_check.specs.declared.ListingAnswer.{ListingAnswer}
-use Rattle.listing_check.specs.declared.ListingAnswer.TheVariants.{Refused}
+use Rattle.listing_check.specs.declared.ListingSizes.{ListingSizes}
 use Rattle.listing_check.specs.Answers.{listing_check_of, most_wires, listing_lengths, listing_check_answer, listing_check_bytes}
 use Rattle.cases.specs.Listings.{ListingCase, judged, ListingsHold, ListingsAnswer, accepted_listings, wrong_sizes}
 use Rattle.cases.proofs.Laws.Tables.{both_hold}
@@ -21,7 +21,7 @@ use Rattle.cases.specs.Listings.{most_sizes, wrong_entries, wrong_gates, wrong_e
 use Rattle.cases.specs.Listings.{three_wires, listing_cases}
 
 -- `listing_check_of` with every definition of the check open: a line `unfolding opened` below opens them all.
-opened : List ℕ → ListingAnswer
+opened : List ℕ → Result ListingSizes Refusal
 unfolding listing_check_of broken_at word_at kind_at is_gate wires_in flat_map
 opened b = listing_check_of b
 
@@ -98,7 +98,7 @@ module _ (work : List ℕ) (room : most_wires ≤ length work) where
   -- One case after the other.
   answers : (c : ListingCase) → judged c ≡ c → listing_check_answer c.bytes (work ∷ []) ≡ c.answer
   unfolding listing_check_answer
-  answers c h = ap₂ (λ short a. cond short (Refused (Run 19 0)) a) long (ap (λ d. d.answer) h)
+  answers c h = ap₂ (λ short a. cond short (Err (Run 19 0)) a) long (ap (λ d. d.answer) h)
 
   all_answer : (cs : List ListingCase) → ListingsHold cs → ListingsAnswer work cs
   all_answer [] h = tt

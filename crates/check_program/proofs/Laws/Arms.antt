@@ -1,5 +1,6 @@
 -- One law an arm of the inference: the answer of a node from what its parts and its rule answered.
-use Rattle.std.specs.Prelude.{ℕ, suc, ◌+◌, ◌≤◌, ◌<◌, ◌≡◌, List, ◌∷◌, length}
+use Rattle.std.specs.Prelude.{ℕ, suc, ◌+◌, ◌≤◌, ◌<◌, ◌≡◌, List, ◌∷◌, length, Option as RustOption, Ok, Err}
+use Rattle.std.specs.Option.{option_or}
 use Rattle.std.proofs.Common.{arith, sym, ◌∙◌, subst}
 use Rattle.std.proofs.Math.Path.{refl, ap}
 use Rattle.std.proofs.Math.Option.{Option, none, some}
@@ -12,11 +13,11 @@ use Rattle.program.specs.Format.{kind_at, argument_at}
 use Rattle.program.specs.Trees.{TypeAtPosition, TermAt, closed_under, labels_below}
 use Rattle.check_types.specs.Cells.{Denotes, Room}
 use Rattle.check_types.proofs.Laws.Cells.{denotes_kept}
-use Rattle.check_program.specs.declared.Inferred.{Inferred}
-use Rattle.check_program.specs.declared.Inferred.TheVariants.{Typed}
+use Rattle.check_program.specs.declared.Typed.{Typed}
 use Rattle.check_program.specs.Checking.{Binder, ◌under◌, Checked, typed, fault, check_term, used_wrongly, if_so}
 use Rattle.check_program.specs.Checking.{earlier, followed, ruled}
-use Rattle.check_program.specs.Layout.{binding_cell, binding_uses, type_cell, counted, coded, variable_binding}
+use Rattle.words.specs.Found.{option_of}
+use Rattle.check_program.specs.Layout.{binding_cell, binding_uses, type_cell, counted, variable_binding}
 use Rattle.check_program.specs.Layout.{most_binders, most_cells}
 use Rattle.rules.specs.Sizes.{most_labels}
 use Rattle.check_program.specs.Scope.{Environment, Kept, pushed}
@@ -28,13 +29,23 @@ use Rattle.check_program.specs.Heads.{misuse_at_abstraction, TwoParts, of_applic
 use Rattle.check_program.specs.Heads.{two_kind}
 use Rattle.check_program.proofs.Laws.Heads.{one, binders_in, lifts_in, Named, check_one, one_nodes, one_closed}
 use Rattle.check_program.proofs.Laws.Heads.{one_labels, one_gates, one_counted, one_binders, one_lifts}
-use Rattle.check_program.specs.Inferring.{Ready, Gets, Answered, sooner, concludes, entered, binders_inside}
+use Rattle.check_program.specs.Inferring.{Inferred, typed_as, Ready, Gets, Answered, concludes, entered, binders_inside}
 use Rattle.check_program.specs.Inferring.{lifts_inside, NamedCell, NewBinding, Ended, EndsOne}
 
--- The earlier of two places in numbers.
-pub coded_earlier : (p q : Option ℕ) → coded (earlier p q) ≡ sooner (coded p) (coded q)
-coded_earlier none q = refl
-coded_earlier (some p) q = refl
+-- The earlier of two places, as the code finds it.
+pub earlier_as : (p q : Option ℕ) → option_of (earlier p q) ≡ option_or (option_of p) (option_of q)
+earlier_as none q = refl
+earlier_as (some p) q = refl
+
+-- What a part's answer holds where it has a type.
+pub typed_is : {w w' : List ℕ} {cells : ℕ} {Γ : List Binder} {M : Term} {n : ℕ} {A : Ty} {u v : Option ℕ} {r : Inferred}
+    (t : Typed) → r ≡ Ok t → (g : Gets w w' cells Γ M n A u v r) → t ≡ typed_as g.cell n g.cells' (option_of u) (option_of v)
+typed_is t q g = cc (q, g.answer)
+
+-- The end of a node of one part, by the answer of the part: its 16 is handed on.
+abbrev pub EndsFirst : List ℕ → List ℕ → List ℕ → ℕ → ℕ → Inferred → Inferred → Type 0
+EndsFirst f w w' e binders (Ok part) r = EndsOne f w w' e binders part r
+EndsFirst f w w' e binders (Err x) r = r ≡ Err x
 
 -- The binders, the lifts and the memory with which the part of a node of one part is looked at.
 pub inside_binders : (h : OnePart) (k binders lifts : ℕ) (Γ : List Binder)
@@ -129,15 +140,15 @@ module _ {f w : List ℕ} {e binders lifts cells : ℕ} {L : List Wire} {Γ : Li
       }
 
 -- What a rule's answer makes of a node whose parts have left the memory w₂, of which all that was in w is kept.
-pub rule_ends : {w w₂ w₃ : List ℕ} {cells cells₂ : ℕ} {count : ℕ → ℕ} {e n U W : ℕ} {r : Inferred}
+pub rule_ends : {w w₂ w₃ : List ℕ} {cells cells₂ : ℕ} {count : ℕ → ℕ} {e n : ℕ} {U W : RustOption ℕ} {r : Inferred}
     (Γ : List Binder) (M : Term) (u v : Option ℕ) (o : Option Ty)
     → cells ≤ cells₂
     → cells₂ < most_cells
     → cells₂ + 1 ≤ cells + nodes M
     → Kept w w₂ cells (most_labels + length Γ) count
     → ((i : ℕ) → i < most_labels + length Γ → count i ≡ counted (length Γ) i M)
-    → U ≡ coded u
-    → W ≡ coded v
+    → U ≡ option_of u
+    → W ≡ option_of v
     → Ended w₂ w₃ cells₂ e n o U W r
     → Answered w w₃ cells Γ M n (ruled e o u v) r
 rule_ends {e = e} {n = n} {U = U} {W = W} Γ M u v none more few fits kept same p q ended =
@@ -152,8 +163,8 @@ rule_ends {w} {w₂} {w₃} {cells} {cells₂} {count} {e} {n} {U} {W} Γ M u v 
       answer =
           ended.answer
           ∙ ap (λ x. concludes x e n U W) gave.answer
-          ∙ ap (λ x. Typed gave.cell n gave.cells x W) p
-          ∙ ap (λ x. Typed gave.cell n gave.cells (coded u) x) q;
+          ∙ ap (λ x. Ok (typed_as gave.cell n gave.cells x W)) p
+          ∙ ap (λ x. Ok (typed_as gave.cell n gave.cells (option_of u) x)) q;
       at_least = omega arith;
       at_most = omega arith;
       denotes = gave.denotes;
@@ -280,18 +291,18 @@ module _ {f w : List ℕ} {e binders lifts cells : ℕ} {L : List Wire} {Γ : Li
         go (of_box T) t g' size closed = refl
 
     typed_part : (w₃ : List ℕ) (r : Inferred)
-        → EndsOne f w₂ w₃ e binders first r
+        → EndsFirst f w₂ w₃ e binders first r
         → Answered w w₃ cells Γ (one h M) n (ruled e (one_rule h A) (earlier (misuse_at_abstraction h (uses 0 M) e) u) v) r
     typed_part w₃ r ends =
         let few = part_cells in
         let ended =
-        subst (λ x. EndsOne f w₂ w₃ e binders x r) g.answer ends h A kind part_room named_cell bound_slot
+        subst (λ x. EndsFirst f w₂ w₃ e binders x r) g.answer ends h A kind part_room named_cell bound_slot
         g.denotes
         in
         rule_ends Γ (one h M) (earlier (misuse_at_abstraction h (uses 0 M) e) u) v (one_rule h A) few.0 few.1 few.2
         part_kept
         (λ i below. omega (arith, one_counted h M lifts i Γ))
-        (ap (λ x. sooner (coded x) (coded u)) own_uses ∙ sym (coded_earlier (misuse_at_abstraction h (uses 0 M) e) u))
+        (ap (λ x. option_or (option_of x) (option_of u)) own_uses ∙ sym (earlier_as (misuse_at_abstraction h (uses 0 M) e) u))
         refl
         ended
 
@@ -299,7 +310,7 @@ module _ {f w : List ℕ} {e binders lifts cells : ℕ} {L : List Wire} {Γ : Li
   pub one_answers : (w₂ w₃ : List ℕ) (first r : Inferred)
       → Answered (inside_memory h f w e binders lifts) w₂ cells (binders_in h lifts Γ) M n
       (check_term L (binders_in h lifts Γ) (lifts_in h lifts) (suc e) M) first
-      → EndsOne f w₂ w₃ e binders first r
+      → EndsFirst f w₂ w₃ e binders first r
       → Answered w w₃ cells Γ (one h M) n (check_term L Γ lifts e (one h M)) r
   one_answers w₂ w₃ first r answered ends =
       subst (λ c. Answered w w₃ cells Γ (one h M) n c r) (sym (check_one h L Γ lifts e M))
@@ -310,4 +321,4 @@ module _ {f w : List ℕ} {e binders lifts cells : ℕ} {L : List Wire} {Γ : Li
           → Answered w w₃ cells Γ (one h M) n
           (followed c λ A u v. ruled e (one_rule h A) (earlier (misuse_at_abstraction h (uses 0 M) e) u) v) r
       go (typed A u v) g = typed_part g w₃ r ends
-      go (fault p) q = subst (λ x. EndsOne f w₂ w₃ e binders x r) q ends
+      go (fault p) q = subst (λ x. EndsFirst f w₂ w₃ e binders x r) q ends

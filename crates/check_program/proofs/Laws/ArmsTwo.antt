@@ -1,5 +1,6 @@
 -- The arm of the inference for a node of two parts.
-use Rattle.std.specs.Prelude.{ℕ, suc, ◌+◌, ◌≤◌, ◌<◌, ◌≡◌, refl, Bool, true, false, List, ◌∷◌, T as Truth, length}
+use Rattle.std.specs.Prelude.{ℕ, suc, ◌+◌, ◌≤◌, ◌<◌, ◌≡◌, refl, Bool, true, false, List, ◌∷◌, T as Truth, length, Ok, Err}
+use Rattle.std.specs.Option.{option_or}
 use Rattle.std.proofs.Common.{arith, sym, ◌∙◌, ap, subst, eq-eqb, ne_eqb}
 use Rattle.std.proofs.Math.Option.{Option, none, some, some-ne-none}
 use Rattle.rules.specs.Types.{Wire, Ty}
@@ -11,10 +12,10 @@ use Rattle.program.specs.Trees.{TermAt, closed_under, labels_below}
 use Rattle.program.proofs.Laws.TreeTraversal.{term_end}
 use Rattle.check_types.specs.Cells.{Denotes, Room}
 use Rattle.check_types.proofs.Laws.Cells.{denotes_kept}
-use Rattle.check_program.specs.declared.Inferred.{Inferred}
-use Rattle.check_program.specs.declared.Inferred.TheVariants.{Typed}
+use Rattle.check_program.specs.declared.Typed.{Typed}
 use Rattle.check_program.specs.Checking.{Binder, ◌under◌, earlier, ruled}
-use Rattle.check_program.specs.Layout.{binding_cell, binding_uses, counted, coded, variable_binding, held, most_binders}
+use Rattle.words.specs.Found.{option_of}
+use Rattle.check_program.specs.Layout.{binding_cell, binding_uses, counted, variable_binding, held, most_binders}
 use Rattle.check_program.specs.Layout.{most_cells}
 use Rattle.rules.specs.Sizes.{most_labels}
 use Rattle.check_program.specs.Scope.{Binding, Environment, Kept, pushed}
@@ -25,9 +26,14 @@ use Rattle.check_program.specs.Heads.{TwoParts, of_application, of_pair, of_let,
 use Rattle.check_program.specs.Heads.{misuse_at_let, own_halves}
 use Rattle.check_program.proofs.Laws.Heads.{two, binders_behind, bound, halves, two_nodes, two_closed}
 use Rattle.check_program.proofs.Laws.Heads.{two_labels, two_gates, two_counted, behind_binders}
-use Rattle.check_program.specs.Inferring.{Ready, Gets, Answered, sooner, Halved, Untouched, Passed, HalfBindings}
+use Rattle.check_program.specs.Inferring.{Inferred, typed_as, Ready, Gets, Answered, Halved, Untouched, Passed, HalfBindings}
 use Rattle.check_program.specs.Inferring.{NewBindings, EndsTwo}
-use Rattle.check_program.proofs.Laws.Arms.{coded_earlier, rule_ends}
+use Rattle.check_program.proofs.Laws.Arms.{earlier_as, rule_ends, typed_is}
+
+-- The end of a node of two parts, of which the first has a type, by the answer of the second: its 16 is handed on.
+abbrev pub EndsSecond : List ℕ → List ℕ → List ℕ → ℕ → ℕ → Typed → Inferred → Inferred → Type 0
+EndsSecond f w w' e binders first (Ok second) r = EndsTwo f w w' e binders first second r
+EndsSecond f w w' e binders first (Err x) r = r ≡ Err x
 
 -- The variables that a node binds in its second part have not been used yet.
 abbrev pub Fresh : TwoParts → List ℕ → ℕ → Type 0
@@ -358,17 +364,18 @@ module _ {f w : List ℕ} {e binders lifts cells : ℕ} {L : List Wire} {Γ : Li
             let more_binders : length Δ ≡ length Γ + bound h = behind_binders h M N lifts Γ Δ A q in
             omega (arith, two_counted h M N (length Γ) i, ap (λ k. counted k i N) more_binders)
 
-        pub both_typed : (w₄ : List ℕ) (r : Inferred)
-            → EndsTwo f w₃ w₄ e binders first second r
+        pub both_typed : (w₄ : List ℕ) (r : Inferred) (t : Typed)
+            → first ≡ Ok t
+            → EndsSecond f w₃ w₄ e binders t second r
             → Answered w w₄ cells Γ (two h M N) n
             (ruled e (two_rule h A B) (earlier (misuse_at_let h A (uses 1 N) (uses 0 N) e) (earlier u u')) (earlier v v')) r
-        both_typed w₄ r ends =
+        both_typed w₄ r t types ends =
             let few = both_cells in
             let start = second_opened in
             let own = misuse_at_let h A (uses 1 N) (uses 0 N) e in
             let ended =
-            subst (λ x. EndsTwo f w₃ w₄ e binders (Typed g.cell m g.cells' (coded u) (coded v)) x r) g₂.answer
-            (subst (λ x. EndsTwo f w₃ w₄ e binders x second r) g.answer ends)
+            subst (λ x. EndsSecond f w₃ w₄ e binders (typed_as g.cell m g.cells' (option_of u) (option_of v)) x r) g₂.answer
+            (subst (λ x. EndsSecond f w₃ w₄ e binders x second r) (typed_is t types g) ends)
             h A B kind both_room
             (bindings_bound Γ binders lifts ready.binders_are start.environment g₂ h A q)
             first_denotes
@@ -378,10 +385,10 @@ module _ {f w : List ℕ} {e binders lifts cells : ℕ} {L : List Wire} {Γ : Li
             few.0 few.1 few.2
             both_kept
             counts_same
-            (ap (λ x. sooner (coded x) (sooner (coded u) (coded u')))
+            (ap (λ x. option_or (option_of x) (option_or (option_of u) (option_of u')))
             (uses_bound Γ binders lifts ready.binders_are start.environment g₂ e second_ready.closed
             second_ready.labels_are_below h A q start.fresh)
-            ∙ ap (λ x. sooner (coded own) x) (sym (coded_earlier u u'))
-            ∙ sym (coded_earlier own (earlier u u')))
-            (sym (coded_earlier v v'))
+            ∙ ap (λ x. option_or (option_of own) x) (sym (earlier_as u u'))
+            ∙ sym (earlier_as own (earlier u u')))
+            (sym (earlier_as v v'))
             ended

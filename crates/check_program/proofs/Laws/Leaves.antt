@@ -1,5 +1,6 @@
 -- The arm of the inference for nodes without parts.
-use Rattle.std.specs.Prelude.{ℕ, suc, ◌+◌, ◌*◌, ◌≤◌, ◌<◌, ◌≡◌, refl, Bool, true, false, List, T as Truth, eqb, length}
+use Rattle.std.specs.Prelude.{ℕ, suc, ◌+◌, ◌*◌, ◌≤◌, ◌<◌, ◌%◌, ◌≡◌, refl, Bool, true, false, List, T as Truth, eqb, length, set}
+use Rattle.std.specs.Prelude.{Option as RustOption, None, Ok}
 use Rattle.std.proofs.Common.{add-one, arith, sym, ◌∙◌, ap, subst, ltb→lt, length-set, get_or-set_same, get_or-set_other, eqb-true}
 use Rattle.std.proofs.Math.Option.{Option, none, some, map}
 use Rattle.std.proofs.lemmas.Bool.{eqb-false}
@@ -13,17 +14,40 @@ use Rattle.rules.specs.Inference.{gate_node_type}
 use Rattle.program.specs.Format.{kind_at, argument_at}
 use Rattle.check_types.proofs.Laws.Cells.{denotes_kept}
 use Rattle.check_types.specs.GateCells.{cell_of_unit, gate_cell}
-use Rattle.check_program.specs.declared.Inferred.{Inferred}
-use Rattle.check_program.specs.declared.Inferred.TheVariants.{Typed}
+use Rattle.check_program.specs.declared.Typed.{Typed}
 use Rattle.check_program.specs.Checking.{Binder, ◌under◌, check_term, crosses, if_so, ruled, variable_found, label_found}
-use Rattle.check_program.specs.Layout.{binding_cell, binding_uses, held, counted, coded, variable_binding, most_cells}
+use Rattle.check_types.specs.Cells.{Denotes}
+use Rattle.words.specs.Found.{option_of}
+use Rattle.check_program.specs.Layout.{binding_cell, binding_lifts, binding_uses, held, counted, variable_binding, most_cells}
 use Rattle.rules.specs.Sizes.{most_labels}
 use Rattle.rules.proofs.Laws.Wires.{nth_within}
 use Rattle.check_program.specs.Scope.{Binding, type_of, lifts_of, Kept}
 use Rattle.check_program.proofs.Laws.Scope.{kept_less, kept_refl, held_variable, held_label, held_below}
 use Rattle.check_program.proofs.Laws.Heads.{of_variable, of_label, of_gate, of_unit, Shaped, shaped_leaf, shaped_one, shaped_two}
 use Rattle.check_program.proofs.Laws.Heads.{shaped, no_parts, one_part, two_parts}
-use Rattle.check_program.specs.Inferring.{Ready, Gets, Answered, Possible, Meets, binding_at, used_once, SaysUsed}
+use Rattle.check_program.specs.Inferring.{typed_as, Ready, Gets, Answered, Possible, Meets, binding_at, used_once, SaysUsed}
+use Rattle.check_program.specs.Inferring.{SaysCrosses}
+
+-- A use of a binding.
+pub binding_used : (w w' : List ℕ) (i e lifts cells cell bound uses : ℕ) (crossing : RustOption ℕ)
+    → cell ≡ binding_cell w i
+    → bound ≡ binding_lifts w i
+    → uses ≡ binding_uses w i
+    → binding_uses w i < 65535
+    → w' ≡ set w (4 * (most_cells + i) + 2) ((uses + 1) % 65536)
+    → SaysCrosses w cell bound lifts e crossing
+    → SaysUsed w w' i e lifts cells (typed_as cell (e + 1) cells None crossing)
+binding_used w w' i e lifts cells cell bound uses crossing c b u fits is says n (A under l) slot =
+    let count : (uses + 1) % 65536 ≡ binding_uses w i + 1 = omega arith in
+    let lifted : bound ≡ l = b ∙ slot.lifts in
+    record {
+      words_are = is ∙ ap (λ x. set w (4 * (most_cells + i) + 2) x) count;
+      answer =
+          ap (λ x. typed_as x (e + 1) cells None crossing) c
+          ∙ ap (λ x. typed_as (binding_cell w i) (e + 1) cells None x)
+          (says n A (subst (λ j. Denotes w n j A) (sym c) slot.denotes)
+          ∙ ap (λ x. option_of (if_so (crosses A x lifts) e)) lifted);
+    }
 
 gate_there : (o : Option GateType) → Truth (is_some o) → (g : GateType) × (o ≡ some g)
 gate_there none t = absurd t
@@ -57,13 +81,13 @@ kept_used w s cells d fits c =
         ∙ omega arith)
 
 -- What is used from a binding has the binding's type.
-binding_answers : {f w w' : List ℕ} {e binders lifts cells : ℕ} {L : List Wire} {Γ : List Binder} {n : ℕ} {r : Inferred}
+binding_answers : {f w w' : List ℕ} {e binders lifts cells : ℕ} {L : List Wire} {Γ : List Binder} {n : ℕ} {r : Typed}
     (M : Term) (s : ℕ) (b : Binder)
     → held L Γ s ≡ some b
     → ((i : ℕ) → one_if (eqb i s) ≡ counted (length Γ) i M)
     → Ready f w e binders lifts cells L Γ M n
     → SaysUsed w w' s e lifts cells r
-    → Gets w w' cells Γ M (suc e) (type_of b) none (if_so (crosses (type_of b) (lifts_of b) lifts) e) r
+    → Gets w w' cells Γ M (suc e) (type_of b) none (if_so (crosses (type_of b) (lifts_of b) lifts) e) (Ok r)
 binding_answers {f} {w} {w'} {e} {binders} {lifts} {cells} {L} {Γ} {r = r} M s b q same ready says =
     let env = ready.environment in
     let slot : Binding w cells s b = env.slots s b q in
@@ -77,11 +101,11 @@ binding_answers {f} {w} {w'} {e} {binders} {lifts} {cells} {L} {Γ} {r = r} M s 
     kept_less cells (most_labels + length Γ) (λ i. counted (length Γ) i M) (omega arith) (omega arith) (λ i h. same i)
     (kept_used w s cells (most_labels + length Γ) (omega arith) (omega arith))
     in
-    subst (λ x. Gets w x cells Γ M (suc e) (type_of b) none place r) (sym used.words_are)
+    subst (λ x. Gets w x cells Γ M (suc e) (type_of b) none place (Ok r)) (sym used.words_are)
     (record {
       cell = binding_cell w s;
       cells' = cells;
-      answer = used.answer ∙ ap (λ x. Typed (binding_cell w s) x cells 0 (coded place)) (add-one e);
+      answer = ap Ok used.answer ∙ ap (λ x. Ok (typed_as (binding_cell w s) x cells None (option_of place))) (add-one e);
       at_least = omega arith;
       at_most = omega arith;
       denotes = denotes_kept kept.agree (omega arith) slot.denotes;
@@ -98,17 +122,17 @@ binding_of_label : (f : List ℕ) (e binders x : ℕ) → kind_at f e ≡ label_
 unfolding binding_at
 binding_of_label f e binders x k a = rw (k, a)
 
-module _ {f w w' : List ℕ} {e binders lifts cells : ℕ} {L : List Wire} {Γ : List Binder} {n : ℕ} {r : Inferred} (x : ℕ) where
+module _ {f w w' : List ℕ} {e binders lifts cells : ℕ} {L : List Wire} {Γ : List Binder} {n : ℕ} {r : Typed} (x : ℕ) where
   variable_answers : Ready f w e binders lifts cells L Γ (variable x) n
       → SaysUsed w w' (variable_binding (length Γ) x) e lifts cells r
-      → Answered w w' cells Γ (variable x) (suc e) (variable_found e lifts (nth Γ x)) r
+      → Answered w w' cells Γ (variable x) (suc e) (variable_found e lifts (nth Γ x)) (Ok r)
   variable_answers ready says = go found.0 found.1
     where
       found : (b : Binder) × (nth Γ x ≡ some b)
       found = nth_within Γ x (ltb→lt x (length Γ) ready.closed)
 
       go : (b : Binder) → nth Γ x ≡ some b
-          → Answered w w' cells Γ (variable x) (suc e) (variable_found e lifts (nth Γ x)) r
+          → Answered w w' cells Γ (variable x) (suc e) (variable_found e lifts (nth Γ x)) (Ok r)
       go (A under bound) q =
           rw q
           (binding_answers (variable x) (variable_binding (length Γ) x) (A under bound) (held_variable L Γ x (A under bound) q)
@@ -116,7 +140,7 @@ module _ {f w w' : List ℕ} {e binders lifts cells : ℕ} {L : List Wire} {Γ :
 
   label_answers : Ready f w e binders lifts cells L Γ (label x) n
       → SaysUsed w w' x e lifts cells r
-      → Answered w w' cells Γ (label x) (suc e) (label_found e lifts (nth L x)) r
+      → Answered w w' cells Γ (label x) (suc e) (label_found e lifts (nth L x)) (Ok r)
   label_answers ready says =
       rw found.1
       (binding_answers (label x) x (wire found.0 under 0)
@@ -130,7 +154,7 @@ module _ {f w w' : List ℕ} {e binders lifts cells : ℕ} {L : List Wire} {Γ :
 gate_answers : {f w : List ℕ} {e binders lifts cells : ℕ} {L : List Wire} {Γ : List Binder} {n : ℕ} (x : ℕ)
     → Ready f w e binders lifts cells L Γ (gate x) n
     → Answered w w cells Γ (gate x) (suc e) (ruled e (map gate_node_type (gate_type x)) none none)
-    (Typed (gate_cell x) (suc e) cells 0 0)
+    (Ok (typed_as (gate_cell x) (suc e) cells None None))
 gate_answers {f} {w} {e} {binders} {lifts} {cells} {L} {Γ} x ready = go found.0 found.1
   where
     found : (g : GateType) × (gate_type x ≡ some g)
@@ -138,7 +162,7 @@ gate_answers {f} {w} {e} {binders} {lifts} {cells} {L} {Γ} x ready = go found.0
 
     go : (g : GateType) → gate_type x ≡ some g
         → Answered w w cells Γ (gate x) (suc e) (ruled e (map gate_node_type (gate_type x)) none none)
-        (Typed (gate_cell x) (suc e) cells 0 0)
+        (Ok (typed_as (gate_cell x) (suc e) cells None None))
     go (T to U) q =
         rw q
         (record {
@@ -154,16 +178,16 @@ gate_answers {f} {w} {e} {binders} {lifts} {cells} {L} {Γ} x ready = go found.0
 -- A leaf answers what the check finds: a gate, unit's value, a variable or label.
 pub gate_meets : (f w : List ℕ) (e binders lifts cells : ℕ)
     → kind_at f e ≡ gate_term_kind
-    → Meets f w w e binders lifts cells (Typed (gate_cell (argument_at f e)) (e + 1) cells 0 0)
+    → Meets f w w e binders lifts cells (Ok (typed_as (gate_cell (argument_at f e)) (e + 1) cells None None))
 gate_meets f w e binders lifts cells kind L Γ M n ready = go (shaped ready.term_is_at) ready
   where
     go : {M' : Term} {n' : ℕ} → Shaped f e M' n' → Ready f w e binders lifts cells L Γ M' n'
-        → Answered w w cells Γ M' n' (check_term L Γ lifts e M') (Typed (gate_cell (argument_at f e)) (e + 1) cells 0 0)
+        → Answered w w cells Γ M' n' (check_term L Γ lifts e M') (Ok (typed_as (gate_cell (argument_at f e)) (e + 1) cells None None))
     go (shaped_leaf (of_gate x) k a) ready =
         subst
         (λ r. Answered w w cells Γ (gate x) (suc e) (check_term L Γ lifts e (gate x)) r)
-        (ap (λ y. Typed (gate_cell y) (suc e) cells 0 0) (sym a)
-        ∙ ap (λ y. Typed (gate_cell (argument_at f e)) y cells 0 0) (sym (add-one e)))
+        (ap (λ y. Ok (typed_as (gate_cell y) (suc e) cells None None)) (sym a)
+        ∙ ap (λ y. Ok (typed_as (gate_cell (argument_at f e)) y cells None None)) (sym (add-one e)))
         (gate_answers x ready)
     go (shaped_leaf (of_variable x) k a) ready = absurd (omega arith)
     go (shaped_leaf (of_label x) k a) ready = absurd (omega arith)
@@ -175,16 +199,16 @@ gate_meets f w e binders lifts cells kind L Γ M n ready = go (shaped ready.term
 
 pub unit_meets : (f w : List ℕ) (e binders lifts cells : ℕ)
     → kind_at f e ≡ unit_value_kind
-    → Meets f w w e binders lifts cells (Typed cell_of_unit (e + 1) cells 0 0)
+    → Meets f w w e binders lifts cells (Ok (typed_as cell_of_unit (e + 1) cells None None))
 unit_meets f w e binders lifts cells kind L Γ M n ready = go (shaped ready.term_is_at) ready
   where
     go : {M' : Term} {n' : ℕ} → Shaped f e M' n' → Ready f w e binders lifts cells L Γ M' n'
-        → Answered w w cells Γ M' n' (check_term L Γ lifts e M') (Typed cell_of_unit (e + 1) cells 0 0)
+        → Answered w w cells Γ M' n' (check_term L Γ lifts e M') (Ok (typed_as cell_of_unit (e + 1) cells None None))
     go (shaped_leaf of_unit k a) ready =
         record {
           cell = cell_of_unit;
           cells' = cells;
-          answer = ap (λ y. Typed cell_of_unit y cells 0 0) (add-one e);
+          answer = ap (λ y. Ok (typed_as cell_of_unit y cells None None)) (add-one e);
           at_least = omega arith;
           at_most = omega arith;
           denotes = ready.environment.loaded.gates.unit_type;
@@ -200,16 +224,16 @@ unit_meets f w e binders lifts cells kind L Γ M n ready = go (shaped ready.term
 
 module _ (f w : List ℕ) (e binders lifts cells : ℕ) (parts : parts_of_kind (kind_at f e) ≡ 0)
     (no_gate : kind_at f e ≡ gate_term_kind → ⊥) (no_unit : kind_at f e ≡ unit_value_kind → ⊥) where
-  pub binding_meets : (w' : List ℕ) (r : Inferred)
+  pub binding_meets : (w' : List ℕ) (r : Typed)
       → SaysUsed w w' (binding_at f e binders) e lifts cells r
-      → Meets f w w' e binders lifts cells r
+      → Meets f w w' e binders lifts cells (Ok r)
   binding_meets w' r says L Γ M n ready = go (shaped ready.term_is_at) ready
     where
       at_slot : (s : ℕ) → binding_at f e binders ≡ s → SaysUsed w w' s e lifts cells r
       at_slot s q = subst (λ i. SaysUsed w w' i e lifts cells r) q says
 
       go : {M' : Term} {n' : ℕ} → Shaped f e M' n' → Ready f w e binders lifts cells L Γ M' n'
-          → Answered w w' cells Γ M' n' (check_term L Γ lifts e M') r
+          → Answered w w' cells Γ M' n' (check_term L Γ lifts e M') (Ok r)
       go (shaped_leaf (of_gate x) k a) ready = absurd (no_gate k)
       go (shaped_leaf of_unit k a) ready = absurd (no_unit k)
       go (shaped_leaf (of_variable x) k a) ready =

@@ -1,5 +1,5 @@
 -- Laws of specs/ProgramTypes.antt.
-use Rattle.std.specs.Prelude.{ℕ, ◌+◌, ◌≤◌, ◌<◌, ◌≡◌, refl, true, false, List, [], ◌∷◌, ltb, length, drop, replicate, take}
+use Rattle.std.specs.Prelude.{ℕ, ◌+◌, ◌≤◌, ◌<◌, ◌≡◌, refl, true, false, List, [], ◌∷◌, ltb, length, drop, replicate, take, Result, Ok, Err}
 use Rattle.std.proofs.Common.{arith, ◌∙◌, ap₂, subst, lt-ltb, le-ltb}
 use Rattle.std.proofs.Math.Path.{sym, ap}
 use Rattle.std.proofs.Math.Bool.{cond}
@@ -15,38 +15,26 @@ use Rattle.program.specs.Trees.{AcceptedFile}
 use Rattle.program.proofs.Theorems.Accepting.{read_sound}
 use Rattle.refusals.specs.declared.Refusal.{Refusal}
 use Rattle.refusals.specs.declared.Refusal.TheVariants.{Run}
-use Rattle.program.specs.declared.ReadAnswer.{ReadAnswer}
-use Rattle.program.specs.declared.ReadAnswer.TheVariants.{Accepted as Read, Refused as NotRead}
+use Rattle.program.specs.declared.format.Sizes.{Sizes}
 use Rattle.check_types.specs.Cells.{Denotes}
 use Rattle.check_types.proofs.Laws.Cells.{cell_of}
 use Rattle.check_types.specs.Load.{load_codes, codes_of, TypesLoaded}
 use Rattle.check_types.specs.GateCells.{gate_cells, load_all_gates}
 use Rattle.check_types.proofs.Laws.GateCells.{gate_cells_lem}
 use Rattle.check_types.specs.Write.{SaysWrote}
-use Rattle.check_program.specs.declared.Inferred.{Inferred}
-use Rattle.check_program.specs.declared.ProgramType.{ProgramType}
-use Rattle.check_program.specs.declared.ProgramType.TheVariants.{Typed as Found, Refused as NotFound}
-use Rattle.check_program.specs.declared.CheckAnswer.{CheckAnswer}
-use Rattle.check_program.specs.declared.CheckAnswer.TheVariants.{Accepted, Refused}
 use Rattle.check_program.specs.Checking.{Verdict, has_type, refusal, verdict}
-use Rattle.check_program.specs.Inferring.{Ready, Possible, Meets}
+use Rattle.check_program.specs.Inferring.{Inferred, Ready, Possible, Meets}
 use Rattle.check_program.specs.Answers.{labels_of, term_of, Judged, accepts, refuses, judged, judged_as, check_of}
 use Rattle.check_program.specs.Answers.{answer_to, out_to, check_answer, check_bytes}
 use Rattle.check_program.specs.Lengths.{least_work, check_lengths, least_out}
 use Rattle.check_program.proofs.Laws.ReadBack.{labels_read, program_read}
 use Rattle.check_program.proofs.Laws.Loading.{section, section_length, program_ready, labels_fresh}
 use Rattle.check_program.specs.Loading.{bindings_loaded}
-use Rattle.check_program.specs.Deciding.{SaysVerdict, decided_as}
-use Rattle.check_program.proofs.Laws.Deciding.{verdict_said}
+use Rattle.check_program.specs.Deciding.{SaysVerdict}
+use Rattle.check_program.proofs.Laws.Deciding.{Decides, verdict_said}
 use Rattle.check_program.specs.Layout.{least_words}
 use Rattle.rules.specs.Sizes.{most_labels}
-use Rattle.check_program.specs.ProgramTypes.{Readable, SaysFile, SaysProgramType, refusal_of_read, refusal_of_type}
-
-pub refusal_of_read_is : (a : ReadAnswer) (x : Refusal) → a ≡ NotRead x → NotFound x ≡ refusal_of_read a
-refusal_of_read_is a x q = sym (ap refusal_of_read q)
-
-pub refusal_of_type_is : (a : ProgramType) (x : Refusal) → a ≡ NotFound x → Refused x ≡ refusal_of_type a
-refusal_of_type_is a x q = sym (ap refusal_of_type q)
+use Rattle.check_program.specs.ProgramTypes.{Readable, SaysFile, SaysProgramType}
 
 -- The steps of the check of a file, before the term is looked at.
 module _ (f : List ℕ) (labels types : ℕ) (work w₁ w₂ w₃ : List ℕ) (gates cells : ℕ)
@@ -93,10 +81,10 @@ module _ (f : List ℕ) (labels types : ℕ) (work w₁ w₂ w₃ : List ℕ) (g
       (sym (q ∙ ap₂ ◌+◌ readable.3 readable.4))
       (readable.0, [], readable.1, entry_count f, ready readable.2)
 
-  pub file_said : (w₄ : List ℕ) (e : ℕ) (found : Inferred) (r : ProgramType)
+  pub file_said : (w₄ : List ℕ) (e : ℕ) (found : Inferred) (r : Result ℕ Refusal)
       → e ≡ labels + types
       → Meets f (words w₃) w₄ e 0 0 cells found
-      → r ≡ decided_as w₄ labels found
+      → Decides w₄ labels found r
       → SaysFile f w₄ r
   file_said w₄ e found r q meets is L M file =
       let at : e ≡ first_term f = q ∙ ap₂ ◌+◌ readable.3 readable.4 in
@@ -108,12 +96,12 @@ module _ (f : List ℕ) (labels types : ℕ) (work w₁ w₂ w₃ : List ℕ) (g
       is
 
 -- The core of the check, by the answer of the reader.
-judgement_said : (f work work' : List ℕ) (v : Verdict) (r : ProgramType)
+judgement_said : (f work work' : List ℕ) (v : Verdict) (r : Result ℕ Refusal)
     → SaysVerdict (words work') v r → SaysProgramType false (judged v) work work' r
 judgement_said f work work' (has_type A) r s = s
 judgement_said f work work' (refusal n p) r s = s
 
-module _ (f work work' : List ℕ) (r : ProgramType) (answer : ReadAnswer) (is : answer ≡ read_of f)
+module _ (f work work' : List ℕ) (r : Result ℕ Refusal) (answer : Result Sizes Refusal) (is : answer ≡ read_of f)
     (long : least_work ≤ length work) where
   not_short : ltb (length work) least_work ≡ false
   not_short = le-ltb (length work) least_work long
@@ -124,49 +112,49 @@ module _ (f work work' : List ℕ) (r : ProgramType) (answer : ReadAnswer) (is :
       subst (λ t. SaysProgramType t (check_of f) work work' r) (sym not_short)
       (subst (λ x. SaysProgramType false x work work' r) (sym q) s)
 
-  judged_from : (a : ReadAnswer) → answer ≡ a → check_of f ≡ judged_as f a
+  judged_from : (a : Result Sizes Refusal) → answer ≡ a → check_of f ≡ judged_as f a
   unfolding check_of
   judged_from a q = ap (judged_as f) (sym is ∙ q)
 
-  pub program_type_refused : (x : Refusal) → answer ≡ NotRead x → r ≡ refusal_of_read answer
+  pub program_type_refused : (x : Refusal) → answer ≡ Err x → r ≡ Err x
       → SaysProgramType (ltb (length work) least_work) (check_of f) work work' r
-  program_type_refused x q h = at_judged (refuses x) (judged_from (NotRead x) q) (h ∙ ap refusal_of_read q)
+  program_type_refused x q h = at_judged (refuses x) (judged_from (Err x) q) h
 
-  pub program_type_said : (labels types terms : ℕ) → answer ≡ Read labels types terms → SaysFile f (words work') r
+  pub program_type_said : (sizes : Sizes) → answer ≡ Ok sizes → SaysFile f (words work') r
       → SaysProgramType (ltb (length work) least_work) (check_of f) work work' r
-  program_type_said labels types terms q says =
+  program_type_said sizes q says =
       at_judged (judged (verdict (labels_of f) (first_term f) (term_of f)))
-      (judged_from (Read labels types terms) q)
+      (judged_from (Ok sizes) q)
       (judgement_said f work work' (verdict (labels_of f) (first_term f) (term_of f)) r
       (subst (λ l. SaysVerdict (words work') (verdict l (first_term f) (term_of f)) r) (sym (labels_read trees.2))
       (subst (λ m. SaysVerdict (words work') (verdict trees.0 (first_term f) m) r) (sym (program_read trees.2))
       (says trees.0 trees.1 trees.2))))
     where
       trees : (L : List Wire) × (M : Term) × AcceptedFile f L M
-          × (labels ≡ label_count f) × (types ≡ type_count f) × (terms ≡ term_count f)
-      trees = read_sound f labels types terms (sym is ∙ q)
+          × (sizes.labels ≡ label_count f) × (sizes.types ≡ type_count f) × (sizes.terms ≡ term_count f)
+      trees = read_sound f sizes.labels sizes.types sizes.terms (sym is ∙ q)
 
 -- What is read of an accepted file.
-pub readable_of : (f : List ℕ) (labels types terms : ℕ) (answer : ReadAnswer)
-    → answer ≡ read_of f → answer ≡ Read labels types terms → Readable f labels types
-readable_of f labels types terms answer is q =
-    let trees = read_sound f labels types terms (sym is ∙ q) in
+pub readable_of : (f : List ℕ) (sizes : Sizes) (answer : Result Sizes Refusal)
+    → answer ≡ read_of f → answer ≡ Ok sizes → Readable f sizes.labels sizes.types
+readable_of f sizes answer is q =
+    let trees = read_sound f sizes.labels sizes.types sizes.terms (sym is ∙ q) in
     (trees.0, trees.1, trees.2, trees.3, trees.4)
 
 pub program_type_short : (f work : List ℕ) → length work < least_work
-    → SaysProgramType (ltb (length work) least_work) (check_of f) work work (NotFound (Run 19 0))
+    → SaysProgramType (ltb (length work) least_work) (check_of f) work work (Err (Run 19 0))
 program_type_short f work h =
-    subst (λ t. SaysProgramType t (check_of f) work work (NotFound (Run 19 0))) (sym (lt-ltb (length work) least_work h))
+    subst (λ t. SaysProgramType t (check_of f) work work (Err (Run 19 0))) (sym (lt-ltb (length work) least_work h))
     (record { answer = refl; untouched = refl })
 
 -- What the core answers says what the check of the file is.
-program_type_refuses : (j : Judged) (work work' : List ℕ) (core : ProgramType) (x : Refusal)
-    → SaysProgramType false j work work' core → core ≡ NotFound x → j ≡ refuses x
+program_type_refuses : (j : Judged) (work work' : List ℕ) (core : Result ℕ Refusal) (x : Refusal)
+    → SaysProgramType false j work work' core → core ≡ Err x → j ≡ refuses x
 program_type_refuses (accepts A) work work' core x s q = let z : ◌≡◌ {A = ℕ} 0 1 = cc (s.answer, q) in absurd (omega arith)
 program_type_refuses (refuses y) work work' core x s q = cc
 
-program_type_accepts : (j : Judged) (work work' : List ℕ) (core : ProgramType) (cell : ℕ)
-    → SaysProgramType false j work work' core → core ≡ Found cell
+program_type_accepts : (j : Judged) (work work' : List ℕ) (core : Result ℕ Refusal) (cell : ℕ)
+    → SaysProgramType false j work work' core → core ≡ Ok cell
     → (A : Ty) × (n : ℕ) × (j ≡ accepts A) × Denotes (words work') n cell A
 program_type_accepts (accepts A) work work' core cell s q =
     let same : s.cell ≡ cell = cc (s.answer, q) in
@@ -177,19 +165,19 @@ program_type_accepts (refuses y) work work' core cell s q = let z : ◌≡◌ {A
 module _ (f out work : List ℕ) where
   -- Both equations of the contract, where a buffer is too short.
   refuses_short : too_short check_lengths (out ∷ work ∷ []) ≡ true
-      → (Refused (Run 19 0) ≡ check_answer f (out ∷ work ∷ [])) × ((out ∷ work ∷ []) ≡ check_bytes f (out ∷ work ∷ []))
+      → (Err (Run 19 0) ≡ check_answer f (out ∷ work ∷ [])) × ((out ∷ work ∷ []) ≡ check_bytes f (out ∷ work ∷ []))
   unfolding check_answer
   refuses_short q = (
-    sym (ap (λ t. cond t (Refused (Run 19 0)) (answer_to (check_of f))) q),
+    sym (ap (λ t. cond t (Err (Run 19 0)) (answer_to (check_of f))) q),
     short_left check_lengths (λ out. out_to out (check_of f)) (out ∷ work ∷ []) q,
   )
 
   pub checks_short_out : length out < least_out
-      → (Refused (Run 19 0) ≡ check_answer f (out ∷ work ∷ [])) × ((out ∷ work ∷ []) ≡ check_bytes f (out ∷ work ∷ []))
+      → (Err (Run 19 0) ≡ check_answer f (out ∷ work ∷ [])) × ((out ∷ work ∷ []) ≡ check_bytes f (out ∷ work ∷ []))
   checks_short_out h = refuses_short (below_here least_out (length out) (least_work ∷ []) (length work ∷ []) h)
 
   pub checks_short_work : least_out ≤ length out → length work < least_work
-      → (Refused (Run 19 0) ≡ check_answer f (out ∷ work ∷ [])) × ((out ∷ work ∷ []) ≡ check_bytes f (out ∷ work ∷ []))
+      → (Err (Run 19 0) ≡ check_answer f (out ∷ work ∷ [])) × ((out ∷ work ∷ []) ≡ check_bytes f (out ∷ work ∷ []))
   checks_short_work h l =
       refuses_short
       (below_later least_out (length out) (least_work ∷ []) (length work ∷ []) h ∙ below_here least_work (length work) [] [] l)
@@ -199,47 +187,46 @@ module _ (f out work : List ℕ) where
     long_enough =
         below_later least_out (length out) (least_work ∷ []) (length work ∷ []) h ∙ below_later least_work (length work) [] [] l
 
-    checks_as : (j : Judged) (out' work' : List ℕ) (r : CheckAnswer)
+    checks_as : (j : Judged) (out' work' : List ℕ) (r : Result ℕ Refusal)
         → check_of f ≡ j → r ≡ answer_to j → out' ≡ out_to out j → work' ≡ zeroed work
         → (r ≡ check_answer f (out ∷ work ∷ [])) × ((out' ∷ work' ∷ []) ≡ check_bytes f (out ∷ work ∷ []))
     unfolding check_answer
     checks_as j out' work' r is a o m = (
-      a ∙ ap answer_to (sym is) ∙ sym (ap (λ t. cond t (Refused (Run 19 0)) (answer_to (check_of f))) long_enough),
+      a ∙ ap answer_to (sym is) ∙ sym (ap (λ t. cond t (Err (Run 19 0)) (answer_to (check_of f))) long_enough),
       long_left check_lengths (λ out. out_to out (check_of f)) (out ∷ work ∷ []) (out' ∷ work' ∷ []) long_enough
           (ap₂ (λ o w. o ∷ w ∷ []) (o ∙ ap (out_to out) (sym is)) m),
     )
 
-    module _ (work₁ : List ℕ) (core : ProgramType)
+    module _ (work₁ : List ℕ) (core : Result ℕ Refusal)
         (said : SaysProgramType (ltb (length work) least_work) (check_of f) work work₁ core) where
       said_long : SaysProgramType false (check_of f) work work₁ core
       said_long = subst (λ t. SaysProgramType t (check_of f) work work₁ core) (le-ltb (length work) least_work l) said
 
       -- A refusal.
-      pub checks_refused : (x : Refusal) (work' : List ℕ) (r : CheckAnswer)
-          → core ≡ NotFound x
+      pub checks_refused : (x : Refusal) (work' : List ℕ)
+          → core ≡ Err x
           → length work₁ ≡ length work
           → work' ≡ replicate (length work₁) 0
-          → r ≡ refusal_of_type core
-          → (r ≡ check_answer f (out ∷ work ∷ [])) × ((out ∷ work' ∷ []) ≡ check_bytes f (out ∷ work ∷ []))
-      checks_refused x work' r q same cleared is =
-          checks_as (refuses x) out work' r (program_type_refuses (check_of f) work work₁ core x said_long q)
-          (is ∙ ap refusal_of_type q)
+          → (core ≡ check_answer f (out ∷ work ∷ [])) × ((out ∷ work' ∷ []) ≡ check_bytes f (out ∷ work ∷ []))
+      checks_refused x work' q same cleared =
+          checks_as (refuses x) out work' core (program_type_refuses (check_of f) work work₁ core x said_long q)
+          q
           refl
           (cleared ∙ ap (λ n. replicate n 0) same)
 
       -- A type.
       pub checks_accepted : (cell length' : ℕ) (out' work' : List ℕ)
-          → core ≡ Found cell
+          → core ≡ Ok cell
           → SaysWrote (words work₁) cell out out' length'
           → length work₁ ≡ length work
           → work' ≡ replicate (length work₁) 0
-          → (Accepted length' ≡ check_answer f (out ∷ work ∷ [])) × ((out' ∷ work' ∷ []) ≡ check_bytes f (out ∷ work ∷ []))
+          → (Ok length' ≡ check_answer f (out ∷ work ∷ [])) × ((out' ∷ work' ∷ []) ≡ check_bytes f (out ∷ work ∷ []))
       checks_accepted cell length' out' work' q wrote same cleared =
           let found = program_type_accepts (check_of f) work work₁ core cell said_long q in
           let A = found.0 in
           let small = (cell_of found.3).bounded in
           let done = wrote found.1 A found.3 (omega arith) in
-          checks_as (accepts A) out' work' (Accepted length') found.2
-          (ap Accepted done.count)
+          checks_as (accepts A) out' work' (Ok length') found.2
+          (ap Ok done.count)
           done.codes
           (cleared ∙ ap (λ n. replicate n 0) same)

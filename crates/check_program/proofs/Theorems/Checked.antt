@@ -1,5 +1,5 @@
 -- The check of a file: demand 2 of it, and what it accepts is safe.
-use Rattle.std.specs.Prelude.{ℕ, zero, suc, ◌≤◌, ◌≡◌, refl, ◌↔◌, ◌⊎◌, List, [], length, T as Truth}
+use Rattle.std.specs.Prelude.{ℕ, zero, suc, ◌≤◌, ◌≡◌, refl, ◌↔◌, ◌⊎◌, List, [], length, T as Truth, Result, Ok, Err}
 use Rattle.std.proofs.Common.{arith, sym, ◌∙◌, ap, ap₂, subst, inl, inr}
 use Rattle.std.proofs.Math.Option.{Option, none, some}
 use Rattle.rules.specs.Types.{Wire, Ty}
@@ -11,8 +11,7 @@ use Rattle.rules.proofs.Theorems.Safety.{demand3}
 use Rattle.program.specs.Format.{label_count, first_term}
 use Rattle.program.specs.Reading.{read_of}
 use Rattle.program.proofs.Theorems.Accepting.{read_sound}
-use Rattle.program.specs.declared.ReadAnswer.{ReadAnswer}
-use Rattle.program.specs.declared.ReadAnswer.TheVariants.{Accepted as Read, Refused as NotRead}
+use Rattle.program.specs.declared.format.Sizes.{Sizes}
 use Rattle.refusals.specs.declared.Refusal.{Refusal}
 use Rattle.refusals.specs.declared.Refusal.TheVariants.{Typing}
 use Rattle.check_program.specs.Checking.{Checked, typed, fault, earlier, check_term, wrong_label, Verdict, has_type}
@@ -29,12 +28,12 @@ judged_type : (v : Verdict) (A : Ty) → judged v ≡ accepts A → v ≡ has_ty
 judged_type (has_type B) A h = let p : B ≡ A = cc in ap has_type p
 judged_type (refusal number place) A h = let z : ◌≡◌ {A = ℕ} 0 1 = cc in absurd (omega arith)
 
-accepted_parts : (f : List ℕ) (A : Ty) (r : ReadAnswer)
+accepted_parts : (f : List ℕ) (A : Ty) (r : Result Sizes Refusal)
     → read_of f ≡ r
     → judged_as f r ≡ accepts A
     → IsRead f × (verdict (labels_of f) (first_term f) (term_of f) ≡ has_type A)
-accepted_parts f A (Read L P N) k h = (record { L = L; P = P; N = N; read = k }, judged_type _ A h)
-accepted_parts f A (NotRead r) k h = let z : ◌≡◌ {A = ℕ} 0 1 = cc in absurd (omega arith)
+accepted_parts f A (Ok s) k h = (record { L = s.labels; P = s.types; N = s.terms; read = k }, judged_type _ A h)
+accepted_parts f A (Err r) k h = let z : ◌≡◌ {A = ℕ} 0 1 = cc in absurd (omega arith)
 
 -- The check accepts a file with the type A exactly if the reader accepts it and the rules derive A for its term with exactly
 -- its labels.
@@ -134,7 +133,7 @@ no_other_refusal f r x h = go (verdict L e M) refl (sym (read_verdict f r) ∙ h
           ],
         )
 
-not_read_refused : (f : List ℕ) (x : Refusal) → read_of f ≡ NotRead x → check_of f ≡ refuses x
+not_read_refused : (f : List ℕ) (x : Refusal) → read_of f ≡ Err x → check_of f ≡ refuses x
 unfolding check_of
 not_read_refused f x h = ap (judged_as f) h
 

@@ -1,12 +1,12 @@
 -- Laws of the meaning of cells.
-use Rattle.std.specs.Prelude.{ℕ, ◌+◌, ◌*◌, ◌%◌, ◌≤◌, ◌≡◌, refl, ◌≢◌, ◌&&◌, cond, List, leb}
-use Rattle.std.proofs.Common.{arith, sym, ◌∙◌, ap, ap₂, subst, ne_eqb}
+use Rattle.std.specs.Prelude.{ℕ, ◌+◌, ◌*◌, ◌%◌, ◌≤◌, ◌≡◌, refl, ◌&&◌, List, leb}
+use Rattle.std.proofs.Common.{arith, sym, ◌∙◌, ap, ap₂, subst}
 use Rattle.rules.specs.Kinds.{pair_type_kind, reusable_kind}
 use Rattle.rules.specs.Types.{Wire, Ty, wire, unit, ◌⊗◌, ◌⊸◌, !◌, Circ, copyable, entries}
 use Rattle.rules.specs.Parts.{parts_of_kind}
 use Rattle.rules.proofs.Laws.Parts.{parts_of_type}
 use Rattle.rules.proofs.Laws.TypeCodes.{wire_kind, same_wire}
-use Rattle.check_types.specs.Cells.{copyable_mark, cell_kind, cell_first, cell_second, cell_copyable, copyable_from, Cell}
+use Rattle.check_types.specs.Cells.{copyable_mark, cell_kind, cell_first, cell_second, copyable_from, Cell}
 use Rattle.check_types.specs.Cells.{kind_of, Agree, Denotes, wire_cell, unit_cell, pair_cell}
 use Rattle.check_types.specs.Cells.{function_cell, reusable_cell, circuit_cell, Made, made_pair, made_function}
 use Rattle.check_types.specs.Cells.{made_circuit}
@@ -75,14 +75,6 @@ made_entries made_function = refl
 made_entries made_circuit = refl
 
 -- Whether it may be copied: by its kind if it is no pair, else by its parts.
-pub copyable_by_kind : (w : List ℕ) (kind a b : ℕ) → kind ≢ pair_type_kind → leb reusable_kind kind ≡ copyable_from w kind a b
-copyable_by_kind w kind a b f =
-    ap (λ t. cond t (cell_copyable w a && cell_copyable w b) (leb reusable_kind kind)) (sym (ne_eqb kind pair_type_kind f))
-
-pub copyable_by_halves : (w : List ℕ) (kind a b : ℕ) → kind ≡ pair_type_kind
-    → cell_copyable w a && cell_copyable w b ≡ copyable_from w kind a b
-copyable_by_halves w kind a b e = ap (λ k. copyable_from w k a b) (sym e)
-
 pub made_copyable : {w : List ℕ} {n a b k : ℕ} {A B C : Ty}
     → Made k A B C → Denotes w n a A → Denotes w n b B → copyable_from w k a b ≡ copyable C
 made_copyable made_pair d e = ap₂ ◌&&◌ (cell_of d).may_be_copied (cell_of e).may_be_copied

@@ -5,7 +5,6 @@ use Rattle.rules.specs.Kinds.{pair_type_kind, reusable_kind}
 use Rattle.rules.specs.Types.{Ty, !◌, entries, is_wire_type, Wire_discrete, Ty_discrete}
 use Rattle.rules.specs.Parts.{parts_of_kind}
 use Rattle.rules.specs.Inference.{same, is_yes}
-use Rattle.rules.proofs.Laws.TypeCodes.{entries_positive}
 use Rattle.check_types.specs.Cells.{cell_kind, cell_first, cell_second, kind_of, Denotes, wire_cell, unit_cell}
 use Rattle.check_types.specs.Cells.{pair_cell}
 use Rattle.check_types.specs.Cells.{function_cell, reusable_cell, circuit_cell, Made, made_pair, made_function}
@@ -131,9 +130,6 @@ module _ (w : List ℕ) (most i j : ℕ) where
       go (alike_two m m' k x y x' y') = absurd (made_some m (ap parts_of_kind (sym k) ∙ h))
       go (alike_one k x x') = absurd (reusable_some (ap parts_of_kind (sym k) ∙ h))
 
-  pub none_left : (r : Bool) → most ≡ 0 → SaysSame w most i j r
-  none_left r e n A B d d' b = absurd (omega (arith, entries_positive A))
-
   pub first_differs : cell_kind w i ≡ cell_kind w j → (parts_of_kind (cell_kind w i) ≡ 0 → ⊥)
       → SaysSame w (share_of w (cell_first w i) (most - 1)) (cell_first w i) (cell_first w j) false
       → SaysSame w most i j false
@@ -197,9 +193,6 @@ module _ (w : List ℕ) (most i : ℕ) where
       go (no_part l k) = absurd (leaf_clash l h k)
       go (two_parts m k x y) = made m λ e. h' (k ∙ e)
       go (one_part k x) = refl
-
-  pub no_wire_entries : (r : Bool) → most ≡ 0 → SaysWireType w most i r
-  no_wire_entries r e n A d b = absurd (omega (arith, entries_positive A))
 
   pub first_no_wire : cell_kind w i ≡ pair_type_kind
       → SaysWireType w (share_of w (cell_first w i) (most - 1)) (cell_first w i) false

@@ -1,19 +1,17 @@
 -- Laws of specs/Rules.antt.
 use Rattle.std.specs.Prelude.{ℕ, ◌+◌, ◌≤◌, ◌<◌, ◌≡◌, refl, Bool, true, false, ◌&&◌, List, leb}
-use Rattle.std.proofs.Common.{arith, sym, ◌∙◌, ap₂, subst, subst₂, le-leb}
+use Rattle.std.proofs.Common.{arith, sym, ◌∙◌, ap, ap₂, subst, subst₂, le-leb}
 use Rattle.std.proofs.Math.Option.{Option, none, some}
 use Rattle.std.proofs.lemmas.Bool.{lt-leb}
-use Rattle.rules.specs.Kinds.{pair_type_kind, function_kind, reusable_kind}
+use Rattle.rules.specs.Kinds.{function_kind, reusable_kind}
 use Rattle.rules.specs.Types.{Ty, unit, !◌, Circ, entries, is_wire_type, most_entries}
 use Rattle.rules.specs.Parts.{parts_of_kind}
-use Rattle.rules.specs.Inference.{same, given, if_true, as_pair, as_function, as_reusable, box_type, lift_type}
-use Rattle.check_types.specs.declared.Ruled.{Ruled}
-use Rattle.check_types.specs.declared.Ruled.TheVariants.{Gives, Fails}
-use Rattle.check_types.specs.declared.Parts.{Parts}
-use Rattle.check_types.specs.declared.Parts.TheVariants.{Both, Neither}
+use Rattle.rules.specs.Inference.{same, given, if_true, as_function, as_reusable, box_type, lift_type}
+use Rattle.std.specs.Prelude.{Option as RustOption, Some, None}
+use Rattle.check_types.specs.declared.Ruling.{Ruling}
 use Rattle.check_types.specs.Cells.{marked, cell_kind, cell_first, cell_second, cell_size, copyable_from, Denotes, Given, Gave}
-use Rattle.check_types.specs.Cells.{Failed, MeetsOne}
-use Rattle.check_types.specs.Cells.{MeetsTwo, PartsGiven, Made, made_pair, made_function, made_circuit}
+use Rattle.check_types.specs.Cells.{Failed, MeetsOne, gives}
+use Rattle.check_types.specs.Cells.{MeetsTwo, Made, made_pair, made_function, made_circuit}
 use Rattle.check_types.proofs.Laws.Cells.{cell_of, agree_refl, made_entries, View, no_part, two_parts, one_part, view}
 use Rattle.check_types.proofs.Laws.Cells.{made_not_reusable, made_copyable}
 use Rattle.check_types.specs.NewCell.{with_cell}
@@ -111,7 +109,7 @@ not_reusable {w} {n} {i} d f = go (view d)
     go (two_parts made_circuit k x y) = refl
 
 -- A rule that gives a cell that is there already.
-there : (w : List ℕ) (n i : ℕ) (C : Ty) → Denotes w n i C → Gave w w n C (Gives i n)
+there : (w : List ℕ) (n i : ℕ) (C : Ty) → Denotes w n i C → Gave w w n C (gives i n)
 there w n i C d =
     record {
       cell = i;
@@ -128,7 +126,7 @@ there w n i C d =
 -- A rule that gives the new cell n.
 new : (w : List ℕ) (n kind a b size : ℕ) (C : Ty)
     → Denotes (with_cell w n kind a b size) (n + 1) n C
-    → Gave w (with_cell w n kind a b size) n C (Gives n (n + 1))
+    → Gave w (with_cell w n kind a b size) n C (gives n (n + 1))
 new w n kind a b size C d =
     record {
       cell = n;
@@ -142,69 +140,52 @@ new w n kind a b size C d =
       denotes = d;
     }
 
-fails : (w : List ℕ) → Failed w w Fails
+fails : (w : List ℕ) → Failed w w None
 fails w = record { answer = refl; unchanged = refl }
 
 -- The parts of a pair.
-pub pair_parts_found : (w : List ℕ) (i : ℕ) → cell_kind w i ≡ pair_type_kind
-    → (n : ℕ) (A : Ty)
-    → Denotes w n i A
-    → PartsGiven w n (as_pair A) (Both (cell_first w i) (cell_second w i))
-pair_parts_found w i e n A d =
-    let p = of_kind reads_pair d e in
-    subst
-    (λ o. PartsGiven w n o (Both (cell_first w i) (cell_second w i)))
-    (sym p.parts)
-    (record { first = cell_first w i; second = cell_second w i; answer = refl; first_denotes = p.first_denotes; second_denotes = p.second_denotes })
-
-pub no_pair_parts : (w : List ℕ) (i : ℕ) → (cell_kind w i ≡ pair_type_kind → ⊥)
-    → (n : ℕ) (A : Ty)
-    → Denotes w n i A
-    → PartsGiven w n (as_pair A) Neither
-no_pair_parts w i f n A d = subst (λ o. PartsGiven w n o Neither) (sym (of_other_kind reads_pair d f)) refl
-
 module _ (w : List ℕ) (n f a k : ℕ) (g : Ty → Option (Ty × Ty)) (r : Reads k g) where
-  pub no_result : (cell_kind w f ≡ k → ⊥) → MeetsTwo (result_type g) w w n f a Fails
+  pub no_result : (cell_kind w f ≡ k → ⊥) → MeetsTwo (result_type g) w w n f a None
   no_result h room F A d e =
       subst
-      (λ o. Given w w n (given o λ p. if_true (same p.0 A) p.1) Fails)
+      (λ o. Given w w n (given o λ p. if_true (same p.0 A) p.1) None)
       (sym (of_other_kind r d h))
       (fails w)
 
-  pub other_argument : cell_kind w f ≡ k → SaysSameType w (cell_first w f) a false → MeetsTwo (result_type g) w w n f a Fails
+  pub other_argument : cell_kind w f ≡ k → SaysSameType w (cell_first w f) a false → MeetsTwo (result_type g) w w n f a None
   other_argument h s room F A d e =
       let q = of_kind r d h in
       subst
-      (λ o. Given w w n (given o λ p. if_true (same p.0 A) p.1) Fails)
+      (λ o. Given w w n (given o λ p. if_true (same p.0 A) p.1) None)
       (sym q.parts)
       (subst
-      (λ t. Given w w n (if_true t q.second) Fails)
+      (λ t. Given w w n (if_true t q.second) None)
       (s n q.first A q.first_denotes e)
       (fails w))
 
   pub gives_result : cell_kind w f ≡ k → SaysSameType w (cell_first w f) a true
-      → MeetsTwo (result_type g) w w n f a (Gives (cell_second w f) n)
+      → MeetsTwo (result_type g) w w n f a (gives (cell_second w f) n)
   gives_result h s room F A d e =
       let q = of_kind r d h in
       subst
-      (λ o. Given w w n (given o λ p. if_true (same p.0 A) p.1) (Gives (cell_second w f) n))
+      (λ o. Given w w n (given o λ p. if_true (same p.0 A) p.1) (gives (cell_second w f) n))
       (sym q.parts)
       (subst
-      (λ t. Given w w n (if_true t q.second) (Gives (cell_second w f) n))
+      (λ t. Given w w n (if_true t q.second) (gives (cell_second w f) n))
       (s n q.first A q.first_denotes e)
       (there w n (cell_second w f) q.second q.second_denotes))
 
 -- Force.
-pub gives_part : (w : List ℕ) (n a : ℕ) → cell_kind w a ≡ reusable_kind → MeetsOne as_reusable w w n a (Gives (cell_first w a) n)
+pub gives_part : (w : List ℕ) (n a : ℕ) → cell_kind w a ≡ reusable_kind → MeetsOne as_reusable w w n a (gives (cell_first w a) n)
 gives_part w n a h room A d =
     let q = reusable d h in
     subst
-    (λ o. Given w w n o (Gives (cell_first w a) n))
+    (λ o. Given w w n o (gives (cell_first w a) n))
     (sym q.part)
     (there w n (cell_first w a) q.first q.denotes)
 
-pub no_part_given : (w : List ℕ) (n a : ℕ) → (cell_kind w a ≡ reusable_kind → ⊥) → MeetsOne as_reusable w w n a Fails
-no_part_given w n a h room A d = subst (λ o. Given w w n o Fails) (sym (not_reusable d h)) (fails w)
+pub no_part_given : (w : List ℕ) (n a : ℕ) → (cell_kind w a ≡ reusable_kind → ⊥) → MeetsOne as_reusable w w n a None
+no_part_given w n a h room A d = subst (λ o. Given w w n o None) (sym (not_reusable d h)) (fails w)
 
 -- A rule that makes a cell: its type is bounded by 512 entries, which is tested before anything is written. x and y are the
 -- sizes of the parts, as they are read.
@@ -212,20 +193,20 @@ module _ (w : List ℕ) (n kind a b x y : ℕ) (p : x ≡ cell_size w a) (q : y 
   made_size : {A B C : Ty} → Made kind A B C → Denotes w n a A → Denotes w n b B → 1 + x + y ≡ entries C
   made_size m d e = omega (arith, made_entries m, (cell_of d).size, (cell_of e).size)
 
-  pub too_large : most_entries < 1 + x + y → MakesTwo kind w w n a b Fails
+  pub too_large : most_entries < 1 + x + y → MakesTwo kind w w n a b None
   too_large h A B C m room d e =
       let l : leb (entries C) most_entries ≡ false = lt-leb (entries C) most_entries (omega (arith, made_size m d e)) in
-      subst (λ t. Given w w n (if_true t C) Fails) (sym l) (fails w)
+      subst (λ t. Given w w n (if_true t C) None) (sym l) (fails w)
 
   pub makes_cell : (w' : List ℕ) (word : ℕ)
       → 1 + x + y ≤ most_entries
       → word ≡ marked (copyable_from w kind a b) (1 + x + y)
       → w' ≡ with_cell w n kind a b word
-      → MakesTwo kind w w' n a b (Gives n (n + 1))
+      → MakesTwo kind w w' n a b (gives n (n + 1))
   makes_cell w' word h z r A B C m room d e =
       let small : entries C ≤ most_entries = omega (arith, made_size m d e) in
       subst₂
-      (λ v t. Given w v n (if_true t C) (Gives n (n + 1)))
+      (λ v t. Given w v n (if_true t C) (gives n (n + 1)))
       (sym r)
       (sym (le-leb (entries C) most_entries small))
       (new w n kind a b word C
@@ -233,21 +214,21 @@ module _ (w : List ℕ) (n kind a b x y : ℕ) (p : x ≡ cell_size w a) (q : y 
 
 -- Lift.
 module _ (w : List ℕ) (n a x : ℕ) (p : x ≡ cell_size w a) where
-  pub too_large_lift : most_entries < 1 + x → MeetsOne lift_type w w n a Fails
+  pub too_large_lift : most_entries < 1 + x → MeetsOne lift_type w w n a None
   too_large_lift h room A d =
       let s : cell_size w a ≡ entries A = (cell_of d).size in
       let l : leb (entries (! A)) most_entries ≡ false = lt-leb (entries (! A)) most_entries (omega arith) in
-      subst (λ t. Given w w n (if_true t (! A)) Fails) (sym l) (fails w)
+      subst (λ t. Given w w n (if_true t (! A)) None) (sym l) (fails w)
 
   pub makes_lift : (w' : List ℕ) (b : ℕ)
       → 1 + x ≤ most_entries
       → w' ≡ with_cell w n 4 a b (marked true (1 + x))
-      → MeetsOne lift_type w w' n a (Gives n (n + 1))
+      → MeetsOne lift_type w w' n a (gives n (n + 1))
   makes_lift w' b h r room A d =
       let s : cell_size w a ≡ entries A = (cell_of d).size in
       let small : entries (! A) ≤ most_entries = omega arith in
       subst₂
-      (λ v t. Given w v n (if_true t (! A)) (Gives n (n + 1)))
+      (λ v t. Given w v n (if_true t (! A)) (gives n (n + 1)))
       (sym r)
       (sym (le-leb (entries (! A)) most_entries small))
       (new w n 4 a b (marked true (1 + x)) (! A) (one_part_written w n a b (marked true (1 + x)) room d (omega arith) small))
@@ -260,23 +241,19 @@ module _ (w : List ℕ) (t a : ℕ) where
   abbrev function : ℕ
   function = cell_first w a
 
-  pub box_no_reusable : (cell_kind w a ≡ reusable_kind → ⊥) → SaysBox w t a Neither
-  box_no_reusable h n T A d e =
-      subst (λ o. BoxGiven w n t T (given o λ F. given (as_function F) (box_result T)) Neither) (sym (not_reusable e h)) refl
-
-  pub box_no_function : cell_kind w a ≡ reusable_kind → (cell_kind w function ≡ function_kind → ⊥) → SaysBox w t a Neither
+  pub box_no_function : cell_kind w a ≡ reusable_kind → (cell_kind w function ≡ function_kind → ⊥) → SaysBox w t a None
   box_no_function h h' n T A d e =
       let q = reusable e h in
       subst
-      (λ o. BoxGiven w n t T (given o λ F. given (as_function F) (box_result T)) Neither)
+      (λ o. BoxGiven w n t T (given o λ F. given (as_function F) (box_result T)) None)
       (sym q.part)
       (subst
-      (λ o. BoxGiven w n t T (given o (box_result T)) Neither)
+      (λ o. BoxGiven w n t T (given o (box_result T)) None)
       (sym (of_other_kind reads_function q.denotes h'))
       refl)
 
   -- The tests on the function's parts decide.
-  abbrev OfParts : Parts → Type 0
+  abbrev OfParts : RustOption (ℕ × ℕ) → Type 0
   OfParts r =
       (n : ℕ) (T A B : Ty)
       → Denotes w n t T
@@ -285,7 +262,7 @@ module _ (w : List ℕ) (t a : ℕ) where
       → 1 + (entries A + entries B) ≤ most_entries
       → BoxGiven w n t T (box_result T (A, B)) r
 
-  of_parts : (r : Parts) → cell_kind w a ≡ reusable_kind → cell_kind w function ≡ function_kind → OfParts r → SaysBox w t a r
+  of_parts : (r : RustOption (ℕ × ℕ)) → cell_kind w a ≡ reusable_kind → cell_kind w function ≡ function_kind → OfParts r → SaysBox w t a r
   of_parts r h h' result n T A d e =
       let q = reusable e h in
       let p = of_kind reads_function q.denotes h' in
@@ -300,23 +277,15 @@ module _ (w : List ℕ) (t a : ℕ) where
       (result n T p.first p.second d p.first_denotes p.second_denotes b))
 
   module _ (h : cell_kind w a ≡ reusable_kind) (h' : cell_kind w function ≡ function_kind) where
-    pub box_other_input : SaysSameType w t (cell_first w function) false → SaysBox w t a Neither
+    pub box_other_input : SaysSameType w t (cell_first w function) false → SaysBox w t a None
     box_other_input s =
-        of_parts Neither h h' λ n T A B d x y b.
+        of_parts None h h' λ n T A B d x y b.
         subst
-        (λ q. BoxGiven w n t T (if_true (q && (is_wire_type T && is_wire_type B)) (Circ T B)) Neither)
+        (λ q. BoxGiven w n t T (if_true (q && (is_wire_type T && is_wire_type B)) (Circ T B)) None)
         (s n T A d x)
         refl
 
-    pub box_no_wires : SaysSameType w t (cell_first w function) true → SaysIsWireType w t false → SaysBox w t a Neither
-    box_no_wires s i =
-        of_parts Neither h h' λ n T A B d x y b.
-        subst
-        (λ q. BoxGiven w n t T (if_true (q && (is_wire_type T && is_wire_type B)) (Circ T B)) Neither)
-        (s n T A d x)
-        (subst (λ q. BoxGiven w n t T (if_true (q && is_wire_type B) (Circ T B)) Neither) (i n T d) refl)
-
-    box_result_lem : (r : Bool) (z : Parts)
+    box_result_lem : (r : Bool) (z : RustOption (ℕ × ℕ))
         → SaysSameType w t (cell_first w function) true
         → SaysIsWireType w t true
         → SaysIsWireType w (cell_second w function) r
@@ -342,15 +311,15 @@ module _ (w : List ℕ) (t a : ℕ) where
     pub box_no_result_wires : SaysSameType w t (cell_first w function) true
         → SaysIsWireType w t true
         → SaysIsWireType w (cell_second w function) false
-        → SaysBox w t a Neither
-    box_no_result_wires s i u = box_result_lem false Neither s i u λ n T B y b. refl
+        → SaysBox w t a None
+    box_no_result_wires s i u = box_result_lem false None s i u λ n T B y b. refl
 
     pub box_gives : SaysSameType w t (cell_first w function) true
         → SaysIsWireType w t true
         → SaysIsWireType w (cell_second w function) true
-        → SaysBox w t a (Both t (cell_second w function))
+        → SaysBox w t a (Some (t, cell_second w function))
     box_gives s i u =
-        box_result_lem true (Both t (cell_second w function)) s i u λ n T B y b.
+        box_result_lem true (Some (t, cell_second w function)) s i u λ n T B y b.
         record {
           second = cell_second w function;
           result = B;
@@ -361,25 +330,26 @@ module _ (w : List ℕ) (t a : ℕ) where
         }
 
 -- The rule from its parts: the circuit type is made as every type of two parts is.
-pub box_fails : (w : List ℕ) (n t a : ℕ) → SaysBox w t a Neither → MeetsTwo box_type w w n t a Fails
+pub box_fails : (w : List ℕ) (n t a : ℕ) → SaysBox w t a None → MeetsTwo box_type w w n t a None
 box_fails w n t a s room T A d e = go (box_type T A) (s n T A d e)
   where
-    go : (o : Option Ty) → BoxGiven w n t T o Neither → Given w w n o Fails
+    go : (o : Option Ty) → BoxGiven w n t T o None → Given w w n o None
     go none g = fails w
     go (some C) g = let q = g.answer in let z : ◌≡◌ {A = ℕ} 0 1 = cc in absurd (omega arith)
 
-pub box_makes : (w w' : List ℕ) (n t a x u : ℕ) (r : Ruled)
-    → SaysBox w t a (Both x u)
+pub box_makes : (w w' : List ℕ) (n t a x u : ℕ) (r : RustOption Ruling)
+    → SaysBox w t a (Some (x, u))
     → MakesTwo 5 w w' n x u r
     → MeetsTwo box_type w w' n t a r
 box_makes w w' n t a x u r s f room T A d e = go (box_type T A) (s n T A d e)
   where
-    go : (o : Option Ty) → BoxGiven w n t T o (Both x u) → Given w w' n o r
+    go : (o : Option Ty) → BoxGiven w n t T o (Some (x, u)) → Given w w' n o r
     go none g = let z : ◌≡◌ {A = ℕ} 0 1 = cc in absurd (omega arith)
     go (some C) g =
         let U = g.result in
-        let first_cell : t ≡ x = let q = g.answer in cc in
-        let second_cell : g.second ≡ u = let q = g.answer in cc in
+        let cells : ◌≡◌ {A = ℕ × ℕ} (t, g.second) (x, u) = let q = g.answer in cc in
+        let first_cell : t ≡ x = ap (λ p. p.0) cells in
+        let second_cell : g.second ≡ u = ap (λ p. p.1) cells in
         subst
         (λ X. Given w w' n (some X) r)
         (sym g.circuit)

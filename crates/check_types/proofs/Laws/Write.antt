@@ -5,7 +5,7 @@ use Rattle.std.proofs.lemmas.List.Edits.{sets, sets-eq}
 use Rattle.rules.specs.Kinds.{unit_kind}
 use Rattle.rules.specs.Types.{Ty, entries, wire_code, type_codes}
 use Rattle.rules.specs.Parts.{parts_of_kind}
-use Rattle.rules.proofs.Laws.TypeCodes.{type_codes_entries, entries_positive, wire_kind}
+use Rattle.rules.proofs.Laws.TypeCodes.{type_codes_entries, wire_kind}
 use Rattle.check_types.specs.Cells.{cell_kind, cell_first, cell_second, Denotes, Made, made_pair, made_function}
 use Rattle.check_types.specs.Cells.{made_circuit}
 use Rattle.check_types.proofs.Laws.Cells.{View, no_part, one_part, two_parts, view, made_entries, made_parts}
@@ -32,12 +32,6 @@ made_byte made_circuit = omega arith
 
 -- A law for each way through the code.
 module _ (w : List ℕ) (most i at : ℕ) (out : List ℕ) where
-  pub no_room : (out' : List ℕ) (r : ℕ) → length out ≤ at → SaysWroteAt w most i at out out' r
-  no_room out' r h n A d f b = absurd (omega (arith, entries_positive A))
-
-  pub no_entries : (out' : List ℕ) (r : ℕ) → most ≡ 0 → SaysWroteAt w most i at out out' r
-  no_entries out' r h n A d f b = absurd (omega (arith, entries_positive A))
-
   pub wrote_leaf : parts_of_kind (cell_kind w i) ≡ 0 → SaysWroteAt w most i at out (set out at (cell_kind w i % 256)) (at + 1)
   wrote_leaf h n A d f b = go (view d)
     where

@@ -2,8 +2,7 @@
 use mathlib.Core.Path.{sym, ◌∙◌, subst}
 use Rattle.words.specs.Words.{words}
 use Rattle.rules.specs.Inference.{as_reusable}
-use Rattle.check_types.specs.declared.Ruled.TheVariants.{Gives}
-use Rattle.check_types.specs.Cells.{Given}
+use Rattle.check_types.specs.Cells.{Given, gives}
 use Rattle.check_types.proofs.Laws.Rules.{gives_part, no_part_given}
 use Rattle.check_types.proofs.force_type.Goals as goal
 
@@ -18,6 +17,6 @@ returns c =
     let w = words s.work.now in
     λ room A d.
     subst
-    (λ x. Given w w s.n (as_reusable A) (Gives x s.n))
+    (λ x. Given w w s.n (as_reusable A) (gives x s.n))
     (sym c.cell_first.ensures)
     (gives_part w s.n s.a (sym c.cell_kind.ensures ∙ c.if-cell_kind-ne-REUSABLE.false) room A d)

@@ -1,11 +1,9 @@
--- `check_types::load_gates` meets its contract: the invariant: the types of the gates below g are loaded. Assumes nothing.
+-- `check_types::load_gates` meets its contract: the types of the gates below g are loaded. Assumes nothing.
 use Rattle.rules.specs.Kinds.{qubit_kind, unit_kind}
 use Prim.Native.Nat.{◌+◌}
 use native.Mathlib.Omega.{arith}
-use mathlib.Core.Path.{◌≡◌, refl, ◌∙◌, ap, ap₂}
-use lib.ListN.{length}
+use mathlib.Core.Path.{◌∙◌, ap, ap₂}
 use Rattle.words.specs.Words.{words}
-use Rattle.rules.specs.Gates.{gate_table}
 use Rattle.rules.specs.GateCodes.{type_entries, type_code}
 use Rattle.check_types.specs.Load.{load_entry, load_codes}
 use Rattle.check_types.specs.GateCells.{cell_of_unit, gate_start, gate_cells, load_gates}
@@ -14,51 +12,36 @@ use Rattle.check_types.proofs.Laws.GateCells.{load_next_gate}
 use Rattle.check_types.proofs.load_gates.Goals as goal
 
 pub loop-g-init : goal.loop-g-init
-loop-g-init c = (omega arith, start_of_first, λ w e. e, refl)
+loop-g-init c = (start_of_first, λ w e. e)
 
 pub load_gate-n-requires : goal.load_gate-n-requires
 load_gate-n-requires c =
     let l = c.loop-g in
-    omega (arith, gate_start_small l.g, l.invariant.1, c.loop-g-test.true)
-
-pub overflow_add-g : goal.overflow_add-g
-overflow_add-g c = omega (arith, c.loop-g-test.true)
-
-pub loop-g-smaller : goal.loop-g-smaller
-loop-g-smaller c = omega (arith, c.loop-g-test.true)
+    omega (arith, gate_start_small l.g, l.invariant.0, c.loop-g-test.true)
 
 pub loop-g-preserved : goal.loop-g-preserved
 loop-g-preserved c =
     let l = c.loop-g in
-    let r = c.load_gate-n.ensures in
-    let t = c.loop-g-test.true in (
-      omega arith,
-      r.value ∙ ap (λ x. x + type_entries l.g) l.invariant.1 ∙ start_of_next l.g,
+    let r = c.load_gate-n.ensures in (
+      r.value ∙ ap (λ x. x + type_entries l.g) l.invariant.0 ∙ start_of_next l.g,
       λ w e.
           r.work_after
-          ∙ ap₂ (λ v x. load_codes v x (type_code l.g) 0 (type_entries l.g)) (l.invariant.2 w e) l.invariant.1
+          ∙ ap₂ (λ v x. load_codes v x (type_code l.g) 0 (type_entries l.g)) (l.invariant.1 w e) l.invariant.0
           ∙ load_next_gate w l.g,
-      r.work_len_unchanged ∙ l.invariant.3,
     )
 
-pub shape_of-work : goal.shape_of-work
-shape_of-work c = c.loop-g.invariant.3 ∙ c.load_entry-3.ensures.work_len_unchanged ∙ c.load_entry-2.ensures.work_len_unchanged ∙ c.load_entry.ensures.work_len_unchanged
-
-pub returns : goal.returns
+pub returns-clause-value : goal.returns-clause-value
 unfolding gate_cells
-returns c =
+returns-clause-value c =
+    let l = c.loop-g in
+    l.invariant.0 ∙ ap gate_start (omega (arith, c.loop-g-test.false))
+
+pub returns-clause-work_after : goal.returns-clause-work_after
+returns-clause-work_after c =
     let l = c.loop-g in
     let w = words c.args.work.now in
-    let bit = c.load_entry.ensures in
-    let qubit = c.load_entry-2.ensures in
-    let unit_type = c.load_entry-3.ensures in
     let begun =
-    unit_type.work_after
-    ∙ ap (λ v. load_entry v cell_of_unit unit_kind) (qubit.work_after ∙ ap (λ v. load_entry v 1 qubit_kind) bit.work_after)
+    c.load_entry-3.ensures.work_after
+    ∙ ap (λ v. load_entry v cell_of_unit unit_kind) (c.load_entry-2.ensures.work_after ∙ ap (λ v. load_entry v 1 qubit_kind) c.load_entry.ensures.work_after)
     ∙ load_leaves w in
-    let all : l.g ≡ length gate_table = omega (arith, l.invariant.0, c.loop-g-test.false) in record {
-      value = l.invariant.1 ∙ ap gate_start all;
-      work_after = l.invariant.2 w begun ∙ ap (λ i. load_gates w i) all;
-      work_len_unchanged =
-          l.invariant.3 ∙ unit_type.work_len_unchanged ∙ qubit.work_len_unchanged ∙ bit.work_len_unchanged;
-    }
+    l.invariant.1 w begun ∙ ap (λ i. load_gates w i) (omega (arith, c.loop-g-test.false))

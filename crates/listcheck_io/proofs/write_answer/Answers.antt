@@ -1,15 +1,16 @@
 -- `listcheck_io::write_answer` meets its contract. Assumes nothing.
+use borrow.Author.Rules.{rules}
+use Rattle.std.proofs.Common.{sym, subst}
+use Rattle.text.specs.Written.{Written}
+use Rattle.text.proofs.Laws.Writer.{puts_at_start}
 use Rattle.text.proofs.Laws.Writing.{puts_first}
-use Rattle.listcheck_io.proofs.Laws.Printed.{line_accepted, line_refused}
+use Rattle.listcheck_io.specs.Printing.{answer_line}
 use Rattle.listcheck_io.proofs.write_answer.Goals as goal
 
-pub returns-in-Accepted : goal.returns-in-Accepted
-returns-in-Accepted c =
-    let a = line_accepted c.in-Accepted.is (puts_first c.put_bytes.ensures) in
-    record { written = a.0; answer_len_bound = a.1 }
-
-pub returns-in-Refused : goal.returns-in-Refused
-returns-in-Refused c =
-    let w = c.write_refusal.ensures in
-    let a = line_refused c.in-Refused.is c.number_of-number.ensures c.place_of-place.ensures w.written w.place_len_bound in
-    record { written = a.0; answer_len_bound = a.1 }
+pub returns-in-Ok-clause-written : goal.returns-in-Ok-clause-written
+returns-in-Ok-clause-written c =
+    let begun = puts_at_start c.new-out.ensures.contents c.new-out.ensures.start c.put_bytes.ensures.1 in
+    let all =
+    subst (λ a. Written c.args.text.now (answer_line a) c.put_bytes.new.self.text.now c.put_bytes.new.self.at) (sym c.in-Ok.is)
+    (puts_first begun) in
+    search (rules, all)

@@ -1,35 +1,24 @@
 -- Laws of one entry: its kind, and the slots that it does not use.
-use Rattle.std.specs.Prelude.{ℕ, suc, ◌+◌, ◌-◌, ◌*◌, ◌≤◌, ◌<◌, ◌≡◌, Bool, true, false, not, ◌||◌, cond, List, eqb, ltb, length}
-use Rattle.std.proofs.Common.{arith, ◌∙◌, ap₂, lt-ltb, le-ltb, eq-eqb, ne_eqb}
+use Rattle.std.specs.Prelude.{ℕ, zero, suc, ◌+◌, ◌-◌, ◌*◌, ◌≤◌, ◌<◌, ◌≡◌, refl, Bool, true, false, not, ◌||◌, cond, List, eqb}
+use Rattle.std.specs.List.{list_any, range_with_len}
+use Rattle.std.proofs.Common.{arith, ◌∙◌, lt-ltb, le-ltb}
 use Rattle.std.proofs.Math.Path.{ap}
 use Rattle.rules.specs.Types.{Bit, Qubit}
 use Rattle.rules.specs.Gates.{is_gate, wires_in}
 use Rattle.rules.specs.Slots.{no_wire}
-use Rattle.rules.specs.Sizes.{most_labels, most_gates}
 use Rattle.words.specs.Numbers.{word_at}
-use Rattle.words.proofs.Laws.Numbers.{one_left}
-use Rattle.listing.specs.Listing.{input_kind, entry_slots, listing_length, most_outputs}
-use Rattle.listing.specs.Reading.{input_count, gate_count, output_count, kind_at, slots_from}
-use Rattle.listing_check.specs.Answers.{sizes_wrong, any_wire, entry_wrong}
+use Rattle.listing.specs.Listing.{input_kind, entry_slots}
+use Rattle.listing.specs.Reading.{input_count, kind_at, slots_from}
+use Rattle.listing_check.specs.Answers.{any_wire, entry_wrong}
 
--- A scan of slots: a wire stands in this one, it does not, and no slot is left.
-module _ (b : List ℕ) (from end k : ℕ) where
-  pub wire_here : k < end → (word_at b (from + 2 * k) ≡ no_wire → ⊥) → any_wire b from k (end - k) ≡ true
-  wire_here below other =
-      ap (any_wire b from k) (one_left end k below)
-      ∙ ap (λ t. not t || any_wire b from (suc k) (end - (k + 1))) (ne_eqb (word_at b (from + 2 * k)) no_wire other)
-
-  pub wire_later : k < end
-      → word_at b (from + 2 * k) ≡ no_wire
-      → any_wire b from k (end - k) ≡ any_wire b from (k + 1) (end - (k + 1))
-  wire_later below none_here =
-      let next : suc k ≡ k + 1 = omega arith in
-      ap (any_wire b from k) (one_left end k below)
-      ∙ ap (λ t. not t || any_wire b from (suc k) (end - (k + 1))) (eq-eqb (word_at b (from + 2 * k)) no_wire none_here)
-      ∙ ap (λ j. any_wire b from j (end - (k + 1))) next
-
-  pub wire_nowhere : end ≤ k → any_wire b from k (end - k) ≡ false
-  wire_nowhere past = let e : end - k ≡ 0 = omega arith in ap (any_wire b from k) e
+-- Any of so many slots from one on.
+pub any_slot : (b : List ℕ) (from k n : ℕ)
+    → list_any (λ s. not (eqb (word_at b (from + 2 * s)) no_wire)) (range_with_len k n) ≡ any_wire b from k n
+any_slot b from k zero = refl
+any_slot b from k (suc n) =
+    let next : k + 1 ≡ suc k = omega arith in
+    ap (λ t. not (eqb (word_at b (from + 2 * k)) no_wire) || t)
+    (ap (λ j. list_any (λ s. not (eqb (word_at b (from + 2 * s)) no_wire)) (range_with_len j n)) next ∙ any_slot b from (suc k) n)
 
 -- An input is wrong by its kind or by any slot, a gate by its kind or by the slots behind the wires that it takes.
 wrong_with : List ℕ → ℕ → Bool → Bool
@@ -67,28 +56,3 @@ module _ (b : List ℕ) (i : ℕ) where
     no_gate_there e =
         as_gate
         ∙ ap (λ t. not t || any_wire b (slots_from b i) (wires_in (kind_at b i)) (entry_slots - wires_in (kind_at b i))) e
-
--- The test of the sizes, with the sizes that were read.
-pub sizes_tested : (b : List ℕ) {inputs gates outs : ℕ}
-    → inputs ≡ input_count b
-    → gates ≡ gate_count b
-    → outs ≡ output_count b
-    → (ltb (length b) 6
-    || (ltb most_labels inputs
-    || (ltb most_gates gates || (ltb most_outputs outs || not (eqb (length b) (listing_length inputs gates outs))))))
-    ≡ sizes_wrong b
-sizes_tested b {outs = outs} i g o =
-    ap₂
-    (λ x y.
-    ltb (length b) 6
-    || (ltb most_labels x
-    || (ltb most_gates y || (ltb most_outputs outs || not (eqb (length b) (listing_length x y outs))))))
-    i
-    g
-    ∙ ap
-    (λ z.
-    ltb (length b) 6
-    || (ltb most_labels (input_count b)
-    || (ltb most_gates (gate_count b)
-    || (ltb most_outputs z || not (eqb (length b) (listing_length (input_count b) (gate_count b) z))))))
-    o

@@ -1,5 +1,5 @@
 -- What each stage of the check of a listing finds, in the words of Meaning, and the answer that comes of it.
-use Rattle.std.specs.Prelude.{ℕ, zero, suc, ◌+◌, ◌-◌, ◌*◌, ◌≤◌, ◌<◌, ◌≡◌, refl, ◌⊎◌, Bool, true, false, not, ◌||◌, List, [], ◌∷◌, T as Truth, eqb, ltb, length}
+use Rattle.std.specs.Prelude.{ℕ, zero, suc, ◌+◌, ◌-◌, ◌*◌, ◌≤◌, ◌<◌, ◌≡◌, refl, ◌⊎◌, Bool, true, false, not, ◌||◌, List, [], ◌∷◌, T as Truth, eqb, ltb, length, Result, Ok, Err}
 use Rattle.std.proofs.Common.{arith, sym, ◌∙◌, ap₂, subst, inl, inr, true≢false, ltb-true, ltb-false, lt-ltb, le-ltb}
 use Rattle.std.proofs.Math.Path.{ap}
 use Rattle.std.proofs.Math.Bool.{cond}
@@ -12,6 +12,7 @@ use Rattle.rules.specs.Circuits.{TakesEarlier, no_gate, next_gate}
 use Rattle.rules.specs.Sizes.{most_labels, most_gates}
 use Rattle.rules.proofs.Laws.Wires.{Compared, equal, unequal, compared}
 use Rattle.rules.proofs.Laws.KnownGates.{KnownGates}
+use Rattle.refusals.specs.declared.Refusal.{Refusal}
 use Rattle.refusals.specs.declared.Refusal.TheVariants.{Run}
 use Rattle.words.specs.Numbers.{word_at}
 use Rattle.listing.specs.Listing.{input_kind, entry_slots, listing_length, most_outputs}
@@ -24,8 +25,7 @@ use Rattle.wire_table.specs.Wires.{first_where, broken_at}
 use Rattle.wire_table.specs.WireRules.{GoesOnce, First, NoSuch, BrokenAt}
 use Rattle.wire_table.proofs.Laws.Finding.{Finds, found_first, found_none, finds_same, Passing, where_found}
 use Rattle.wire_table.proofs.Theorems.Wires.{wires_mean}
-use Rattle.listing_check.specs.declared.ListingAnswer.{ListingAnswer}
-use Rattle.listing_check.specs.declared.ListingAnswer.TheVariants.{Accepted, Refused}
+use Rattle.listing_check.specs.declared.ListingSizes.{ListingSizes}
 use Rattle.listing_check.specs.Answers.{sizes_wrong, kind_allowed, slots_used, any_wire, entry_wrong, wires_judged}
 use Rattle.listing_check.specs.Answers.{entries_judged, listing_check_of}
 use Rattle.listing_check.specs.Meaning.{SoundListing, SizesWrong, no_sizes, many_inputs, many_gates, many_outputs}
@@ -339,18 +339,18 @@ right_form b sizes entries =
 -- THE ANSWER
 
 -- What the check finds, with its answer.
-pub data Judged (b : List ℕ) : ListingAnswer → Type 0 where
-  sizes_wrong_lem : SizesWrong b → Judged b (Refused (Run 24 0))
-  entry_wrong_lem : {p : ℕ} → (SizesWrong b → ⊥) → First (WrongEntry b) p → Judged b (Refused (Run 25 p))
+pub data Judged (b : List ℕ) : Result ListingSizes Refusal → Type 0 where
+  sizes_wrong_lem : SizesWrong b → Judged b (Err (Run 24 0))
+  entry_wrong_lem : {p : ℕ} → (SizesWrong b → ⊥) → First (WrongEntry b) p → Judged b (Err (Run 25 p))
   wires_wrong_lem : {p : ℕ}
       → (SizesWrong b → ⊥)
       → NoSuch (WrongEntry b)
       → BrokenAt (inputs_of b) (gates_of b) (outputs_of b) p
-      → Judged b (Refused (Run 26 p))
+      → Judged b (Err (Run 26 p))
   all_right : (SizesWrong b → ⊥)
       → NoSuch (WrongEntry b)
       → GoesOnce (inputs_of b) (gates_of b) (outputs_of b)
-      → Judged b (Accepted (input_count b) (gate_count b) (output_count b))
+      → Judged b (Ok (record { inputs = input_count b; gates = gate_count b; outputs = output_count b }))
 
 -- The gates of bytes with right sizes and entries are known.
 right_known : (b : List ℕ) → (SizesWrong b → ⊥) → NoSuch (WrongEntry b) → KnownGates (gates_of b)
@@ -376,7 +376,7 @@ listing_judged b = of_sizes (sizes_wrong b) (sizes_told b)
     of_entries sizes (some p) f = entry_wrong_lem sizes f
 
     of_sizes : (t : Bool) → Says (SizesWrong b) t
-        → Judged b (cond t (Refused (Run 24 0)) (entries_judged b (first_where (entry_wrong b) 0 (entry_count b))))
+        → Judged b (cond t (Err (Run 24 0)) (entries_judged b (first_where (entry_wrong b) 0 (entry_count b))))
     of_sizes _ (says_yes h) = sizes_wrong_lem h
     of_sizes _ (says_no f) = of_entries f (first_where (entry_wrong b) 0 (entry_count b)) (entries_found b)
 
@@ -388,17 +388,17 @@ module _ (b : List ℕ) where
   sizes_right_lem : (SizesWrong b → ⊥) → listing_check_of b ≡ entries_judged b found
   unfolding listing_check_of found
   sizes_right_lem f =
-      ap (λ t. cond t (Refused (Run 24 0)) (entries_judged b found)) (says_false (sizes_wrong b) (sizes_told b) f)
+      ap (λ t. cond t (Err (Run 24 0)) (entries_judged b found)) (says_false (sizes_wrong b) (sizes_told b) f)
 
   entries_right : (SizesWrong b → ⊥) → NoSuch (WrongEntry b)
       → listing_check_of b ≡ wires_judged b (broken_at (inputs_of b) (gates_of b) (outputs_of b))
   unfolding found
   entries_right f n = sizes_right_lem f ∙ ap (entries_judged b) (found_none (WrongEntry b) found (entries_found b) n)
 
-  pub judged_answer : {a : ListingAnswer} → Judged b a → listing_check_of b ≡ a
+  pub judged_answer : {a : Result ListingSizes Refusal} → Judged b a → listing_check_of b ≡ a
   unfolding listing_check_of found
   judged_answer (sizes_wrong_lem h) =
-      ap (λ t. cond t (Refused (Run 24 0)) (entries_judged b found)) (says_true (sizes_wrong b) (sizes_told b) h)
+      ap (λ t. cond t (Err (Run 24 0)) (entries_judged b found)) (says_true (sizes_wrong b) (sizes_told b) h)
   judged_answer (entry_wrong_lem {p = p} f first) =
       sizes_right_lem f ∙ ap (entries_judged b) (found_first (WrongEntry b) found (entries_found b) p first)
   judged_answer (wires_wrong_lem {p = p} f n broken) =
@@ -446,11 +446,11 @@ sound_read b x =
     }
 
 -- A sound listing is accepted, with its numbers of inputs, gates and outputs.
-pub sound_accepted : (b : List ℕ) {L G O : ℕ} → SoundListing b L G O → listing_check_of b ≡ Accepted L G O
+pub sound_accepted : (b : List ℕ) {L G O : ℕ} → SoundListing b L G O → listing_check_of b ≡ Ok (record { inputs = L; gates = G; outputs = O })
 sound_accepted b {L} {G} {O} x =
     judged_answer b (all_right sizes (form_right b r.form) goes)
-    ∙ ap₂ (λ l m. Accepted l m (output_count b)) r.input_count_is r.gate_count_is
-    ∙ ap (Accepted L G) r.output_count_is
+    ∙ ap₂ (λ l m. Ok (record { inputs = l; gates = m; outputs = output_count b })) r.input_count_is r.gate_count_is
+    ∙ ap (λ o. Ok (record { inputs = L; gates = G; outputs = o })) r.output_count_is
   where
     r : ReadBack b L G O x.inputs x.gates x.outs
     r = sound_read b x

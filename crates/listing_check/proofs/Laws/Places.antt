@@ -1,5 +1,5 @@
 -- Which refusals the check of a listing gives, and how large the numbers of its answers are.
-use Rattle.std.specs.Prelude.{ℕ, ◌+◌, ◌≤◌, ◌<◌, ◌≡◌, List, length}
+use Rattle.std.specs.Prelude.{ℕ, ◌+◌, ◌≤◌, ◌<◌, ◌≡◌, List, length, Result, Ok, Err}
 use Rattle.std.proofs.Common.{arith}
 use Rattle.std.proofs.Math.Decide.{dec_lt}
 use Rattle.rules.specs.Types.{Wire}
@@ -13,8 +13,7 @@ use Rattle.listing.specs.Reading.{input_count, gate_count, output_count, outputs
 use Rattle.listing.proofs.Laws.Decoding.{length_words, length_inputs, length_first}
 use Rattle.wire_table.specs.WireRules.{WrongGate, the_newest, an_older, WrongOutput, this_output, later_output}
 use Rattle.wire_table.specs.WireRules.{Makes, an_input, newest_makes, older_makes, BrokenAt, at_gate, at_output, at_maker}
-use Rattle.listing_check.specs.declared.ListingAnswer.{ListingAnswer}
-use Rattle.listing_check.specs.declared.ListingAnswer.TheVariants.{Accepted, Refused}
+use Rattle.listing_check.specs.declared.ListingSizes.{ListingSizes}
 use Rattle.listing_check.specs.Answers.{listing_check_of}
 use Rattle.listing_check.specs.Meaning.{SizesWrong, many_inputs, many_gates, many_outputs, other_length}
 use Rattle.listing_check.proofs.Laws.Judging.{at_most, Judged, sizes_wrong_lem, entry_wrong_lem, wires_wrong_lem, all_right}
@@ -57,17 +56,17 @@ OfListing last (Typing number place) = ⊥
 OfListing last (Run number place) = (24 ≤ number) × (number ≤ last)
 
 -- What an answer is bounded by.
-abbrev pub ListingBounds : ℕ → ListingAnswer → Type 0
-ListingBounds last (Accepted inputs gates outputs) = (inputs ≤ most_labels) × (gates ≤ most_gates) × (outputs ≤ most_outputs)
-ListingBounds last (Refused x) = OfListing last x × (refusal_place x < most_listed)
+abbrev pub ListingBounds : ℕ → Result ListingSizes Refusal → Type 0
+ListingBounds last (Ok n) = (n.inputs ≤ most_labels) × (n.gates ≤ most_gates) × (n.outputs ≤ most_outputs)
+ListingBounds last (Err x) = OfListing last x × (refusal_place x < most_listed)
 
 module _ (b : List ℕ) where
   -- Sizes that are not wrong are within their most.
-  sizes_within : (SizesWrong b → ⊥) → ListingBounds 26 (Accepted (input_count b) (gate_count b) (output_count b))
+  sizes_within : (SizesWrong b → ⊥) → ListingBounds 26 (Ok (record { inputs = input_count b; gates = gate_count b; outputs = output_count b }))
   sizes_within f =
       (at_most (λ h. f (many_inputs h)), at_most (λ h. f (many_gates h)), at_most (λ h. f (many_outputs h)))
 
-  judged_within : {a : ListingAnswer} → Judged b a → ListingBounds 26 a
+  judged_within : {a : Result ListingSizes Refusal} → Judged b a → ListingBounds 26 a
   judged_within (sizes_wrong_lem h) = ((omega arith, omega arith), omega arith)
   judged_within (entry_wrong_lem f first) =
       let s = sizes_within f in
@@ -98,5 +97,5 @@ long_wrong b long =
     of (no n) (no m) (yes p) = many_outputs p
     of (no n) (no m) (no k) = other_length (λ e. omega arith)
 
-pub long_refused : (b : List ℕ) → most_bytes < length b → listing_check_of b ≡ Refused (Run 24 0)
+pub long_refused : (b : List ℕ) → most_bytes < length b → listing_check_of b ≡ Err (Run 24 0)
 long_refused b long = judged_answer b (sizes_wrong_lem (long_wrong b long))

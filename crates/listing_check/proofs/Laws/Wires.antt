@@ -1,5 +1,5 @@
 -- Laws of the walk through a listing's inputs, gates and outputs with the table of wires.
-use Rattle.std.specs.Prelude.{ℕ, zero, suc, ◌+◌, ◌-◌, ◌*◌, ◌≤◌, ◌<◌, ◌≡◌, refl, Bool, true, false, cond, List, [], ◌∷◌, ◌++◌, ltb, get_or, set}
+use Rattle.std.specs.Prelude.{ℕ, zero, suc, ◌+◌, ◌-◌, ◌*◌, ◌≤◌, ◌<◌, ◌≡◌, refl, Bool, true, false, cond, List, [], ◌∷◌, ◌++◌, ltb, get_or, set, Option as Found, Some, None, Result, Ok}
 use Rattle.std.proofs.Common.{arith, sym, ◌∙◌, ap₂, subst, append_assoc, append-nil, length-append, lt-ltb, le-ltb}
 use Rattle.std.proofs.Math.Path.{ap}
 use Rattle.std.proofs.Math.Option.{Option, none, some}
@@ -9,6 +9,7 @@ use Rattle.rules.specs.Gates.{gate_type, gate_outputs, input_wires, wires_in, wi
 use Rattle.rules.specs.Terms.{Gate}
 use Rattle.rules.specs.Circuits.{outputs, taken, count}
 use Rattle.rules.proofs.Laws.Wires.{count_append}
+use Rattle.refusals.specs.declared.Refusal.{Refusal}
 use Rattle.words.specs.Numbers.{words_at}
 use Rattle.words.proofs.Laws.Numbers.{one_left}
 use Rattle.listing.specs.Listing.{entry_slots}
@@ -18,21 +19,21 @@ use Rattle.listing.proofs.Laws.ReadBack.{made_fit}
 use Rattle.listing.proofs.Laws.Decoding.{length_inputs, length_first}
 use Rattle.wire_table.specs.Wires.{there, is_there, or_else, first_wrong_gate, first_wrong_output, first_where, lowest_left}
 use Rattle.wire_table.specs.Wires.{placed, maker, broken_at}
-use Rattle.wire_table.specs.Table.{Holds, one_more_than, TakesAll, MakesAll}
+use Rattle.words.specs.Found.{option_of}
+use Rattle.wire_table.specs.Table.{Holds, TakesAll, MakesAll}
 use Rattle.wire_table.proofs.Laws.Table.{byte_there, taken_out, same_gone, lowest_read}
-use Rattle.listing_check.specs.declared.ListingAnswer.{ListingAnswer}
-use Rattle.listing_check.specs.declared.ListingAnswer.TheVariants.{Accepted}
+use Rattle.listing_check.specs.declared.ListingSizes.{ListingSizes}
 use Rattle.listing_check.specs.Answers.{wires_judged, most_wires}
 use Rattle.listing_check.specs.Wires.{Whole, GatesRead, OutputsRead, refused_with}
 
--- What a number says that is one more than what was found, or 0.
-pub found_some : (o : Option ℕ) (found : ℕ) → found ≡ one_more_than o → 0 < found → o ≡ some (found - 1)
-found_some none found e h = absurd (omega arith)
-found_some (some n) found e h = let same : n ≡ found - 1 = omega arith in ap some same
+-- What the code's Option says of what was found.
+pub found_some : (o : Option ℕ) {n : ℕ} → option_of o ≡ Some n → o ≡ some n
+found_some none e = let z : ◌≡◌ {A = ℕ} 0 1 = cc in absurd (omega arith)
+found_some (some m) {n} e = let same : m ≡ n = cc in ap some same
 
-pub found_none : (o : Option ℕ) (found : ℕ) → found ≡ one_more_than o → found ≡ 0 → o ≡ none
-found_none none found e z = refl
-found_none (some n) found e z = absurd (omega arith)
+pub found_none : (o : Option ℕ) → option_of o ≡ None → o ≡ none
+found_none none e = refl
+found_none (some m) e = let z : ◌≡◌ {A = ℕ} 0 1 = cc in absurd (omega arith)
 
 -- What is found first, and what is found where nothing is found first.
 first_kept : (o later : Option ℕ) {n : ℕ} → o ≡ some n → or_else o later ≡ some n
@@ -48,6 +49,13 @@ pub next_input : (b : List ℕ) (n i : ℕ)
 next_input b n i below =
     let next : suc i ≡ i + 1 = omega arith in
     ap (inputs_from b i) (one_left n i below) ∙ ap (λ j. input_type (kind_at b i) ∷ inputs_from b j (n - (i + 1))) next
+
+-- The kind of gate i, with the number of inputs that was read.
+pub gate_kind_is : (b : List ℕ) (i : ℕ) {inputs kind : ℕ}
+    → kind ≡ kind_at b (inputs + i)
+    → inputs ≡ input_count b
+    → kind ≡ kind_at b (input_count b + i)
+gate_kind_is b i e is = e ∙ ap (λ n. kind_at b (n + i)) is
 
 -- No gate makes more wires than an entry has slots, so the first gates make no more than this.
 made_few : (n : ℕ) → length (gate_outputs n) ≤ entry_slots
@@ -152,21 +160,21 @@ module _ (b : List ℕ) (i made : ℕ) (m m₁ : List ℕ) (from : ℕ) (here : 
       ap₂ (λ o t. or_else o (cond t none (some (length (first_gates b i))))) t.none_wrong (sym a.answers ∙ e)
       ∙ ap some (length_first b i)
 
-  pub gate_wrong : (m₂ : List ℕ) (found : ℕ) → found ≡ i + 1 → i < gate_count b → all ≡ false → GatesRead b m₂ found
-  gate_wrong m₂ found is below e =
+  pub gate_wrong : (m₂ : List ℕ) → i < gate_count b → all ≡ false → GatesRead b m₂ (Some i)
+  gate_wrong m₂ below e =
       let rest : gate_count b - suc i + suc i ≡ gate_count b = omega arith in
       let first = ap (λ j. first_wrong_gate (inputs_of b) (first_gates b j)) (sym rest) ∙ wrong_kept b i (gate_count b - suc i) (wrong_here e) in
       record {
-        answers = is ∙ omega (arith, ap one_more_than first);
-        few = omega arith;
-        holds = λ z. absurd (omega arith);
+        answers = sym (ap option_of first);
+        few = λ j z. let same : i ≡ j = cc in omega (arith, below);
+        holds = λ z. let y : ◌≡◌ {A = ℕ} 0 1 = cc in absurd (omega arith);
       }
 
-pub gates_end : (b m : List ℕ) (i made : ℕ) → i ≡ gate_count b → GatesSoFar b m i made → GatesRead b m 0
+pub gates_end : (b m : List ℕ) (i made : ℕ) → i ≡ gate_count b → GatesSoFar b m i made → GatesRead b m None
 gates_end b m i made e t =
     record {
-      answers = sym (ap one_more_than (ap (λ j. first_wrong_gate (inputs_of b) (first_gates b j)) (sym e) ∙ t.none_wrong));
-      few = omega arith;
+      answers = sym (ap option_of (ap (λ j. first_wrong_gate (inputs_of b) (first_gates b j)) (sym e) ∙ t.none_wrong));
+      few = λ j z. let y : ◌≡◌ {A = ℕ} 0 1 = cc in absurd (omega arith);
       holds = λ z. subst (λ j. Holds m (inputs_of b ++ outputs (first_gates b j)) (taken (first_gates b j))) e t.held;
     }
 
@@ -204,26 +212,25 @@ module _ {types : List Wire} {gone outs m : List ℕ} where
               counted = λ v. omega (arith, t.counted v);
             }
 
-    pub leaving_wrong : (m' : List ℕ) (found : ℕ)
+    pub leaving_wrong : (m' : List ℕ)
         → ltb 0 (get_or m w 0) ≡ false
-        → found ≡ j + 1
         → j < length outs
-        → OutputsRead types gone outs m' found
-    leaving_wrong m' found e is below =
+        → OutputsRead types gone outs m' (Some j)
+    leaving_wrong m' e below =
         let first : first_wrong_output types gone 0 outs ≡ some j
         = t.same
         ∙ ap (λ x. cond x (first_wrong_output types (w ∷ t.so_far) (suc j) rest) (some j)) (sym there_read ∙ e) in
         record {
-          answers = is ∙ omega (arith, ap one_more_than first);
-          few = omega arith;
-          holds = λ z. absurd (omega arith);
+          answers = sym (ap option_of first);
+          few = λ i z. let same : j ≡ i = cc in omega (arith, below);
+          holds = λ z. let y : ◌≡◌ {A = ℕ} 0 1 = cc in absurd (omega arith);
         }
 
-  pub leaving_end : {j : ℕ} → Leaving types gone outs m j [] → OutputsRead types gone outs m 0
+  pub leaving_end : {j : ℕ} → Leaving types gone outs m j [] → OutputsRead types gone outs m None
   leaving_end t =
       record {
-        answers = sym (ap one_more_than t.same);
-        few = omega arith;
+        answers = sym (ap option_of t.same);
+        few = λ i z. let y : ◌≡◌ {A = ℕ} 0 1 = cc in absurd (omega arith);
         holds = λ z. same_gone (outs ++ gone) (λ w. omega (arith, t.counted w)) t.held;
       }
 
@@ -325,51 +332,54 @@ whole_kept m' e fits =
 
 -- The answer at each stage: a gate is wrong, an output is, a wire is left over, or no rule is broken.
 module _ (b : List ℕ) where
-  abbrev answer_is : ListingAnswer → Type 0
+  abbrev answer_is : Result ListingSizes Refusal → Type 0
   answer_is x = x ≡ wires_judged b (broken_at (inputs_of b) (gates_of b) (outputs_of b))
 
-  module _ {m : List ℕ} {gate inputs : ℕ} (G : GatesRead b m gate) (is : inputs ≡ input_count b) where
-    pub gate_answered : 0 < gate → answer_is (refused_with 26 (inputs + (gate - 1)))
-    gate_answered h =
-        ap (refused_with 26) (ap (λ n. n + (gate - 1)) (is ∙ sym (length_inputs b 0 (input_count b))))
-        ∙ sym (ap (wires_judged b) (broken_gate (inputs_of b) (gates_of b) (outputs_of b) (found_some _ gate G.answers h)))
+  module _ {m : List ℕ} {gate : Found ℕ} {inputs : ℕ} (G : GatesRead b m gate) (is : inputs ≡ input_count b) where
+    pub gate_answered : (i : ℕ) → gate ≡ Some i → answer_is (refused_with 26 (inputs + i))
+    gate_answered i h =
+        ap (refused_with 26) (ap (λ n. n + i) (is ∙ sym (length_inputs b 0 (input_count b))))
+        ∙ sym (ap (wires_judged b) (broken_gate (inputs_of b) (gates_of b) (outputs_of b) (found_some _ (sym G.answers ∙ h))))
 
-    module _ {m' : List ℕ} {output gates : ℕ} (right : gate ≡ 0) (has : gates ≡ gate_count b)
+    module _ {m' : List ℕ} {output : Found ℕ} {gates : ℕ} (right : gate ≡ None) (has : gates ≡ gate_count b)
         (U : OutputsRead (inputs_of b ++ outputs (gates_of b)) (taken (gates_of b)) (outputs_of b) m' output) where
       none_wrong : first_wrong_gate (inputs_of b) (gates_of b) ≡ none
-      none_wrong = found_none _ gate G.answers right
+      none_wrong = found_none _ (sym G.answers ∙ right)
 
-      pub output_answered : 0 < output → answer_is (refused_with 26 (inputs + gates + (output - 1)))
-      output_answered h =
+      pub output_answered : (j : ℕ) → output ≡ Some j → answer_is (refused_with 26 (inputs + gates + j))
+      output_answered j h =
           ap (refused_with 26)
-          (ap₂ (λ n k. n + k + (output - 1)) (is ∙ sym (length_inputs b 0 (input_count b))) (has ∙ sym (length_first b (gate_count b))))
+          (ap₂ (λ n k. n + k + j) (is ∙ sym (length_inputs b 0 (input_count b))) (has ∙ sym (length_first b (gate_count b))))
           ∙ sym (ap (wires_judged b)
-          (broken_output (inputs_of b) (gates_of b) (outputs_of b) none_wrong (found_some _ output U.answers h)))
+          (broken_output (inputs_of b) (gates_of b) (outputs_of b) none_wrong (found_some _ (sym U.answers ∙ h))))
 
-      module _ {left : ℕ} (outs_right : output ≡ 0) (fits : Whole b m')
-          (found : left ≡ one_more_than (first_where (λ w. ltb 0 (get_or m' w 0)) 0 most_wires)) where
-        lowest : left ≡ one_more_than (lowest_left (inputs_of b ++ outputs (gates_of b)) (taken (gates_of b) ++ outputs_of b))
-        lowest = found ∙ ap one_more_than (left_read b m' fits (U.holds outs_right))
+      module _ {left : Found ℕ} (outs_right : output ≡ None) (fits : Whole b m')
+          (found : left ≡ option_of (first_where (λ w. ltb 0 (get_or m' w 0)) 0 most_wires)) where
+        lowest : left ≡ option_of (lowest_left (inputs_of b ++ outputs (gates_of b)) (taken (gates_of b) ++ outputs_of b))
+        lowest = found ∙ ap option_of (left_read b m' fits (U.holds outs_right))
 
         at_left : (o : Option ℕ)
             → lowest_left (inputs_of b ++ outputs (gates_of b)) (taken (gates_of b) ++ outputs_of b) ≡ o
             → broken_at (inputs_of b) (gates_of b) (outputs_of b) ≡ placed (maker (inputs_of b) (gates_of b)) o
         at_left =
-            broken_left (inputs_of b) (gates_of b) (outputs_of b) none_wrong (found_none _ output U.answers outs_right)
+            broken_left (inputs_of b) (gates_of b) (outputs_of b) none_wrong (found_none _ (sym U.answers ∙ outs_right))
 
-        pub left_made : 0 < left → left - 1 < length (inputs_of b ++ outputs (gates_of b))
-        left_made h =
-            omega (arith, found_within _ 0 (length (inputs_of b ++ outputs (gates_of b))) (left - 1) (found_some _ left lowest h))
+        pub left_made : (w : ℕ) → left ≡ Some w → w < length (inputs_of b ++ outputs (gates_of b))
+        left_made w h =
+            omega (arith, found_within _ 0 (length (inputs_of b ++ outputs (gates_of b))) w (found_some _ (sym lowest ∙ h)))
 
-        pub left_answered : (place : ℕ)
-            → 0 < left
-            → place ≡ maker (inputs_of b) (gates_of b) (left - 1)
+        pub left_answered : (w place : ℕ)
+            → left ≡ Some w
+            → place ≡ maker (inputs_of b) (gates_of b) w
             → answer_is (refused_with 26 place)
-        left_answered place h e =
-            ap (refused_with 26) e ∙ sym (ap (wires_judged b) (at_left (some (left - 1)) (found_some _ left lowest h)))
+        left_answered w place h e =
+            ap (refused_with 26) e ∙ sym (ap (wires_judged b) (at_left (some w) (found_some _ (sym lowest ∙ h))))
 
-        pub all_answered : (outs : ℕ) → left ≡ 0 → outs ≡ output_count b → answer_is (Accepted inputs gates outs)
+        pub all_answered : (outs : ℕ)
+            → left ≡ None
+            → outs ≡ output_count b
+            → answer_is (Ok (record { inputs = inputs; gates = gates; outputs = outs }))
         all_answered outs h o =
-            ap₂ (λ x y. Accepted x y outs) is has
-            ∙ ap (Accepted (input_count b) (gate_count b)) o
-            ∙ sym (ap (wires_judged b) (at_left none (found_none _ left lowest h)))
+            ap₂ (λ x y. Ok (record { inputs = x; gates = y; outputs = outs })) is has
+            ∙ ap (λ z. Ok (record { inputs = input_count b; gates = gate_count b; outputs = z })) o
+            ∙ sym (ap (wires_judged b) (at_left none (found_none _ (sym lowest ∙ h))))

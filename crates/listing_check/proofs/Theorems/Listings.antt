@@ -1,5 +1,5 @@
 -- Each answer of the check of a listing is given exactly where 02 says so (ticket 3).
-use Rattle.std.specs.Prelude.{ℕ, ◌<◌, ◌≡◌, ◌⊎◌, List, get_or}
+use Rattle.std.specs.Prelude.{ℕ, ◌<◌, ◌≡◌, ◌⊎◌, List, get_or, Result, Ok, Err}
 use Rattle.std.proofs.Common.{arith, sym, ◌∙◌, ap, subst, inl, inr}
 use Rattle.refusals.specs.declared.Refusal.{Refusal}
 use Rattle.refusals.specs.declared.Refusal.TheVariants.{Run}
@@ -7,42 +7,41 @@ use Rattle.refusals.specs.Refusals.{refusal_number, refusal_place}
 use Rattle.listing.specs.Reading.{input_count, gate_count, output_count, outputs_from, inputs_of, gates_of, outputs_of}
 use Rattle.listing.proofs.Laws.Decoding.{length_words, length_inputs, length_first, decoded}
 use Rattle.wire_table.specs.WireRules.{First, NoSuch, BrokenAt}
-use Rattle.listing_check.specs.declared.ListingAnswer.{ListingAnswer}
-use Rattle.listing_check.specs.declared.ListingAnswer.TheVariants.{Accepted, Refused}
+use Rattle.listing_check.specs.declared.ListingSizes.{ListingSizes}
 use Rattle.listing_check.specs.Meaning.{SoundListing, SizesWrong, many_inputs, many_gates, many_outputs, WrongEntry}
 use Rattle.listing_check.specs.Meaning.{ListingMeans}
 use Rattle.listing_check.proofs.Laws.Judging.{at_most, right_form, Judged, sizes_wrong_lem, entry_wrong_lem, wires_wrong_lem}
 use Rattle.listing_check.proofs.Laws.Judging.{all_right, listing_judged, judged_answer, sound_read, sound_accepted}
 
 -- The number and the place of a refusal, and the three numbers of an acceptance; 0 for the other answer.
-abbrev number : ListingAnswer → ℕ
-number (Accepted L G O) = 0
-number (Refused x) = refusal_number x
+abbrev number : Result ListingSizes Refusal → ℕ
+number (Ok n) = 0
+number (Err x) = refusal_number x
 
-abbrev place : ListingAnswer → ℕ
-place (Accepted L G O) = 0
-place (Refused x) = refusal_place x
+abbrev place : Result ListingSizes Refusal → ℕ
+place (Ok n) = 0
+place (Err x) = refusal_place x
 
-abbrev inputs : ListingAnswer → ℕ
-inputs (Accepted L G O) = L
-inputs (Refused x) = 0
+abbrev inputs : Result ListingSizes Refusal → ℕ
+inputs (Ok n) = n.inputs
+inputs (Err x) = 0
 
-abbrev gates : ListingAnswer → ℕ
-gates (Accepted L G O) = G
-gates (Refused x) = 0
+abbrev gates : Result ListingSizes Refusal → ℕ
+gates (Ok n) = n.gates
+gates (Err x) = 0
 
-abbrev outputs : ListingAnswer → ℕ
-outputs (Accepted L G O) = O
-outputs (Refused x) = 0
+abbrev outputs : Result ListingSizes Refusal → ℕ
+outputs (Ok n) = n.outputs
+outputs (Err x) = 0
 
-abbrev refusal : ListingAnswer → Refusal
-refusal (Accepted L G O) = Run 0 0
-refusal (Refused x) = x
+abbrev refusal : Result ListingSizes Refusal → Refusal
+refusal (Ok n) = Run 0 0
+refusal (Err x) = x
 
 module _ (b : List ℕ) where
   -- Bytes with right sizes and entries, of which each wire goes once, are a sound listing.
   accepted_sound : ((i : ℕ) → get_or b i 0 < 256)
-      → {a : ListingAnswer} (L G O : ℕ) → Judged b a → a ≡ Accepted L G O → SoundListing b L G O
+      → {a : Result ListingSizes Refusal} (L G O : ℕ) → Judged b a → a ≡ Ok (record { inputs = L; gates = G; outputs = O }) → SoundListing b L G O
   accepted_sound small L G O (sizes_wrong_lem h) e = let z = ap number e in absurd (omega arith)
   accepted_sound small L G O (entry_wrong_lem f first) e = let z = ap number e in absurd (omega arith)
   accepted_sound small L G O (wires_wrong_lem f n broken) e = let z = ap number e in absurd (omega arith)
@@ -65,22 +64,22 @@ module _ (b : List ℕ) where
       }
 
   -- What was found where the answer is 24, 25 or 26.
-  found_24 : {a : ListingAnswer} → Judged b a → a ≡ Refused (Run 24 0) → SizesWrong b
+  found_24 : {a : Result ListingSizes Refusal} → Judged b a → a ≡ Err (Run 24 0) → SizesWrong b
   found_24 (sizes_wrong_lem h) e = h
   found_24 (entry_wrong_lem f first) e = let z = ap number e in absurd (omega arith)
   found_24 (wires_wrong_lem f n broken) e = let z = ap number e in absurd (omega arith)
   found_24 (all_right f n goes) e = let z = ap number e in absurd (omega arith)
 
-  found_25 : {a : ListingAnswer} (p : ℕ)
-      → Judged b a → a ≡ Refused (Run 25 p) → (SizesWrong b → ⊥) × First (WrongEntry b) p
+  found_25 : {a : Result ListingSizes Refusal} (p : ℕ)
+      → Judged b a → a ≡ Err (Run 25 p) → (SizesWrong b → ⊥) × First (WrongEntry b) p
   found_25 p (sizes_wrong_lem h) e = let z = ap number e in absurd (omega arith)
   found_25 p (entry_wrong_lem f first) e = (f, subst (First (WrongEntry b)) (ap place e) first)
   found_25 p (wires_wrong_lem f n broken) e = let z = ap number e in absurd (omega arith)
   found_25 p (all_right f n goes) e = let z = ap number e in absurd (omega arith)
 
-  found_26 : {a : ListingAnswer} (p : ℕ)
+  found_26 : {a : Result ListingSizes Refusal} (p : ℕ)
       → Judged b a
-      → a ≡ Refused (Run 26 p)
+      → a ≡ Err (Run 26 p)
       → (SizesWrong b → ⊥) × NoSuch (WrongEntry b) × BrokenAt (inputs_of b) (gates_of b) (outputs_of b) p
   found_26 p (sizes_wrong_lem h) e = let z = ap number e in absurd (omega arith)
   found_26 p (entry_wrong_lem f first) e = let z = ap number e in absurd (omega arith)
@@ -89,9 +88,9 @@ module _ (b : List ℕ) where
   found_26 p (all_right f n goes) e = let z = ap number e in absurd (omega arith)
 
   -- There is no other refusal.
-  refused_so : {a : ListingAnswer} (x : Refusal)
+  refused_so : {a : Result ListingSizes Refusal} (x : Refusal)
       → Judged b a
-      → a ≡ Refused x
+      → a ≡ Err x
       → (x ≡ Run 24 0) ⊎ (((p : ℕ) × (x ≡ Run 25 p)) ⊎ ((p : ℕ) × (x ≡ Run 26 p)))
   refused_so x (sizes_wrong_lem h) e = inl (sym (ap refusal e))
   refused_so x (entry_wrong_lem {p = p} f first) e = inr (inl (p, sym (ap refusal e)))

@@ -14,9 +14,6 @@ returns-then-work-lt-LEAST_WORK c =
       meaning = listing_means b (λ j. (c.type_inv.listing j).fits);
     }
 
-pub shape_of-work : goal.shape_of-work
-shape_of-work c = c.clear.auto.memory ∙ c.check_uncleared-answer.auto.work
-
 pub returns : goal.returns
 returns c =
     let a = c.args in

@@ -1,4 +1,4 @@
-use Prim.Native.Nat.{◌-◌, ◌≤◌}
+use Prim.Native.Nat.{◌≤◌}
 use mathlib.Core.Path.{◌≡◌}
 use lib.ListN.{length}
 use Rattle.machine_nodes.specs.Nodes.{nodes_in}
@@ -6,8 +6,4 @@ use Rattle.listing_writer.specs.Parts.{outputs_read}
 use Rattle.listing_writer.proofs.count_labels.Given as goal
 
 abbrev pub invariant-loop-i : goal.invariant-loop-i
-invariant-loop-i l =
-    (l.i ≤ l.size) × (l.found ≤ l.i) × (l.found ≡ length (outputs_read (nodes_in l.nodes) l.i))
-
-abbrev pub decreases-loop-i : goal.decreases-loop-i
-decreases-loop-i l = l.size - l.i
+invariant-loop-i l = (l.found ≤ l.i) × (l.found ≡ length (outputs_read (nodes_in l.nodes) l.i))

@@ -1,12 +1,7 @@
 -- `listing_writer::put_bytes` meets its contract. Assumes nothing.
 use Prim.Native.Nat.{◌/◌, ◌%◌}
-use native.Mathlib.Omega.{arith}
-use lib.ListN.{length-set}
 use Rattle.listing.proofs.Laws.Pieces.{over_two}
 use Rattle.listing_writer.proofs.put_bytes.Goals as goal
-
-pub bounds-out-at-2 : goal.bounds-out-at-2
-bounds-out-at-2 c = simp length-set (omega arith)
 
 pub returns : goal.returns
 returns c =

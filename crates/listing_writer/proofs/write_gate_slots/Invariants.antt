@@ -1,6 +1,4 @@
-use Prim.Native.Nat.{◌-◌, ◌≤◌}
 use mathlib.Core.Path.{◌≡◌}
-use lib.ListN.{length}
 use Rattle.words.specs.Regions.{over}
 use Rattle.words.specs.Quadwords.{quadwords_in}
 use Rattle.listing.specs.Pieces.{pieces}
@@ -8,10 +6,4 @@ use Rattle.listing_writer.specs.Parts.{slots_piece}
 use Rattle.listing_writer.proofs.write_gate_slots.Given as goal
 
 abbrev pub invariant-loop-i : goal.invariant-loop-i
-invariant-loop-i l =
-    (l.i ≤ l.count)
-    × (length l.out ≡ length l.initial.out)
-    × (l.out ≡ over l.initial.out l.at (pieces (slots_piece (quadwords_in l.gates)) l.i))
-
-abbrev pub decreases-loop-i : goal.decreases-loop-i
-decreases-loop-i l = l.count - l.i
+invariant-loop-i l = l.out ≡ over l.initial.out l.at (pieces (slots_piece (quadwords_in l.gates)) l.i-counter)

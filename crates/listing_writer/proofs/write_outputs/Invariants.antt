@@ -1,4 +1,3 @@
-use Prim.Native.Nat.{◌-◌, ◌≤◌}
 use mathlib.Core.Path.{◌≡◌}
 use mathlib.Core.List.{flat_map}
 use lib.ListN.{length}
@@ -10,10 +9,5 @@ use Rattle.listing_writer.proofs.write_outputs.Given as goal
 
 abbrev pub invariant-loop-i : goal.invariant-loop-i
 invariant-loop-i l =
-    (l.i ≤ l.size)
-    × (length l.out ≡ length l.initial.out)
-    × (l.found ≡ length (outputs_read (nodes_in l.nodes) l.i))
+    (l.found ≡ length (outputs_read (nodes_in l.nodes) l.i))
     × (l.out ≡ over l.initial.out l.at (flat_map bytes_of (outputs_read (nodes_in l.nodes) l.i)))
-
-abbrev pub decreases-loop-i : goal.decreases-loop-i
-decreases-loop-i l = l.size - l.i

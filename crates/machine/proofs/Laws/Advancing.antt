@@ -1,6 +1,6 @@
 -- Laws of one step with the walk before it, and of steps one after another.
-use Rattle.std.specs.Prelude.{ℕ, suc, ◌+◌, ◌-◌, ◌≤◌, ◌<◌, ◌≡◌, refl, ◌⊎◌, Bool, true, false, ◌&&◌, List, ◌∷◌, leb, length}
-use Rattle.std.proofs.Common.{arith, sym, ◌∙◌, ap, subst, inl, inr, le-leb, leb-true, leb-false}
+use Rattle.std.specs.Prelude.{ℕ, suc, ◌+◌, ◌-◌, ◌≤◌, ◌<◌, ◌≡◌, refl, ◌⊎◌, Bool, true, false, ◌&&◌, List, ◌∷◌, leb, length, Some, None}
+use Rattle.std.proofs.Common.{arith, sym, ◌∙◌, ap, subst, inl, inr, le-leb, leb-true}
 use Rattle.std.proofs.Math.Option.{none, some, map}
 use Rattle.rules.specs.Types.{Ty}
 use Rattle.rules.specs.Steps.{Configuration}
@@ -29,16 +29,14 @@ use Rattle.machine_walk.specs.declared.Stopped.{Stopped as StoppedPlace}
 use Rattle.words.specs.Quadwords.{Quadword}
 use Rattle.words.proofs.Laws.Numbers.{one_left}
 use Rattle.machine_state.specs.declared.StateNumbers.{StateNumbers}
-use Rattle.machine_state.specs.declared.Stepped.TheVariants.{Taken, TooLarge as StepTooLarge}
 use Rattle.machine_state.specs.Memory.{Memory, memory}
 use Rattle.machine_state.specs.Outcomes.{PartsFit, SizesFit, walk_of, AtStop, Steps}
 use Rattle.machine.specs.declared.Ending.{Ending as EndingAnswer}
 use Rattle.machine.specs.declared.Ending.TheVariants.{Finished, Running, TooLarge}
-use Rattle.machine.specs.declared.Progress.{Progress}
-use Rattle.machine.specs.declared.Progress.TheVariants.{GoesOn, Ends}
+use Rattle.std.specs.declared.ops.ControlFlow.TheVariants.{Continue, Break}
 use Rattle.machine.specs.Advancing.{Ready, AdvancedTo, Advances}
 use Rattle.machine.proofs.Laws.Progress.{moved_to, AllUnderway}
-use Rattle.machine.specs.Progress.{Underway, is_end, ProgressTo, AdvancesOnce}
+use Rattle.machine.specs.Progress.{Underway, is_end, AdvancesOnce}
 
 -- The sizes of a state are those of its configuration.
 pub fits_state : (types : ℕ → Ty) (positions allowance : ℕ) (s : State)
@@ -257,7 +255,7 @@ module _ (types : ℕ → Ty) (positions : ℕ) (A : Ty) (allowance k n : ℕ) (
 
     -- The step is taken.
     pub progress_taken : (r' : StateNumbers)
-        → Steps stop allowance m m' r (Taken r')
+        → Steps stop allowance m m' r (Some r')
         → Underway types positions A allowance k (n + 1) m' r' s₀
     progress_taken r' steps =
         let g = the_step in
@@ -280,7 +278,7 @@ module _ (types : ℕ → Ty) (positions : ℕ) (A : Ty) (allowance k n : ℕ) (
         }
 
     -- The step does not fit.
-    pub progress_exceeding : Steps stop allowance m m' r StepTooLarge
+    pub progress_exceeding : Steps stop allowance m m' r None
         → AdvancedTo types positions A allowance k m' s₀ (record { ending = TooLarge; steps = n; numbers = r })
     progress_exceeding steps =
         let g = the_step in
@@ -323,7 +321,6 @@ not_end s e p = ends_apart (sym e ∙ ap is_end p)
 module _ (ns ns' : List Node) (rs rs' : List Quadword) (gs cs fs : List Quadword) (ws : List ℕ) (results : ℕ → List ℕ)
     (r : StateNumbers)
     (p : StoppedPlace)
-    (last : Bool)
     (allowance : ℕ)
     (walks : Walks ns rs ns' rs' r.place p) where
   module _ (types : ℕ → Ty) (positions : ℕ) (A : Ty) (s₀ : State) (k n : ℕ)
@@ -342,9 +339,9 @@ module _ (ns ns' : List Node) (rs rs' : List Quadword) (gs cs fs : List Quadword
     now_rest = ap (advanced allowance (k - n) n) (walk_decode types u.state_now) ∙ u.rest
 
   pub once_finished : is_end (stop_of p.stop) ≡ true
-      → AdvancesOnce last allowance (memory ns rs gs cs fs ws results) (memory ns' rs' gs cs fs ws results) r
-      (Ends Finished (moved_to r p))
-  once_finished e = λ types positions A s₀ k n few le m u.
+      → AdvancesOnce allowance (memory ns rs gs cs fs ws results) (memory ns' rs' gs cs fs ws results) r
+      (Break (Finished, moved_to r p))
+  once_finished e = λ types positions A s₀ k n few le u.
       progress_finished types positions A allowance k n (memory ns' rs' gs cs fs ws results) (moved_to r p) s₀
       (walk_state u.state_now)
       (stop_of p.stop)
@@ -353,26 +350,11 @@ module _ (ns ns' : List Node) (rs rs' : List Quadword) (gs cs fs : List Quadword
       (now_rest types positions A s₀ k n u)
       (end_is (stop_of p.stop) e)
 
-  pub once_running : is_end (stop_of p.stop) ≡ false
-      → last ≡ true
-      → AdvancesOnce last allowance (memory ns rs gs cs fs ws results) (memory ns' rs' gs cs fs ws results) r
-      (Ends Running (moved_to r p))
-  once_running e none_more = λ types positions A s₀ k n few le m u.
-      progress_running types positions A allowance k n (memory ns' rs' gs cs fs ws results) (moved_to r p) s₀
-      (walk_state u.state_now)
-      (stop_of p.stop)
-      (now_ready types positions A s₀ k n u)
-      (now_stopped types positions A s₀ k n u)
-      (now_rest types positions A s₀ k n u)
-      (not_end (stop_of p.stop) e)
-      (let all = leb-true k n (sym m ∙ none_more) in omega arith)
-
   pub once_taken : (m'' : Memory) (r' : StateNumbers)
-      → is_end (stop_of p.stop) ≡ false
-      → last ≡ false
-      → Steps (stop_of p.stop) allowance (memory ns' rs' gs cs fs ws results) m'' (moved_to r p) (Taken r')
-      → AdvancesOnce last allowance (memory ns rs gs cs fs ws results) m'' r (GoesOn r')
-  once_taken m'' r' e one_more steps = λ types positions A s₀ k n few le m u.
+      → (is_end (stop_of p.stop) ≡ false)
+      → Steps (stop_of p.stop) allowance (memory ns' rs' gs cs fs ws results) m'' (moved_to r p) (Some r')
+      → AdvancesOnce allowance (memory ns rs gs cs fs ws results) m'' r (Continue r')
+  once_taken m'' r' other steps = λ types positions A s₀ k n few more u.
       progress_taken types positions A allowance k n (memory ns' rs' gs cs fs ws results) (moved_to r p) s₀
       (walk_state u.state_now)
       (stop_of p.stop)
@@ -380,18 +362,17 @@ module _ (ns ns' : List Node) (rs rs' : List Quadword) (gs cs fs : List Quadword
       (now_stopped types positions A s₀ k n u)
       (now_rest types positions A s₀ k n u)
       m''
-      (not_end (stop_of p.stop) e)
-      (leb-false k n (sym m ∙ one_more))
+      (not_end (stop_of p.stop) other)
+      more
       few
       r'
       steps
 
   pub once_exceeding : (m'' : Memory)
-      → is_end (stop_of p.stop) ≡ false
-      → last ≡ false
-      → Steps (stop_of p.stop) allowance (memory ns' rs' gs cs fs ws results) m'' (moved_to r p) StepTooLarge
-      → AdvancesOnce last allowance (memory ns rs gs cs fs ws results) m'' r (Ends TooLarge (moved_to r p))
-  once_exceeding m'' e one_more steps = λ types positions A s₀ k n few le m u.
+      → (is_end (stop_of p.stop) ≡ false)
+      → Steps (stop_of p.stop) allowance (memory ns' rs' gs cs fs ws results) m'' (moved_to r p) None
+      → AdvancesOnce allowance (memory ns rs gs cs fs ws results) m'' r (Break (TooLarge, moved_to r p))
+  once_exceeding m'' other steps = λ types positions A s₀ k n few more u.
       progress_exceeding types positions A allowance k n (memory ns' rs' gs cs fs ws results) (moved_to r p) s₀
       (walk_state u.state_now)
       (stop_of p.stop)
@@ -399,35 +380,60 @@ module _ (ns ns' : List Node) (rs rs' : List Quadword) (gs cs fs : List Quadword
       (now_stopped types positions A s₀ k n u)
       (now_rest types positions A s₀ k n u)
       m''
-      (not_end (stop_of p.stop) e)
-      (leb-false k n (sym m ∙ one_more))
+      (not_end (stop_of p.stop) other)
+      more
       few
       steps
+
+  -- All steps are done: after the walk it is at the finish, or there is a next step.
+  pub all_finished : (k : ℕ) (m₀ : Memory) (r₀ : StateNumbers)
+      → AllUnderway allowance k k m₀ r₀ (memory ns rs gs cs fs ws results) r
+      → is_end (stop_of p.stop) ≡ true
+      → Advances allowance k m₀ (memory ns' rs' gs cs fs ws results) r₀
+      (record { ending = Finished; steps = k; numbers = moved_to r p })
+  all_finished k m₀ r₀ all e = λ types positions A s₀ few ready.
+      let u = all types positions A s₀ few ready in
+      progress_finished types positions A allowance k k (memory ns' rs' gs cs fs ws results) (moved_to r p) s₀
+      (walk_state u.state_now)
+      (stop_of p.stop)
+      (now_ready types positions A s₀ k k u)
+      (now_stopped types positions A s₀ k k u)
+      (now_rest types positions A s₀ k k u)
+      (end_is (stop_of p.stop) e)
+
+  pub all_running : (k : ℕ) (m₀ : Memory) (r₀ : StateNumbers)
+      → AllUnderway allowance k k m₀ r₀ (memory ns rs gs cs fs ws results) r
+      → (is_end (stop_of p.stop) ≡ false)
+      → Advances allowance k m₀ (memory ns' rs' gs cs fs ws results) r₀
+      (record { ending = Running; steps = k; numbers = moved_to r p })
+  all_running k m₀ r₀ all other = λ types positions A s₀ few ready.
+      let u = all types positions A s₀ few ready in
+      progress_running types positions A allowance k k (memory ns' rs' gs cs fs ws results) (moved_to r p) s₀
+      (walk_state u.state_now)
+      (stop_of p.stop)
+      (now_ready types positions A s₀ k k u)
+      (now_stopped types positions A s₀ k k u)
+      (now_rest types positions A s₀ k k u)
+      (not_end (stop_of p.stop) other)
+      refl
 
 pub none_underway : (allowance k : ℕ) (m : Memory) (r : StateNumbers) → AllUnderway allowance k 0 m r m r
 none_underway allowance k m r = λ types positions A s₀ few ready. nothing_done types positions A allowance k m r s₀ ready
 
 -- One more step.
-pub more_underway : (allowance k n : ℕ) (m₀ m m' : Memory) (r₀ r r' : StateNumbers) (last : Bool) (answer : Progress)
-    → n ≤ k
-    → last ≡ leb k n
+pub more_underway : (allowance k n : ℕ) (m₀ m m' : Memory) (r₀ r r' : StateNumbers)
+    → n < k
     → AllUnderway allowance k n m₀ r₀ m r
-    → AdvancesOnce last allowance m m' r answer
-    → answer ≡ GoesOn r'
+    → AdvancesOnce allowance m m' r (Continue r')
     → AllUnderway allowance k (n + 1) m₀ r₀ m' r'
-more_underway allowance k n m₀ m m' r₀ r r' last answer le e all turns same = λ types positions A s₀ few ready.
-    subst (ProgressTo types positions A allowance k n m' s₀) same
-    (turns types positions A s₀ k n few le e (all types positions A s₀ few ready))
+more_underway allowance k n m₀ m m' r₀ r r' more all turns = λ types positions A s₀ few ready.
+    turns types positions A s₀ k n few more (all types positions A s₀ few ready)
 
 -- The end.
-pub all_advanced : (allowance k n : ℕ) (m₀ m m' : Memory) (r₀ r r' : StateNumbers) (last : Bool) (answer : Progress)
-    (ending : EndingAnswer)
-    → n ≤ k
-    → last ≡ leb k n
+pub all_advanced : (allowance k n : ℕ) (m₀ m m' : Memory) (r₀ r r' : StateNumbers) (ending : EndingAnswer)
+    → n < k
     → AllUnderway allowance k n m₀ r₀ m r
-    → AdvancesOnce last allowance m m' r answer
-    → answer ≡ Ends ending r'
+    → AdvancesOnce allowance m m' r (Break (ending, r'))
     → Advances allowance k m₀ m' r₀ (record { ending = ending; steps = n; numbers = r' })
-all_advanced allowance k n m₀ m m' r₀ r r' last answer ending le e all turns same = λ types positions A s₀ few ready.
-    subst (ProgressTo types positions A allowance k n m' s₀) same
-    (turns types positions A s₀ k n few le e (all types positions A s₀ few ready))
+all_advanced allowance k n m₀ m m' r₀ r r' ending more all turns = λ types positions A s₀ few ready.
+    turns types positions A s₀ k n few more (all types positions A s₀ few ready)

@@ -1,157 +1,55 @@
--- `machine::advance` meets its contract. The invariant: so many steps are done, and what is left comes to what the whole comes
--- to; the two local memories keep their lengths. The measure is the number of steps that may still be taken. Assumes nothing.
-use Prim.Native.Nat.{◌<◌}
+-- `machine::advance` meets its contract. Assumes nothing.
+use borrow.Author.Rules.{rules}
 use native.Mathlib.Omega.{arith}
-use mathlib.Core.Path.{refl, sym, ◌∙◌, subst}
-use lib.Dec.{leb}
-use borrow.Author.Tests.{leb-false}
+use mathlib.Core.Path.{sym, ◌≡◌, ◌∙◌, subst}
 use Rattle.words.specs.Words.{words}
 use Rattle.words.proofs.Laws.Words.{length_words}
 use Rattle.machine_nodes.specs.Nodes.{nodes_in}
 use Rattle.words.specs.Quadwords.{quadwords_in}
 use Rattle.machine_circuits.specs.Layout.{four_results}
-use Rattle.machine_state.specs.Memory.{memory}
-use Rattle.machine.specs.Progress.{NotLast}
-use Rattle.machine.proofs.Laws.Advancing.{none_underway, more_underway, all_advanced}
+use Rattle.machine_state.specs.Buffers.{memory_in}
+use Rattle.machine.proofs.Laws.Progress.{AllUnderway}
+use Rattle.machine.proofs.Laws.Advancing.{more_underway, all_advanced, all_finished, all_running}
+use Rattle.machine.proofs.advance.Goals.{then-is_end, else-is_end}
 use Rattle.machine.proofs.advance.Goals as goal
 
-pub loop-next-init : goal.loop-next-init
-loop-next-init c =
-    let s = c.args in (
-      omega arith,
-      none_underway s.allowance s.k
-          (memory (nodes_in s.nodes.now) (quadwords_in s.stack.now) (quadwords_in s.gates.now) (quadwords_in s.circuits.now) (quadwords_in s.frames.now) (words s.types.now)
-          (four_results (words s.results0.now) (words s.results1.now) (words s.results2.now) (words s.results3.now)))
-          s.numbers,
-      refl,
-      refl,
-      refl,
-      refl,
-      refl,
-      refl,
-      refl,
-      refl,
-      refl,
-      refl,
-      refl,
+pub returns-in-Break-clause-advances : goal.returns-in-Break-clause-advances
+returns-in-Break-clause-advances c =
+    let a = c.args in
+    let l = c.loop-steps in
+    all_advanced a.allowance a.k l.steps (memory_in a.buffers.now) (memory_in l.buffers) (memory_in c.walk_and_step.new.buffers)
+    a.numbers l.now c.in-Break.numbers c.in-Break.ending c.loop-steps-test.true l.invariant.1
+    (c.in-Break.ensures.advances_once (omega (arith, length_words l.waiting)) (omega (arith, length_words l.labels)))
+
+pub loop-steps-preserved : goal.loop-steps-preserved
+loop-steps-preserved c =
+    let a = c.args in
+    let l = c.loop-steps in (
+      search rules,
+      more_underway a.allowance a.k l.steps (memory_in a.buffers.now) (memory_in l.buffers) (memory_in c.walk_and_step.new.buffers)
+          a.numbers l.now c.in-Continue.next c.loop-steps-test.true l.invariant.1
+          (c.in-Continue.ensures.advances_once (omega (arith, length_words l.waiting)) (omega (arith, length_words l.labels))),
     )
 
-pub slice_bounds-walk_and_step-end : goal.slice_bounds-walk_and_step-end
-slice_bounds-walk_and_step-end c = sym c.loop-next.invariant.11
-
-pub slice_bounds-walk_and_step-end-in-loop-next : goal.slice_bounds-walk_and_step-end-in-loop-next
-slice_bounds-walk_and_step-end-in-loop-next c = sym c.loop-next.invariant.12
-
-pub overflow_add-steps : goal.overflow_add-steps
-overflow_add-steps c =
-    let s = c.args in
-    let l = c.loop-next in
-    let t = c.walk_and_step-progress in
-    let less : l.steps < s.k = leb-false s.k l.steps (subst (NotLast (leb s.k l.steps)) c.in-GoesOn.is t.ensures.not_last) in
-    omega (arith, less, c.ranges.k)
-
-pub loop-next-smaller : goal.loop-next-smaller
-loop-next-smaller c =
-    let s = c.args in
-    let l = c.loop-next in
-    let t = c.walk_and_step-progress in
-    let less : l.steps < s.k = leb-false s.k l.steps (subst (NotLast (leb s.k l.steps)) c.in-GoesOn.is t.ensures.not_last) in
-    omega (arith, less)
-
-pub loop-next-preserved : goal.loop-next-preserved
-loop-next-preserved c =
-    let s = c.args in
-    let l = c.loop-next in
-    let t = c.walk_and_step-progress in
-    let less : l.steps < s.k = leb-false s.k l.steps (subst (NotLast (leb s.k l.steps)) c.in-GoesOn.is t.ensures.not_last) in (
-      omega (arith, less),
-      more_underway s.allowance s.k l.steps
-          (memory (nodes_in s.nodes.now) (quadwords_in s.stack.now) (quadwords_in s.gates.now) (quadwords_in s.circuits.now) (quadwords_in s.frames.now) (words s.types.now)
-          (four_results (words s.results0.now) (words s.results1.now) (words s.results2.now) (words s.results3.now)))
-          (memory (nodes_in l.nodes) (quadwords_in l.stack) (quadwords_in l.gates) (quadwords_in l.circuits) (quadwords_in l.frames) (words s.types.now)
-          (four_results (words l.results0) (words l.results1) (words l.results2) (words l.results3)))
-          (memory (nodes_in t.new.nodes) (quadwords_in t.new.stack) (quadwords_in t.new.gates) (quadwords_in t.new.circuits) (quadwords_in t.new.frames) (words s.types.now)
-          (four_results (words t.new.results0) (words t.new.results1) (words t.new.results2) (words t.new.results3)))
-          s.numbers l.now c.in-GoesOn.next (leb s.k l.steps) t.result
-          l.invariant.0 refl l.invariant.1 (t.ensures.advances_once (omega (arith, length_words l.waiting, l.invariant.11)) (omega (arith, length_words l.labels, l.invariant.12))) c.in-GoesOn.is,
-      t.auto.nodes ∙ l.invariant.2,
-      t.auto.stack ∙ l.invariant.3,
-      t.auto.frames ∙ l.invariant.4,
-      t.auto.gates ∙ l.invariant.5,
-      t.auto.circuits ∙ l.invariant.6,
-      t.auto.results0 ∙ l.invariant.7,
-      t.auto.results1 ∙ l.invariant.8,
-      t.auto.results2 ∙ l.invariant.9,
-      t.auto.results3 ∙ l.invariant.10,
-      t.auto.waiting ∙ l.invariant.11,
-      t.auto.labels ∙ l.invariant.12,
-    )
-
-pub shape_of-nodes-in-Ends : goal.shape_of-nodes-in-Ends
-shape_of-nodes-in-Ends c =
-    let l = c.loop-next in
-    let t = c.walk_and_step-progress in
-    t.auto.nodes ∙ l.invariant.2
-
-pub shape_of-stack-in-Ends : goal.shape_of-stack-in-Ends
-shape_of-stack-in-Ends c =
-    let l = c.loop-next in
-    let t = c.walk_and_step-progress in
-    t.auto.stack ∙ l.invariant.3
-
-pub shape_of-frames-in-Ends : goal.shape_of-frames-in-Ends
-shape_of-frames-in-Ends c =
-    let l = c.loop-next in
-    let t = c.walk_and_step-progress in
-    t.auto.frames ∙ l.invariant.4
-
-pub shape_of-gates-in-Ends : goal.shape_of-gates-in-Ends
-shape_of-gates-in-Ends c =
-    let l = c.loop-next in
-    let t = c.walk_and_step-progress in
-    t.auto.gates ∙ l.invariant.5
-
-pub shape_of-circuits-in-Ends : goal.shape_of-circuits-in-Ends
-shape_of-circuits-in-Ends c =
-    let l = c.loop-next in
-    let t = c.walk_and_step-progress in
-    t.auto.circuits ∙ l.invariant.6
-
-pub shape_of-results0-in-Ends : goal.shape_of-results0-in-Ends
-shape_of-results0-in-Ends c =
-    let l = c.loop-next in
-    let t = c.walk_and_step-progress in
-    t.auto.results0 ∙ l.invariant.7
-
-pub shape_of-results1-in-Ends : goal.shape_of-results1-in-Ends
-shape_of-results1-in-Ends c =
-    let l = c.loop-next in
-    let t = c.walk_and_step-progress in
-    t.auto.results1 ∙ l.invariant.8
-
-pub shape_of-results2-in-Ends : goal.shape_of-results2-in-Ends
-shape_of-results2-in-Ends c =
-    let l = c.loop-next in
-    let t = c.walk_and_step-progress in
-    t.auto.results2 ∙ l.invariant.9
-
-pub shape_of-results3-in-Ends : goal.shape_of-results3-in-Ends
-shape_of-results3-in-Ends c =
-    let l = c.loop-next in
-    let t = c.walk_and_step-progress in
-    t.auto.results3 ∙ l.invariant.10
-
-pub returns-in-Ends : goal.returns-in-Ends
-returns-in-Ends c =
-    let s = c.args in
-    let l = c.loop-next in
-    let t = c.walk_and_step-progress in
-    all_advanced s.allowance s.k l.steps
-    (memory (nodes_in s.nodes.now) (quadwords_in s.stack.now) (quadwords_in s.gates.now) (quadwords_in s.circuits.now) (quadwords_in s.frames.now) (words s.types.now)
-    (four_results (words s.results0.now) (words s.results1.now) (words s.results2.now) (words s.results3.now)))
-    (memory (nodes_in l.nodes) (quadwords_in l.stack) (quadwords_in l.gates) (quadwords_in l.circuits) (quadwords_in l.frames) (words s.types.now)
-    (four_results (words l.results0) (words l.results1) (words l.results2) (words l.results3)))
-    (memory (nodes_in t.new.nodes) (quadwords_in t.new.stack) (quadwords_in t.new.gates) (quadwords_in t.new.circuits) (quadwords_in t.new.frames) (words s.types.now)
-    (four_results (words t.new.results0) (words t.new.results1) (words t.new.results2) (words t.new.results3)))
-    s.numbers l.now c.in-Ends.numbers (leb s.k l.steps) t.result c.in-Ends.ending
-    l.invariant.0 refl l.invariant.1 (t.ensures.advances_once (omega (arith, length_words l.waiting, l.invariant.11)) (omega (arith, length_words l.labels, l.invariant.12))) c.in-Ends.is
+pub returns-clause-advances : goal.returns-clause-advances
+returns-clause-advances c =
+    let a = c.args in
+    let l = c.loop-steps in
+    let b = l.buffers in
+    let m₀ = memory_in a.buffers.now in
+    let m = memory_in b in
+    let results = four_results (words b.results0.now) (words b.results1.now) (words b.results2.now) (words b.results3.now) in
+    let done : l.steps ≡ a.k = omega (arith, c.loop-steps-test.false, l.auto.steps-end) in
+    let all = subst (λ n. AllUnderway a.allowance a.k n m₀ a.numbers m l.now) done l.invariant.1 in
+    elim c.if-is_end.branch [
+      | then-is_end w ↦
+          rw w.ending-is
+          (all_finished (nodes_in b.nodes.now) (nodes_in c.walk-stop.new.nodes) (quadwords_in b.stack.now) (quadwords_in c.walk-stop.new.stack)
+          (quadwords_in b.gates.now) (quadwords_in b.circuits.now) (quadwords_in b.frames.now) (words b.types.now) results l.now c.walk-stop.result
+          a.allowance c.walk-stop.ensures a.k m₀ a.numbers all (sym c.is_end.ensures ∙ w.if-is_end.true))
+      | else-is_end w ↦
+          rw w.ending-is
+          (all_running (nodes_in b.nodes.now) (nodes_in c.walk-stop.new.nodes) (quadwords_in b.stack.now) (quadwords_in c.walk-stop.new.stack)
+          (quadwords_in b.gates.now) (quadwords_in b.circuits.now) (quadwords_in b.frames.now) (words b.types.now) results l.now c.walk-stop.result
+          a.allowance c.walk-stop.ensures a.k m₀ a.numbers all (sym c.is_end.ensures ∙ w.if-is_end.false))
+    ]

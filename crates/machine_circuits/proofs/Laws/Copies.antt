@@ -1,17 +1,20 @@
 -- Laws of specs/Copies.antt.
-use Rattle.std.specs.Prelude.{ℕ, zero, suc, ◌+◌, ◌-◌, ◌≤◌, ◌<◌, ◌%◌, ◌≡◌, refl, ◌⊎◌, List, [], ◌∷◌, map, length, get_or, take, set}
+use Rattle.std.specs.Prelude.{ℕ, zero, suc, ◌+◌, ◌-◌, ◌*◌, ◌/◌, ◌≤◌, ◌<◌, ◌%◌, ◌≡◌, refl, ◌⊎◌, List, [], ◌∷◌, map, length, get_or, take, set}
 use Rattle.std.proofs.Common.{arith, eq-or-lt_of_le, sym, ◌∙◌, ap, ap₂, subst, inl, inr, ⊎_elim, get_or-set_same, get_or-set_other, get_or-take, length-take-le}
+use Rattle.std.proofs.Math.Decide.{dec_lt}
 use Rattle.std.proofs.Math.Nat.{le-pred_of_lt}
+use Rattle.std.specs.List.{CopiedTo, SameBelow, SameFrom}
 use Rattle.rules.specs.Gates.{wires_in}
 use Rattle.rules.specs.GateCodes.{wires_of}
 use Rattle.rules.specs.Terms.{Gate, ◌on◌}
 use Rattle.rules.specs.Circuits.{rename, rename_gate}
 use Rattle.words.specs.Words.{words}
+use Rattle.words.proofs.Laws.Words.{length_words, word_at_lem}
 use Rattle.machine_terms.proofs.Laws.Renaming.{rename_input, rename_later}
-use Rattle.words.specs.Quadwords.{Quadword, quadword, quadword_at, word_in}
+use Rattle.words.specs.Quadwords.{Quadword, quadword, quadword_at, quadwords_in, word_in}
 use Rattle.machine_circuits.specs.Layout.{gate_of, slot_of, gate_words, gates_in}
 use Rattle.rules.specs.Slots.{no_wire}
-use Rattle.words.proofs.Laws.Quadwords.{same_quadword}
+use Rattle.words.proofs.Laws.Quadwords.{quadword_of_words, quadword_past}
 use Rattle.machine_circuits.proofs.Laws.Gates.{read_back_renamed, gates_same}
 use Rattle.machine_circuits.specs.Copies.{AllBelow, WiresBelow, low_words, CopyFits, renamed_words, GatesCopied}
 use Rattle.machine_circuits.specs.Copies.{GatesMoved}
@@ -182,26 +185,69 @@ all_copied rs rs' ks from count to next written =
       kept = written.kept;
     }
 
--- One more quadword is moved.
-pub one_more_moved : (rs rs' rs'' : List Quadword) (from count to i : ℕ)
-    → from + count ≤ to
-    → to + count ≤ length rs
-    → GatesWritten (λ r. r) rs rs' from to i
-    → length rs' ≡ length rs
-    → i < count
-    → rs'' ≡ set rs' (to + i) (quadword_at rs' (from + i))
-    → GatesWritten (λ r. r) rs rs'' from to (i + 1)
-one_more_moved rs rs' rs'' from count to i apart inside written long below e =
-    subst (λ l. GatesWritten (λ r. r) rs l from to (i + 1)) (sym e)
-    (one_more_written (λ r. r) rs rs' from to i (quadword_at rs' (from + i)) written (omega arith)
-    (written.kept (from + i) (inl (omega arith))))
+-- Words whose bytes agree are the same, and so are quadwords.
+word_same : (m m' : List ℕ) (i j : ℕ)
+    → i < length m / 2
+    → j < length m' / 2
+    → get_or m' (2 * j) 0 ≡ get_or m (2 * i) 0
+    → get_or m' (2 * j + 1) 0 ≡ get_or m (2 * i + 1) 0
+    → get_or (words m') j 0 ≡ get_or (words m) i 0
+word_same m m' i j hi hj low high =
+    word_at_lem m' j hj ∙ ap₂ (λ a b. a + 256 * b) low high ∙ sym (word_at_lem m i hi)
 
--- All gates are moved.
-pub all_moved : (rs rs' : List Quadword) (from count to : ℕ)
-    → GatesWritten (λ r. r) rs rs' from to count
-    → GatesMoved rs rs' from count to
-all_moved rs rs' from count to written =
-    record { moved = gates_same rs rs' from to count written.made; rows = written.made; kept = written.kept }
+quadword_same : (m m' : List ℕ) (i j : ℕ)
+    → i < length m / 8
+    → j < length m' / 8
+    → ((k : ℕ) → k < 8 → get_or m' (8 * j + k) 0 ≡ get_or m (8 * i + k) 0)
+    → quadword_at (quadwords_in m') j ≡ quadword_at (quadwords_in m) i
+quadword_same m m' i j hi hj same =
+    let e0 : get_or (words m') (4 * j) 0 ≡ get_or (words m) (4 * i) 0 = word (4 * i) (4 * j) 0 (omega arith) (omega arith) (omega arith) in
+    let e1 : get_or (words m') (4 * j + 1) 0 ≡ get_or (words m) (4 * i + 1) 0
+    = word (4 * i + 1) (4 * j + 1) 1 (omega arith) (omega arith) (omega arith) in
+    let e2 : get_or (words m') (4 * j + 2) 0 ≡ get_or (words m) (4 * i + 2) 0
+    = word (4 * i + 2) (4 * j + 2) 2 (omega arith) (omega arith) (omega arith) in
+    let e3 : get_or (words m') (4 * j + 3) 0 ≡ get_or (words m) (4 * i + 3) 0
+    = word (4 * i + 3) (4 * j + 3) 3 (omega arith) (omega arith) (omega arith) in
+    quadword_of_words (words m') j (omega (arith, length_words m'))
+    ∙ rw (e0, e1, e2, e3) (sym (quadword_of_words (words m) i (omega (arith, length_words m))))
+  where
+    byte : (a b k : ℕ) → a ≡ 8 * i + k → b ≡ 8 * j + k → k < 8 → get_or m' b 0 ≡ get_or m a 0
+    byte a b k ea eb below = rw (ea, eb) (same k below)
+
+    word : (a b k : ℕ) → a ≡ 4 * i + k → b ≡ 4 * j + k → k < 4 → get_or (words m') b 0 ≡ get_or (words m) a 0
+    word a b k ea eb below =
+        word_same m m' a b (omega arith) (omega arith)
+        (byte (2 * a) (2 * b) (2 * k) (omega arith) (omega arith) (omega arith))
+        (byte (2 * a + 1) (2 * b + 1) (2 * k + 1) (omega arith) (omega arith) (omega arith))
+
+-- All gates are moved, where their bytes are.
+pub all_moved : (m m' : List ℕ) (from count to size : ℕ)
+    → length m' ≡ length m
+    → from + count ≤ length m / 8
+    → to + count ≤ length m / 8
+    → size ≡ 8 * count
+    → CopiedTo m m' (8 * from) (8 * to) size
+    → SameBelow m m' (8 * to)
+    → SameFrom m m' (8 * to + size)
+    → GatesMoved (quadwords_in m) (quadwords_in m') from count to
+all_moved m m' from count to size long inside room many copied before behind =
+    record { moved = gates_same (quadwords_in m) (quadwords_in m') from to count rows; rows = rows; kept = kept }
+  where
+    rows : (i : ℕ) → i < count → quadword_at (quadwords_in m') (to + i) ≡ quadword_at (quadwords_in m) (from + i)
+    rows i below =
+        quadword_same m m' (from + i) (to + i) (omega arith) (omega arith)
+        (λ k h. copied (8 * (to + i) + k) 0 (omega arith) (omega arith) ∙ ap (λ j. get_or m j 0) (omega arith))
+
+    kept : (i : ℕ) → (i < to) ⊎ (to + count ≤ i) → quadword_at (quadwords_in m') i ≡ quadword_at (quadwords_in m) i
+    kept i (inl h) = quadword_same m m' i i (omega arith) (omega arith) (λ k h'. before (8 * i + k) 0 (omega arith))
+    kept i (inr h) =
+        elim (dec_lt i (length m / 8)) [
+          | yes inside ↦ quadword_same m m' i i inside (omega arith) (λ k h'. behind (8 * i + k) 0 (omega arith))
+          | no past ↦ (
+              quadword_past (words m') i (omega (arith, length_words m'))
+              ∙ sym (quadword_past (words m) i (omega (arith, length_words m)))
+              )
+        ]
 
 -- The quadword of a gate on labels.
 labels_words : (n : ℕ) (ws : List ℕ) (a b c : ℕ)
@@ -227,20 +273,7 @@ slots_words : (ks : List ℕ) (next : ℕ) (r : Quadword) (n a b c : ℕ)
     → quadword n a b c ≡ renamed_words ks next r
 slots_words ks next (quadword m u v w) n a b c en ea eb ec = rw (en, ea, eb, ec)
 
--- What is left where a quadword is put that is another quadword, a gate on labels, or a renamed gate.
-pub gate_moved : (rs rs' : List Quadword) (at : ℕ) (r : Quadword) (a b c d : ℕ)
-    → rs' ≡ set rs at (low_words (quadword a b c d))
-    → (a ≡ word_in r 0) × (a < 65536)
-    → (b ≡ word_in r 1) × (b < 65536)
-    → (c ≡ word_in r 2) × (c < 65536)
-    → (d ≡ word_in r 3) × (d < 65536)
-    → rs' ≡ set rs at r
-gate_moved rs rs' at r a b c d put ha hb hc hd =
-    put
-    ∙ ap
-    (set rs at)
-    (low_words_lem a b c d ha.1 hb.1 hc.1 hd.1 ∙ same_quadword a b c d r ha.0 hb.0 hc.0 hd.0)
-
+-- What is left where a quadword is put that is a gate on labels, or a renamed gate.
 pub labels_put : (rs rs' : List Quadword) (at n wide : ℕ) (ws : List ℕ) (m a b c : ℕ)
     → rs' ≡ set rs at (low_words (quadword n a b c))
     → wide ≡ m

@@ -53,17 +53,6 @@ slot_renamed ks next (quadword n u v w) slot h =
     (omega (arith, wires_counted (quadword n u v w)))
     ∙ ap (rename ks next) (slot_used (quadword n u v w) slot h)
 
-pub slot_not_renamed : (ks : List ℕ) (next : ℕ) (r : Quadword) (slot : ℕ)
-    → wires_in (word_in r 0) ≤ slot
-    → slot_of (rename_gate ks next (gate_of r)) slot ≡ no_wire
-slot_not_renamed ks next (quadword n u v w) slot h =
-    get_or-eq_default (map (rename ks next) (take (wires_in n) (u ∷ v ∷ w ∷ []))) no_wire
-    (omega (
-      arith,
-      length-map (take (wires_in n) (u ∷ v ∷ w ∷ [])) (rename ks next),
-      length-take (wires_in n) (u ∷ v ∷ w ∷ []),
-    ))
-
 -- A gate with as many wires as its number says is read back from its quadword.
 slots_filled : (ws : List ℕ)
     → length ws ≤ 3
@@ -116,7 +105,7 @@ pub length_gates : (rs : List Quadword) (from count : ℕ) → length (gates_in 
 length_gates rs from zero = refl
 length_gates rs from (suc k) = ap suc (length_gates rs from k)
 
--- Label k of the first n; there is none from n on, and none where the list has ended.
+-- Label k of the first n; there is none where the list has ended.
 pub label_within : (ws : List ℕ) (n k : ℕ) → k < n → k < length ws → get_or (take n ws) k no_wire ≡ get_or ws k 0
 label_within ws n k h h' = get_or-take n ws k no_wire h ∙ inside ws k h'
   where
@@ -124,9 +113,6 @@ label_within ws n k h h' = get_or-take n ws k no_wire h ∙ inside ws k h'
     inside [] k h = absurd (omega arith)
     inside (w ∷ ws) zero h = refl
     inside (w ∷ ws) (suc k) h = inside ws k (omega arith)
-
-pub label_past : (ws : List ℕ) (n k : ℕ) → n ≤ k → get_or (take n ws) k no_wire ≡ no_wire
-label_past ws n k h = get_or-eq_default (take n ws) no_wire (omega (arith, length-take n ws))
 
 pub label_ended : (ws : List ℕ) (n k : ℕ) → length ws ≤ k → get_or (take n ws) k no_wire ≡ no_wire
 label_ended ws n k h = get_or-eq_default (take n ws) no_wire (omega (arith, length-take n ws))

@@ -7,8 +7,7 @@ use Rattle.rules.specs.Types.{wire_code, type_codes}
 use Rattle.rules.specs.Circuits.{circuit}
 use Rattle.rules.specs.Sizes.{most_nodes, most_terms}
 use Rattle.program.specs.Format.{label_count, type_count, term_count, first_term, kind_at}
-use Rattle.program.specs.Reading.{read_of}
-use Rattle.program.specs.declared.ReadAnswer.TheVariants.{Accepted}
+use Rattle.program.specs.Reading.{read_of, accepted as read_accepted}
 use Rattle.machine_terms.specs.Trees.{Node, preorder}
 use Rattle.machine_terms.specs.States.{start_state, StateFits}
 use Rattle.machine_terms.proofs.Theorems.Running.{start_fits}
@@ -40,7 +39,7 @@ part_stands l xs ys i s t h =
     ∙ append_assoc ys (drop (i + length ys) xs) rest)
 
 -- The views before and after: nodes, words of the types' buffer, quadwords of frames.
-module _ (f : List ℕ) (L P N : ℕ) (read : read_of f ≡ Accepted L P N) where
+module _ (f : List ℕ) (L P N : ℕ) (read : read_of f ≡ read_accepted L P N) where
   -- All nodes from the place on are those of the tree.
   tree_stands : (ns : List Node) (right : ℕ)
       → right + term_count f ≡ length ns

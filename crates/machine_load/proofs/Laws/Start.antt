@@ -12,13 +12,12 @@ use Rattle.rules.specs.Sizes.{nodes, most_types}
 use Rattle.rules.specs.Steps.{start}
 use Rattle.rules.proofs.Laws.TypeCodes.{entries_positive}
 use Rattle.program.specs.Format.{label_count, type_count, term_count, first_term, kind_at, argument_at}
-use Rattle.program.specs.Reading.{read_of}
+use Rattle.program.specs.Reading.{read_of, accepted as read_accepted}
 use Rattle.program.specs.Trees.{TypeAt, bit_at, qubit_at, tensor_at, function_at, reusable_at, circ_at, TypeAtPosition}
 use Rattle.program.specs.Trees.{at_position, TermAt, variable_term_at, label_at, abstraction_at, application_at, pair_at, let_at}
 use Rattle.program.specs.Trees.{lift_at, force_at, box_term_at, apply_at, gate_term_at, AcceptedFile, unit_at, unit_value_at}
 use Rattle.program.proofs.Theorems.Accepting.{read_sound}
 use Rattle.program.proofs.Theorems.Programs.{accepted_nodes}
-use Rattle.program.specs.declared.ReadAnswer.TheVariants.{Accepted}
 use Rattle.program.proofs.Laws.TreeTraversal.{term_end, type_end}
 use Rattle.machine_terms.specs.Trees.{Tree, two, preorder, LeafKind, a_variable, a_label, a_gate, leaf_kind, OneKind}
 use Rattle.machine_terms.specs.Trees.{an_abstraction, a_lift, a_force, a_box, one_kind, TwoKind, an_application, a_pair}
@@ -227,7 +226,7 @@ values_part g e p m n h =
     (length (values_from g e p)) refl))
 
 -- What is known of a file that the reader accepts.
-module _ (f : List ℕ) (L P N : ℕ) (read : read_of f ≡ Accepted L P N) where
+module _ (f : List ℕ) (L P N : ℕ) (read : read_of f ≡ read_accepted L P N) where
   -- Its labels and its term are those that are read from it.
   pub accepted : AcceptedFile f (labels_of f) (term_of f)
   accepted = file_read (read_sound f L P N read).2

@@ -1,46 +1,28 @@
--- `machine_load::load_kinds` meets its contract. The invariant: the first i kinds are written. The measure is what is left of
--- the count. Assumes nothing.
+-- `machine_load::load_kinds` meets its contract. The invariant: the first i kinds are written. Assumes nothing.
 use native.Mathlib.Omega.{arith}
-use mathlib.Core.Path.{◌≡◌, refl, ◌∙◌, ap}
 use Rattle.program.specs.Format.{kind_at}
 use Rattle.words.specs.Words.{words}
 use Rattle.words.proofs.Laws.Words.{word_put}
-use Rattle.words.specs.Regions.{over}
-use Rattle.machine_load.specs.Trees.{values_from}
 use Rattle.machine_load.proofs.Laws.Writing.{none_written, kind_written}
 use Rattle.machine_load.proofs.load_kinds.Goals as goal
 
 pub loop-i-init : goal.loop-i-init
 loop-i-init c =
     let s = c.args in
-    (omega arith, λ room. none_written (kind_at s.file.now) (words s.types.now) s.from s.to, refl)
+    λ room. none_written (kind_at s.file.now) (words s.types.now) s.from s.to
 
 pub loop-i-preserved : goal.loop-i-preserved
 loop-i-preserved c =
     let s = c.args in
     let l = c.loop-i in
     let kind = c.kind_at in
-    let put = c.put in (
-      omega arith,
-      λ room.
-          kind_written s.file.now (words s.types.now) (words l.types) (words put.new.memory)
-          s.from s.to s.count l.i kind.result
-          room
-          c.loop-i-test.true
-          (l.invariant.1 room)
-          kind.ensures.value
-          (omega (arith, kind.ensures.upper_bound))
-          (word_put _ _ _ _ put.ensures),
-      put.auto.memory ∙ l.invariant.2,
-    )
-
-pub shape_of-types : goal.shape_of-types
-shape_of-types c = c.loop-i.invariant.2
-
-pub returns : goal.returns
-returns c =
-    let s = c.args in
-    let l = c.loop-i in
-    let all : l.i ≡ s.count = omega arith in
-    λ room. l.invariant.1 room
-    ∙ ap (λ n. over (words s.types.now) s.to (values_from (kind_at s.file.now) s.from n)) all
+    let put = c.put in
+    λ room.
+    kind_written s.file.now (words s.types.now) (words l.types) (words put.new.memory)
+    s.from s.to s.count l.i kind.result
+    room
+    c.loop-i-test.true
+    (l.invariant room)
+    kind.ensures.value
+    (omega (arith, kind.ensures.upper_bound))
+    (word_put _ _ _ _ put.ensures)

@@ -1,12 +1,12 @@
 -- The nodes of parts of a byte buffer: four bytes a node.
-use Rattle.std.specs.Prelude.{ℕ, zero, suc, ◌+◌, ◌*◌, ◌≤◌, ◌≡◌, refl, List, [], ◌∷◌, ◌++◌, length, get_or, set, take, drop}
-use Rattle.std.proofs.Common.{arith, sym, ◌∙◌, ap, ap₂, inl, inr, length-drop, length-take-le, get_or-set_other}
+use Rattle.std.specs.Prelude.{ℕ, zero, suc, ◌+◌, ◌*◌, ◌≤◌, ◌≡◌, refl, List, [], ◌∷◌, ◌++◌, length, take, drop}
+use Rattle.std.proofs.Common.{arith, sym, ◌∙◌, ap, inl, inr, length-drop, length-take-le}
 use Rattle.machine_terms.specs.Trees.{node}
 use Rattle.machine_nodes.specs.Nodes.{nodes_in, nodes_of}
 use Rattle.machine_nodes.proofs.Laws.Nodes.{length_nodes_in}
 use Rattle.words.specs.Regions.{over}
 use Rattle.machine_nodes.proofs.Laws.Copies.{Clear, bytes_copied, copy_within}
-use Rattle.machine_nodes.specs.Copying.{copied, copy_nodes}
+use Rattle.machine_nodes.specs.Copying.{copy_nodes}
 
 four_more : (k : ℕ) → 4 * suc k ≡ suc (suc (suc (suc (4 * k))))
 four_more k = omega arith
@@ -84,29 +84,3 @@ nodes_copied m m' from to count e clear fits room =
     ∙ over_nodes m to count (take (4 * count) (drop (4 * from) m)) long (omega arith)
     ∙ ap (over (nodes_in m) to) (take_nodes count (drop (4 * from) m))
     ∙ ap (λ ns. over (nodes_in m) to (take count ns)) (drop_nodes from m)
-
--- The four bytes of a node, all read before one is written.
-pub copy_bytes : (m : List ℕ) (from to : ℕ)
-    → set (set (set (set m (4 * to) (get_or m (4 * from) 0)) (4 * to + 1) (get_or m (4 * from + 1) 0)) (4 * to + 2) (get_or m (4 * from + 2) 0)) (4 * to + 3) (get_or m (4 * from + 3) 0)
-    ≡ copied m (4 * from) (4 * to) 4
-copy_bytes m from to =
-    let source : 4 * from ≡ 4 * from + 0 = omega arith in
-    let place : 4 * to ≡ 4 * to + 0 = omega arith in
-    let x = get_or m (4 * from + 0) 0 in
-    let m₁ = set m (4 * to + 0) x in
-    let y : get_or m (4 * from + 1) 0 ≡ get_or m₁ (4 * from + 1) 0
-    = sym (get_or-set_other m (4 * to + 0) (4 * from + 1) x 0 (omega arith)) in
-    let m₂ = set m₁ (4 * to + 1) (get_or m₁ (4 * from + 1) 0) in
-    let z : get_or m (4 * from + 2) 0 ≡ get_or m₂ (4 * from + 2) 0
-    = sym
-    (get_or-set_other m₁ (4 * to + 1) (4 * from + 2) (get_or m₁ (4 * from + 1) 0) 0 (omega arith)
-    ∙ get_or-set_other m (4 * to + 0) (4 * from + 2) x 0 (omega arith)) in
-    let m₃ = set m₂ (4 * to + 2) (get_or m₂ (4 * from + 2) 0) in
-    let t : get_or m (4 * from + 3) 0 ≡ get_or m₃ (4 * from + 3) 0
-    = sym
-    (get_or-set_other m₂ (4 * to + 2) (4 * from + 3) (get_or m₂ (4 * from + 2) 0) 0 (omega arith)
-    ∙ get_or-set_other m₁ (4 * to + 1) (4 * from + 3) (get_or m₁ (4 * from + 1) 0) 0 (omega arith)
-    ∙ get_or-set_other m (4 * to + 0) (4 * from + 3) x 0 (omega arith)) in
-    ap₂ (λ i j. set (set (set (set m j (get_or m i 0)) (4 * to + 1) (get_or m (4 * from + 1) 0)) (4 * to + 2) (get_or m (4 * from + 2) 0)) (4 * to + 3) (get_or m (4 * from + 3) 0)) source place
-    ∙ ap (λ b. set (set (set m₁ (4 * to + 1) b) (4 * to + 2) (get_or m (4 * from + 2) 0)) (4 * to + 3) (get_or m (4 * from + 3) 0)) y
-    ∙ ap₂ (λ b c. set (set m₂ (4 * to + 2) b) (4 * to + 3) c) z t

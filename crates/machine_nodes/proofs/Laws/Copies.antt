@@ -1,7 +1,6 @@
 -- Elements of a list are copied to another place of it, one by one.
-use Rattle.std.specs.Prelude.{ℕ, zero, suc, ◌+◌, ◌*◌, ◌-◌, ◌≤◌, ◌<◌, ◌/◌, ◌≡◌, refl, Bool, true, false, cond, ◌&&◌, ◌⊎◌, List, [], ◌∷◌, ◌++◌, leb, length, get_or, set, take, drop}
+use Rattle.std.specs.Prelude.{ℕ, zero, suc, ◌+◌, ◌*◌, ◌-◌, ◌≤◌, ◌<◌, ◌/◌, ◌≡◌, refl, cond, ◌&&◌, ◌⊎◌, List, [], ◌∷◌, ◌++◌, length, get_or, set, take, drop}
 use Rattle.std.proofs.Common.{arith, sym, ◌∙◌, ap, ap₂, inl, inr, length-drop, take-suc, get_or-drop, length-take-le, le-leb}
-use Rattle.std.proofs.lemmas.Bool.{lt-leb}
 use Rattle.machine_nodes.specs.Copying.{copied, copy_nodes}
 use Rattle.words.specs.Regions.{over}
 use Rattle.words.proofs.Laws.Regions.{over_nil, over_more, get_d_over, get_d_under}
@@ -87,7 +86,7 @@ copied_on m from to k (suc n) =
     ∙ ap₂ (λ i j. set (copied m from to (k + n)) i (get_or (copied m from to (k + n)) j 0)) place source
     ∙ ap (λ l. set l (to + k + n) (get_or l (from + k + n) 0)) (copied_on m from to k n)
 
--- Where all of them can be copied, and where not.
+-- Where all of them can be copied.
 pub copy_within : (m : List ℕ) (from to count : ℕ)
     → from + count ≤ length m / 4
     → to + count ≤ length m / 4
@@ -97,23 +96,3 @@ copy_within m from to count fits room =
     ap₂ (λ s t. cond (s && t) (copied m (4 * from) (4 * to) (4 * count)) m)
     (le-leb (from + count) (length m / 4) fits)
     (le-leb (to + count) (length m / 4) room)
-
-pub copy_not_there : (m : List ℕ) (from to count : ℕ)
-    → length m / 4 < from + count
-    → copy_nodes m from to count ≡ m
-unfolding copy_nodes
-copy_not_there m from to count h =
-    ap (λ s. cond (s && leb (to + count) (length m / 4)) (copied m (4 * from) (4 * to) (4 * count)) m)
-    (lt-leb (from + count) (length m / 4) h)
-
-pub copy_no_room : (m : List ℕ) (from to count : ℕ)
-    → length m / 4 < to + count
-    → copy_nodes m from to count ≡ m
-unfolding copy_nodes
-copy_no_room m from to count h = of (leb (from + count) (length m / 4))
-  where
-    of : (s : Bool)
-        → cond (s && leb (to + count) (length m / 4)) (copied m (4 * from) (4 * to) (4 * count)) m ≡ m
-    of true =
-        ap (λ t. cond (true && t) (copied m (4 * from) (4 * to) (4 * count)) m) (lt-leb (to + count) (length m / 4) h)
-    of false = refl

@@ -1,6 +1,4 @@
-use Prim.Native.Nat.{◌+◌, ◌*◌, ◌-◌, ◌≤◌, ◌/◌}
-use mathlib.Core.Path.{◌≡◌}
-use lib.ListN.{length, drop}
+use Rattle.std.specs.Prelude.{◌+◌, ◌*◌, ◌-◌, ◌≤◌, ◌≡◌, drop}
 use Rattle.machine_nodes.specs.Nodes.{nodes_in}
 use Rattle.machine_nodes.specs.Spans.{span}
 use Rattle.machine_nodes.proofs.subtree_end.Given as goal
@@ -8,9 +6,4 @@ use Rattle.machine_nodes.proofs.subtree_end.Given as goal
 abbrev pub invariant-loop-i : goal.invariant-loop-i
 invariant-loop-i l =
     (l.i + span (drop l.i (nodes_in l.nodes)) l.waiting ≡ l.at + span (drop l.at (nodes_in l.nodes)) 1)
-    × (l.at ≤ l.i)
     × (l.waiting ≤ 1 + 2 * (l.i - l.at))
-    × (l.n ≡ length l.nodes / 4)
-
-abbrev pub decreases-loop-i : goal.decreases-loop-i
-decreases-loop-i l = l.n - l.i

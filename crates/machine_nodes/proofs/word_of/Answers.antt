@@ -1,26 +1,28 @@
--- `machine_nodes::word_of` meets its contract. Assumes nothing.
-use Prim.Native.Nat.{◌+◌}
-use native.Mathlib.Omega.{arith}
-use borrow.Author.Rules.{rules}
+-- `machine_nodes::word_of` meets its contract: the kind of node i is the number at its first byte, the argument the number behind it.
+-- Assumes nothing.
+use Rattle.std.specs.Prelude.{◌+◌, ◌*◌, ◌≡◌}
+use Rattle.std.proofs.Common.{arith, sym, ap, ◌∙◌}
 use Rattle.words.specs.Numbers.{word_at}
+use Rattle.machine_terms.specs.Trees.{kind, argument}
+use Rattle.machine_nodes.proofs.Laws.Nodes.{past_in, kind_number, argument_number}
 use Rattle.machine_nodes.proofs.word_of.Goals as goal
 
-pub overflow_cast-result : goal.overflow_cast-result
-overflow_cast-result c = search (rules, c.type_inv.nodes c.args.at)
-
-pub overflow_cast-result-2 : goal.overflow_cast-result-2
-overflow_cast-result-2 c = search (rules, c.type_inv.nodes (c.args.at + 1))
-
-pub overflow_mul-result : goal.overflow_mul-result
-overflow_mul-result c = search (rules, c.type_inv.nodes (c.args.at + 1))
-
-pub overflow_add-result-2 : goal.overflow_add-result-2
-overflow_add-result-2 c =
-    let at = c.args.at in
-    search (rules, c.type_inv.nodes at, c.type_inv.nodes (at + 1))
+pub returns-then-nodes-i : goal.returns-then-nodes-i
+returns-then-nodes-i c =
+    let past = past_in c.args.nodes.now c.args.i c.if-nodes-i.true in
+    record { of_kind = λ e. sym (ap kind past); of_argument = λ e. sym (ap argument past); upper_bound = omega arith }
 
 pub returns : goal.returns
 unfolding word_at
 returns c =
-    let at = c.args.at in
-    record { value = omega arith; upper_bound = omega (arith, c.type_inv.nodes at, c.type_inv.nodes (at + 1)) }
+    let s = c.args in
+    let m = s.nodes.now in
+    let at = 4 * s.i + 2 * s.k in
+    let inside = c.if-nodes-i.false in
+    let first : (s.k ≡ 0) → at ≡ 4 * s.i = λ e. omega (arith, e) in
+    let second : (s.k ≡ 1) → at ≡ 4 * s.i + 2 = λ e. omega (arith, e) in
+    record {
+      of_kind = λ e. ap (word_at m) (first e) ∙ kind_number m s.i inside;
+      of_argument = λ e. ap (word_at m) (second e) ∙ argument_number m s.i inside;
+      upper_bound = omega (arith, c.type_inv.nodes at, c.type_inv.nodes (at + 1));
+    }

@@ -1,5 +1,5 @@
 -- Laws of specs/Contractions.antt.
-use Rattle.std.specs.Prelude.{ℕ, ◌+◌, ◌-◌, ◌≤◌, ◌<◌, ◌≡◌, false, List, [], ◌∷◌, ◌++◌, drop}
+use Rattle.std.specs.Prelude.{ℕ, ◌+◌, ◌-◌, ◌≤◌, ◌<◌, ◌≡◌, false, List, [], ◌∷◌, ◌++◌, drop, Option, Some}
 use Rattle.std.proofs.Common.{arith, sym, ◌∙◌, subst, inl, inr, length-append}
 use Rattle.std.proofs.Math.Path.{refl, ap}
 use Rattle.std.proofs.Math.ListN.{length, take}
@@ -19,8 +19,6 @@ use Rattle.machine_walk.proofs.Laws.Redexes.{gap_written, reduct_written, stands
 use Rattle.machine_walk.specs.declared.Place.{Place}
 use Rattle.machine_substitution.specs.declared.Region.{Region}
 use Rattle.machine_substitution.specs.declared.Values.{Values}
-use Rattle.machine_substitution.specs.declared.Size.{Size}
-use Rattle.machine_substitution.specs.declared.Size.TheVariants.{Nodes}
 use Rattle.machine_substitution.specs.Substituted.{substituted, nodes_of_region, reduct}
 use Rattle.machine_substitution.proofs.Laws.Forests.{substituted_whole}
 use Rattle.machine_substitution.specs.Reducts.{Ready, Wrote}
@@ -29,7 +27,7 @@ use Rattle.machine_substitution.specs.Contractions.{application_value, let_value
 
 -- What `write_reduct` writes at the start of the gap, of a reduct that is too large or not, changes no walk.
 pub wrote_kept : (ns ns₁ : List Node) (rs : List Quadword) (p : Place) (w : Walk) (source : Region) (values : Values) (most : ℕ)
-    (answer : Size)
+    (answer : Option ℕ)
     → Holds ns rs p w
     → most ≤ most_nodes
     → Wrote ns ns₁ source values p.left most answer
@@ -47,7 +45,7 @@ pub reduct_moved : (ns ns₁ ns' : List Node) (rs : List Quadword) (p : Place) (
     → Holds ns rs p (returning v (h ∷ hs))
     → at ≡ stack_node (quadword_at rs (p.depth - 1))
     → at < p.left
-    → Wrote ns ns₁ source values p.left most (Nodes size)
+    → Wrote ns ns₁ source values p.left most (Some size)
     → reduct ns source values ≡ preorder t
     → most ≤ most_nodes
     → p.right ≤ next
@@ -68,7 +66,7 @@ reduct_moved ns ns₁ ns' rs p h hs v t source values at next size to most held 
     let all : wrote.written ≡ preorder t = wrote.whole size refl ∙ same in
     let long : size ≡ length (preorder t) = known.0 ∙ ap length same in
     let short : size ≤ most = known.1 in
-    let held₁ = wrote_kept ns ns₁ rs p walk source values most (Nodes size) held few wrote in
+    let held₁ = wrote_kept ns ns₁ rs p walk source values most (Some size) held few wrote in
     let nodes₁ : ns₁ ≡ over ns p.left (preorder t) = wrote.nodes_are ∙ ap (over ns p.left) all in
     let same_long : length ns₁ ≡ length ns = ap length nodes₁ ∙ length_over ns p.left (preorder t) (omega arith) in
     let ends : to + length (preorder t) ≡ next = omega arith in
@@ -145,7 +143,7 @@ module _ (ns : List Node) (rs : List Quadword) (p : Place) (n m : Node) (t v : T
       record {
         source_outside = (omega arith, inl (omega arith));
         first_outside = (omega arith, inl (omega arith));
-        second_outside = (omega arith, inl (omega arith));
+        second_outside = tt;
         inside = omega arith;
         few = omega arith;
         words_enough = omega arith;

@@ -1,5 +1,5 @@
 -- Laws of specs/Pieces.antt.
-use Rattle.std.specs.Prelude.{ℕ, zero, suc, ◌+◌, ◌-◌, ◌≤◌, ◌<◌, ◌≡◌, Bool, List, [], ◌∷◌, eqb, ltb, length, take, drop}
+use Rattle.std.specs.Prelude.{ℕ, zero, suc, ◌+◌, ◌-◌, ◌≤◌, ◌<◌, ◌≡◌, Bool, List, [], ◌∷◌, eqb, ltb, length, take, drop, Option, Some, None, IfSome, unwrap_or, option_map, option_to_list}
 use Rattle.std.proofs.Common.{arith, sym, ◌∙◌, inl, inr, length-take, length-drop, drop-cons, ltb-true, ltb-false, eq-eqb, ne_eqb, lt-ltb, le-ltb}
 use Rattle.std.proofs.Math.Path.{refl, ap}
 use Rattle.std.proofs.Math.Bool.{true, false, cond}
@@ -32,22 +32,23 @@ module _ (ns : List Node) (place : ℕ) (inside : place < length ns) where
   node_alone : nodes_of_region ns (node_region place) ≡ node_at ns place ∷ []
   node_alone = ap (take 1) (drop-cons ns place no_node inside)
 
-  second_nodes : (values : Values) (two : Bool)
-      → nodes_of_region ns (cond two values.second (node_region place))
-      ≡ value_at (cond two (nodes_of_region ns values.second ∷ []) []) 0 (node_at ns place ∷ [])
-  second_nodes values true = refl
-  second_nodes values false = node_alone
+  second_nodes : (second : Option Region)
+      → nodes_of_region ns (unwrap_or second (node_region place))
+      ≡ value_at (option_to_list (option_map (nodes_of_region ns) second)) 0 (node_at ns place ∷ [])
+  second_nodes (Some r) = refl
+  second_nodes None = node_alone
 
-  past_values : (x : List Node) (two : Bool) (a : ℕ) (own : List Node) → value_at (cond two (x ∷ []) []) (suc a) own ≡ own
-  past_values x true a own = refl
-  past_values x false a own = refl
+  past_values : (second : Option Region) (a : ℕ) (own : List Node)
+      → value_at (option_to_list (option_map (nodes_of_region ns) second)) (suc a) own ≡ own
+  past_values (Some r) a own = refl
+  past_values None a own = refl
 
   value_region_lem : (values : Values) (a : ℕ)
       → nodes_of_region ns (value_region values a place) ≡ value_at (nodes_of_values ns values) a (node_at ns place ∷ [])
   value_region_lem values zero = refl
-  value_region_lem values (suc zero) = second_nodes values values.two
+  value_region_lem values (suc zero) = second_nodes values.second
   value_region_lem values (suc (suc a)) =
-      node_alone ∙ sym (past_values (nodes_of_region ns values.second) values.two a (node_at ns place ∷ []))
+      node_alone ∙ sym (past_values values.second a (node_at ns place ∷ []))
 
   variable_region_lem : (values : Values) (b a : ℕ) (below : Bool)
       → ltb a b ≡ below
@@ -78,16 +79,16 @@ module _ (ns : List Node) (place : ℕ) (inside : place < length ns) where
 
 -- What holds of the values, and of the node alone, holds of what the node becomes.
 module _ (P : Region → Type 0) (values : Values) (place : ℕ) where
-  value_has : P values.first → P values.second → P (node_region place) → (a : ℕ) → P (value_region values a place)
+  value_has : P values.first → IfSome values.second P → P (node_region place) → (a : ℕ) → P (value_region values a place)
   value_has h h' p zero = h
-  value_has h h' p (suc zero) = second_has values.two
+  value_has h h' p (suc zero) = second_has values.second h'
     where
-      second_has : (two : Bool) → P (cond two values.second (node_region place))
-      second_has true = h'
-      second_has false = p
+      second_has : (second : Option Region) → IfSome second P → P (unwrap_or second (node_region place))
+      second_has (Some r) q = q
+      second_has None q = p
   value_has h h' p (suc (suc a)) = p
 
-  pub piece_has : P values.first → P values.second → P (node_region place) → (b : ℕ) (n : Node)
+  pub piece_has : P values.first → IfSome values.second P → P (node_region place) → (b : ℕ) (n : Node)
       → P (piece_region values b n place)
   unfolding piece_region variable_region
   piece_has h h' p b n = by_kind (eqb (kind n) variable_kind) (ltb (argument n) b)
@@ -164,29 +165,3 @@ module _ (values : Values) (k a b place : ℕ) where
       ap (λ j. value_region values j place) e
       ∙ ap (λ x. cond x (node_region place) (value_region values (a - b) place)) (sym (le-ltb a b h'))
       ∙ piece_variable h
-
-  -- It stays, if it is neither of the first two.
-  pub past_both : (index : ℕ) → 1 < index → node_region place ≡ value_region values index place
-  past_both zero h = absurd (omega arith)
-  past_both (suc zero) h = absurd (omega arith)
-  past_both (suc (suc index)) h = refl
-
-  -- Variable 0 becomes the first value.
-  pub is_first : (index : ℕ) → index ≡ 0 → values.first ≡ value_region values index place
-  is_first index e = ap (λ j. value_region values j place) (sym e)
-
-  second_by : (index : ℕ) → (index ≡ 0 → ⊥) → index ≤ 1
-      → cond values.two values.second (node_region place) ≡ value_region values index place
-  second_by zero h h' = absurd (h refl)
-  second_by (suc zero) h h' = refl
-  second_by (suc (suc index)) h h' = absurd (omega arith)
-
-  -- Variable 1 becomes the second, if there are two.
-  pub is_second : (index : ℕ) → (index ≡ 0 → ⊥) → index ≤ 1 → values.two ≡ true
-      → values.second ≡ value_region values index place
-  is_second index h h' e = ap (λ x. cond x values.second (node_region place)) (sym e) ∙ second_by index h h'
-
-  -- And stays, if there is one.
-  pub no_second : (index : ℕ) → (index ≡ 0 → ⊥) → index ≤ 1 → values.two ≡ false
-      → node_region place ≡ value_region values index place
-  no_second index h h' e = ap (λ x. cond x values.second (node_region place)) (sym e) ∙ second_by index h h'

@@ -1,5 +1,5 @@
 -- Laws of specs/Reducts.antt.
-use Rattle.std.specs.Prelude.{ℕ, suc, ◌+◌, ◌-◌, ◌*◌, ◌≤◌, ◌<◌, ◌≡◌, refl, Bool, true, false, cond, List, [], ◌∷◌, ◌++◌, leb, length, get_or, set, drop}
+use Rattle.std.specs.Prelude.{ℕ, suc, ◌+◌, ◌-◌, ◌*◌, ◌≤◌, ◌<◌, ◌≡◌, refl, Bool, true, false, cond, List, [], ◌∷◌, ◌++◌, leb, length, get_or, set, drop, Some, None}
 use Rattle.std.proofs.Common.{arith, sym, ◌∙◌, ap, subst, append_assoc, append-nil, le-leb, leb-true, leb-false, length-append, length-set, drop_of_length-le, drop-cons, get_or-take, get_or-drop}
 use Rattle.std.proofs.lemmas.Bool.{lt-leb}
 use Rattle.machine_terms.specs.Trees.{Node, node, kind, argument}
@@ -10,7 +10,6 @@ use Rattle.words.proofs.Laws.Regions.{over_nil, length_over, over_behind}
 use Rattle.machine_nodes.proofs.Laws.Copies.{Clear}
 use Rattle.machine_substitution.specs.declared.Region.{Region}
 use Rattle.machine_substitution.specs.declared.Values.{Values}
-use Rattle.machine_substitution.specs.declared.Size.TheVariants.{Nodes, TooMany}
 use Rattle.machine_substitution.specs.Substituted.{piece_for, waiting_after, substituted, nodes_of_region, nodes_of_values}
 use Rattle.machine_substitution.specs.Substituted.{reduct}
 use Rattle.machine_substitution.specs.Waiting.{stack_of}
@@ -23,22 +22,22 @@ use Rattle.rules.specs.Sizes.{most_nodes}
 
 known_by : (most n size : ℕ) (fits : Bool)
     → leb n most ≡ fits
-    → Nodes size ≡ cond fits (Nodes n) TooMany
+    → Some size ≡ cond fits (Some n) None
     → (size ≡ n) × (size ≤ most)
 known_by most n size true e h = let same : size ≡ n = cc in (same, omega (arith, leb-true n most e))
 known_by most n size false e h = let z : ◌≡◌ {A = ℕ} 0 1 = cc in absurd (omega arith)
 
 -- A number that the answer names is that of the nodes, and not too many.
-pub size_known : (most n size : ℕ) → Nodes size ≡ size_within most n → (size ≡ n) × (size ≤ most)
+pub size_known : (most n size : ℕ) → Some size ≡ size_within most n → (size ≡ n) × (size ≤ most)
 unfolding size_within
 size_known most n size h = known_by most n size (leb n most) refl h
 
-refused_by : (most n : ℕ) (fits : Bool) → leb n most ≡ fits → TooMany ≡ cond fits (Nodes n) TooMany → most < n
+refused_by : (most n : ℕ) (fits : Bool) → leb n most ≡ fits → None ≡ cond fits (Some n) None → most < n
 refused_by most n true e h = let z : ◌≡◌ {A = ℕ} 0 1 = cc in absurd (omega arith)
 refused_by most n false e h = leb-false n most e
 
 -- Otherwise they are too many.
-pub size_refused : (most n : ℕ) → TooMany ≡ size_within most n → most < n
+pub size_refused : (most n : ℕ) → None ≡ size_within most n → most < n
 unfolding size_within
 size_refused most n h = refused_by most n (leb n most) refl h
 
@@ -190,20 +189,20 @@ writing_start ns ws ws' source values to e h =
       around = start_binders ws ws' e h;
     }
 
-fits_within : (most n : ℕ) → n ≤ most → Nodes n ≡ size_within most n
+fits_within : (most n : ℕ) → n ≤ most → Some n ≡ size_within most n
 unfolding size_within
-fits_within most n h = ap (λ x. cond x (Nodes n) TooMany) (sym (le-leb n most h))
+fits_within most n h = ap (λ x. cond x (Some n) None) (sym (le-leb n most h))
 
-exceeds : (most n : ℕ) → most < n → TooMany ≡ size_within most n
+exceeds : (most n : ℕ) → most < n → None ≡ size_within most n
 unfolding size_within
-exceeds most n h = ap (λ x. cond x (Nodes n) TooMany) (sym (lt-leb n most h))
+exceeds most n h = ap (λ x. cond x (Some n) None) (sym (lt-leb n most h))
 
 -- What was written when nothing is still to be written is the reduct.
 pub writing_end : (ns ns' : List Node) (ws : List ℕ) (source : Region) (values : Values) (to most i depth size : ℕ)
     → Writing ns ns' ws source values to i depth size
     → still_to_write ns ws source values i depth ≡ []
     → size ≤ most
-    → Wrote ns ns' source values to most (Nodes size)
+    → Wrote ns ns' source values to most (Some size)
 writing_end ns ns' ws source values to most i depth size w e h =
     let all : w.done ≡ reduct ns source values
     = sym (append-nil w.done) ∙ ap (λ x. w.done ++ x) (sym e) ∙ w.whole in
@@ -275,7 +274,7 @@ module _ (ns : List Node) (words : ℕ) (source : Region) (values : Values) (to 
         ∙ w.whole
 
     -- Where there is no room for what the node becomes, the reduct is too large.
-    pub writing_refused : most < size + piece.length → Wrote ns ns' source values to most TooMany
+    pub writing_refused : most < size + piece.length → Wrote ns ns' source values to most None
     writing_refused many =
         record {
           written = w.done;

@@ -22,8 +22,8 @@ use Rattle.machine_walk.proofs.Laws.Moving.{let_stops, first_onward, pair_onward
 use Rattle.machine_walk.specs.declared.Place.{Place}
 use Rattle.machine_walk.specs.declared.Head.{Head}
 use Rattle.machine_walk.specs.declared.Head.TheVariants.{Value, Neither}
-use Rattle.machine_walk.specs.declared.Moved.{Moved}
-use Rattle.machine_walk.specs.declared.Moved.TheVariants.{GoesOn, Stops}
+use Rattle.std.specs.declared.ops.ControlFlow.{ControlFlow}
+use Rattle.std.specs.declared.ops.ControlFlow.TheVariants.{Continue, Break}
 use Rattle.machine_walk.specs.declared.Stop.{Stop}
 use Rattle.machine_walk.specs.declared.Stop.TheVariants.{AtLet, AtExit, AtEnd, AtVariable}
 use Rattle.machine_walk.specs.Functions.{Evaluates, head_of_tag, ReturnsTo, MovesStack}
@@ -43,9 +43,9 @@ module _ (ns ns' : List Node) (p : Place) where
       → ns' ≡ over ns p.left (take (end - p.right) (drop p.right ns))
       → (rs : List Quadword)
       → Moves ns rs ns' rs p
-      (GoesOn (record { left = p.left + (end - p.right); right = end; depth = p.depth; returning = true }))
+      (Continue (record { left = p.left + (end - p.right); right = end; depth = p.depth; returning = true }))
   value_moves end e q q' rs positions closed w f m =
-      let r = GoesOn (record { left = p.left + (end - p.right); right = end; depth = p.depth; returning = true }) in
+      let r = Continue (record { left = p.left + (end - p.right); right = end; depth = p.depth; returning = true }) in
       subst (λ l. MovedTo l rs p w r) (sym q')
       (value_onward ns rs p positions closed (end - p.right) end w (evaluated_there e rs positions closed w f m) m
       (omega arith)
@@ -55,7 +55,7 @@ module _ (ns ns' : List Node) (p : Place) where
       → Evaluates ns p Value
       → end ≡ p.right + span (drop p.right ns) 1
       → Falls (length ns) p
-      (GoesOn (record { left = p.left + (end - p.right); right = end; depth = p.depth; returning = true }))
+      (Continue (record { left = p.left + (end - p.right); right = end; depth = p.depth; returning = true }))
   value_falls end e q = omega (arith, span_positive ns p.right e.inside, ap mode_number e.mode)
 
   -- A node is opened.
@@ -65,13 +65,13 @@ module _ (ns ns' : List Node) (p : Place) where
       → ns' ≡ over ns p.left (take 1 (drop p.right ns))
       → rs' ≡ set rs p.depth (stack_entry (tag % 65536) (p.left % 65536) 0)
       → Moves ns rs ns' rs' p
-      (GoesOn (record { left = p.left + 1; right = p.right + 1; depth = p.depth + 1; returning = false }))
+      (Continue (record { left = p.left + 1; right = p.right + 1; depth = p.depth + 1; returning = false }))
   open_moves zero rs rs' b e q q' positions closed w f m =
-      let r = GoesOn (record { left = p.left + 1; right = p.right + 1; depth = p.depth + 1; returning = false }) in
+      let r = Continue (record { left = p.left + 1; right = p.right + 1; depth = p.depth + 1; returning = false }) in
       subst (λ l. MovedTo l rs' p w r) (sym q)
       (one_onward ns rs p positions closed rs' w (evaluated_there e rs positions closed w f m) m q')
   open_moves (suc zero) rs rs' b e q q' positions closed w f m =
-      let r = GoesOn (record { left = p.left + 1; right = p.right + 1; depth = p.depth + 1; returning = false }) in
+      let r = Continue (record { left = p.left + 1; right = p.right + 1; depth = p.depth + 1; returning = false }) in
       subst (λ l. MovedTo l rs' p w r) (sym q)
       (two_onward ns rs p positions closed rs' w (evaluated_there e rs positions closed w f m) m q')
   open_moves (suc (suc tag)) rs rs' b e q q' positions closed w f m = absurd (omega arith)
@@ -79,26 +79,26 @@ module _ (ns ns' : List Node) (p : Place) where
   pub open_falls : (h : Head)
       → Evaluates ns p h
       → Falls (length ns) p
-      (GoesOn (record { left = p.left + 1; right = p.right + 1; depth = p.depth + 1; returning = false }))
+      (Continue (record { left = p.left + 1; right = p.right + 1; depth = p.depth + 1; returning = false }))
   open_falls h e = omega (arith, e.inside, ap mode_number e.mode)
 
 module _ (ns : List Node) (rs : List Quadword) (p : Place) where
-  pub neither_moves : Evaluates ns p Neither → Moves ns rs ns rs p (Stops AtVariable)
+  pub neither_moves : Evaluates ns p Neither → Moves ns rs ns rs p (Break AtVariable)
   neither_moves e positions closed w f m =
       neither_stops ns rs p positions closed w (evaluated_there e rs positions closed w f m) m
 
   -- Where there is no node to evaluate, or no stack_entry for its hole, the memory holds no walk.
-  pub no_node_there : p.returning ≡ false → length ns ≤ p.right → (r : Moved) → Moves ns rs ns rs p r
+  pub no_node_there : p.returning ≡ false → length ns ≤ p.right → (r : ControlFlow Stop Place) → Moves ns rs ns rs p r
   no_node_there e h r positions closed w f m = absurd (omega (arith, behind_gap ns rs p w m e))
 
-  pub no_gap_there : p.returning ≡ false → p.right < p.left → (r : Moved) → Moves ns rs ns rs p r
+  pub no_gap_there : p.returning ≡ false → p.right < p.left → (r : ControlFlow Stop Place) → Moves ns rs ns rs p r
   no_gap_there e h r positions closed w f m = absurd (omega (arith, behind_gap ns rs p w m e))
 
-  pub no_entry_there : p.returning ≡ false → length rs ≤ p.depth → (r : Moved) → Moves ns rs ns rs p r
+  pub no_entry_there : p.returning ≡ false → length rs ≤ p.depth → (r : ControlFlow Stop Place) → Moves ns rs ns rs p r
   no_entry_there e h r positions closed w f m = absurd (omega (arith, entry_there ns rs p w m e))
 
   -- A value is returned to the outermost frame's end.
-  pub end_moves : p.returning ≡ true → p.depth ≡ 0 → Moves ns rs ns rs p (Stops AtEnd)
+  pub end_moves : p.returning ≡ true → p.depth ≡ 0 → Moves ns rs ns rs p (Break AtEnd)
   end_moves e d positions closed w f m = end_stops ns rs p w m e d
 
 -- What is returned to, for every walk that the memory holds.
@@ -112,25 +112,25 @@ tagged_there {rs} {p} {tag} {at} e ns w m =
 module _ (p : Place) where
   pub first_falls : p.returning ≡ true
       → (n : ℕ)
-      → Falls n p (GoesOn (record { left = p.left; right = p.right; depth = p.depth; returning = false }))
+      → Falls n p (Continue (record { left = p.left; right = p.right; depth = p.depth; returning = false }))
   first_falls e n = omega (arith, ap mode_number e)
 
   pub pair_falls : p.returning ≡ true
       → 0 < p.depth
       → (n : ℕ)
-      → Falls n p (GoesOn (record { left = p.left; right = p.right; depth = p.depth - 1; returning = true }))
+      → Falls n p (Continue (record { left = p.left; right = p.right; depth = p.depth - 1; returning = true }))
   pair_falls e d n = omega (arith, ap mode_number e)
 
 module _ (rs : List Quadword) (p : Place) (at k : ℕ) where
   pub only_moves : (s : Stop)
       → ReturnsTo rs p 0 at
       → (Truth (waits (one_kind k)) → stop_of s ≡ stop_one (one_kind k))
-      → MovesStack rs rs p at k (Stops s)
+      → MovesStack rs rs p at k (Break s)
   only_moves s e q ns q' positions closed w f m =
       only_stops ns rs p positions closed at s w (tagged_there e ns w m) f m
       (subst (λ j. Truth (waits (one_kind j)) → stop_of s ≡ stop_one (one_kind j)) q' q)
 
-  pub let_moves : ReturnsTo rs p 1 at → k ≡ let_kind → MovesStack rs rs p at k (Stops AtLet)
+  pub let_moves : ReturnsTo rs p 1 at → k ≡ let_kind → MovesStack rs rs p at k (Break AtLet)
   let_moves e q ns q' positions closed w f m = let_stops ns rs p at w (tagged_there e ns w m) m (sym q' ∙ q)
 
   pub first_moves : (rs' : List Quadword)
@@ -138,19 +138,19 @@ module _ (rs : List Quadword) (p : Place) (at k : ℕ) where
       → (k ≡ let_kind → ⊥)
       → rs' ≡ set rs (p.depth - 1) (stack_entry 2 (at % 65536) (p.left % 65536))
       → MovesStack rs rs' p at k
-      (GoesOn (record { left = p.left; right = p.right; depth = p.depth; returning = false }))
+      (Continue (record { left = p.left; right = p.right; depth = p.depth; returning = false }))
   first_moves rs' e q q'' ns q' positions closed w f m =
       first_onward ns rs p at rs' w (tagged_there e ns w m) m (λ z. q (q' ∙ z)) q''
 
   pub pair_moves : ReturnsTo rs p 2 at → k ≡ pair_kind → MovesStack rs rs p at k
-      (GoesOn (record { left = p.left; right = p.right; depth = p.depth - 1; returning = true }))
+      (Continue (record { left = p.left; right = p.right; depth = p.depth - 1; returning = true }))
   pair_moves e q ns q' positions closed w f m = pair_onward ns rs p at w (tagged_there e ns w m) m (sym q' ∙ q)
 
   pub second_moves : (s : Stop)
       → ReturnsTo rs p 2 at
       → (k ≡ pair_kind → ⊥)
       → stop_of s ≡ stop_two (two_kind k)
-      → MovesStack rs rs p at k (Stops s)
+      → MovesStack rs rs p at k (Break s)
   second_moves s e h q ns q' positions closed w f m =
       second_stops ns rs p at s w (tagged_there e ns w m) m (λ z. h (q' ∙ z)) (q ∙ ap (λ j. stop_two (two_kind j)) q')
 
@@ -159,7 +159,7 @@ module _ (rs : List Quadword) (p : Place) (at k : ℕ) where
       → (tag ≡ 0 → ⊥)
       → (tag ≡ 1 → ⊥)
       → (tag ≡ 2 → ⊥)
-      → MovesStack rs rs p at k (Stops AtExit)
+      → MovesStack rs rs p at k (Break AtExit)
   exit_moves tag e h0 h1 h2 ns q' positions closed w f m =
       exit_stops ns rs p at tag w (tagged_there e ns w m) h0 h1 h2 m
 
@@ -209,11 +209,11 @@ module _ (ns : List Node) (rs : List Quadword) (p : Place) where
   pub reaches_none : Reaches ns rs p ns rs p
   reaches_none positions closed w f m = record { reached = w; fits = f; held = m; same = refl }
 
-  module _ (ns' ns'' : List Node) (rs' rs'' : List Quadword) (q : Place) (r : Moved) where
+  module _ (ns' ns'' : List Node) (rs' rs'' : List Quadword) (q : Place) (r : ControlFlow Stop Place) where
     pub reaches_more : (q' : Place)
         → Reaches ns rs p ns' rs' q
         → Moves ns' rs' ns'' rs'' q r
-        → r ≡ GoesOn q'
+        → r ≡ Continue q'
         → Reaches ns rs p ns'' rs'' q'
     reaches_more q' before t e positions closed w f m =
         let b = before positions closed w f m in
@@ -228,7 +228,7 @@ module _ (ns : List Node) (rs : List Quadword) (p : Place) where
     pub reaches_stop : (s : Stop)
         → Reaches ns rs p ns' rs' q
         → Moves ns' rs' ns'' rs'' q r
-        → r ≡ Stops s
+        → r ≡ Break s
         → Walks ns rs ns'' rs'' p (record { place = q; stop = s })
     reaches_stop s before t e positions closed w f m =
         let b = before positions closed w f m in
@@ -240,9 +240,9 @@ module _ (ns : List Node) (rs : List Quadword) (p : Place) where
         }
 
 -- The number of moves left falls.
-pub falls_on : (n n' : ℕ) (p q : Place) (r : Moved)
+pub falls_on : (n n' : ℕ) (p q : Place) (r : ControlFlow Stop Place)
     → n ≡ n'
     → Falls n p r
-    → r ≡ GoesOn q
+    → r ≡ Continue q
     → moves_from n' q < moves_from n' p
 falls_on n n' p q r e f g = subst (λ j. moves_from j q < moves_from j p) e (subst (Falls n p) g f)

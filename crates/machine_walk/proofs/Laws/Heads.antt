@@ -1,8 +1,7 @@
 -- Laws of specs/Heads.antt.
 use Rattle.std.specs.Prelude.{ℕ, ◌≡◌, List, ◌∷◌}
 use Rattle.std.proofs.Math.Path.{refl}
-use Rattle.std.proofs.Common.{subst, ne_eqb}
-use Rattle.rules.specs.Kinds.{label_kind, abstraction_kind, lift_kind, gate_term_kind, constant_kind, unit_value_kind}
+use Rattle.std.proofs.Common.{subst}
 use Rattle.rules.specs.Parts.{parts_of_kind}
 use Rattle.machine_terms.specs.Trees.{Node, node, kind, Tree, leaf, one, two, leaf_kind, one_kind, parts, WellKinded}
 use Rattle.machine_terms.specs.Holes.{Hole, only}
@@ -12,24 +11,7 @@ use Rattle.machine_terms.proofs.Laws.Kinds.{kind_lift, kind_force, kind_box, kin
 use Rattle.machine_terms.proofs.Laws.Kinds.{kind_apply, kind_view, kind_unit_value}
 use Rattle.machine_walk.specs.declared.Head.{Head}
 use Rattle.machine_walk.specs.declared.Head.TheVariants.{Value, OnePart, TwoParts, Neither}
-use Rattle.machine_walk.specs.Heads.{head_with, head_of}
-
--- A kind of no value.
-pub head_no_value : (k : ℕ)
-    → (k ≡ label_kind → ⊥) → (k ≡ abstraction_kind → ⊥) → (k ≡ lift_kind → ⊥)
-    → (k ≡ gate_term_kind → ⊥) → (k ≡ unit_value_kind → ⊥) → (k ≡ constant_kind → ⊥)
-    → head_of k ≡ head_with (parts k)
-unfolding head_of
-head_no_value k h17 h18 h22 h26 h27 h32 =
-    simp (
-      head_of,
-      ne_eqb k label_kind h17,
-      ne_eqb k abstraction_kind h18,
-      ne_eqb k lift_kind h22,
-      ne_eqb k gate_term_kind h26,
-      ne_eqb k unit_value_kind h27,
-      ne_eqb k constant_kind h32,
-    )
+use Rattle.machine_walk.specs.Heads.{head_of}
 
 -- The move at a tree, by what is to be done with it.
 pub data Headed (positions closed : ℕ) (hs : List Hole) : Head → Tree → Type 0 where

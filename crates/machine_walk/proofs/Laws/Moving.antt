@@ -3,12 +3,11 @@ use Rattle.std.specs.Prelude.{ℕ, suc, ◌+◌, ◌-◌, ◌%◌, ◌≤◌, �
 use Rattle.std.proofs.Common.{arith, sym, ◌∙◌, subst, append_assoc, length-append, length-set, get_or-take, ne_eqb}
 use Rattle.std.proofs.Math.Path.{ap}
 use Rattle.std.proofs.lemmas.List.{get_or_at}
-use Rattle.rules.specs.Kinds.{abstraction_kind, application_kind, pair_kind, let_kind, lift_kind, force_kind}
-use Rattle.machine_terms.specs.Trees.{Node, kind, Tree, leaf, one, two, preorder, an_abstraction, a_lift, a_box, one_kind}
+use Rattle.rules.specs.Kinds.{application_kind, pair_kind, let_kind}
+use Rattle.machine_terms.specs.Trees.{Node, kind, Tree, leaf, one, two, preorder, one_kind}
 use Rattle.machine_terms.specs.Trees.{an_application, a_pair, a_let, an_apply, two_kind, WellKinded}
 use Rattle.machine_terms.specs.Holes.{Hole, only, first, second, opened, nodes_before, before, after, waits}
 use Rattle.machine_terms.specs.Walks.{Walk, evaluating, returning, goes_on, stops, WalkFits, stop_one, move_first, move_second}
-use Rattle.machine_terms.specs.Walks.{at_apply, at_box}
 use Rattle.machine_nodes.specs.Nodes.{node_at, no_node}
 use Rattle.words.specs.Regions.{over}
 use Rattle.machine_nodes.specs.Spans.{span}
@@ -23,7 +22,7 @@ use Rattle.machine_walk.proofs.Laws.Places.{push_entry, pop_entry, top_entry, re
 use Rattle.machine_walk.specs.declared.Place.{Place}
 use Rattle.machine_walk.specs.declared.Head.{Head}
 use Rattle.machine_walk.specs.declared.Head.TheVariants.{Value, OnePart, TwoParts, Neither}
-use Rattle.machine_walk.specs.declared.Moved.TheVariants.{GoesOn, Stops}
+use Rattle.std.specs.declared.ops.ControlFlow.TheVariants.{Continue, Break}
 use Rattle.machine_walk.specs.declared.Stop.TheVariants.{AtLet, AtExit, AtEnd, AtVariable}
 use Rattle.machine_walk.specs.declared.Stop.{Stop}
 use Rattle.machine_walk.specs.Moving.{stop_two}
@@ -193,7 +192,7 @@ module _ (ns : List Node) (rs : List Quadword) (p : Place) where
       rs
       p
       w
-      (GoesOn (record { left = p.left + k; right = r; depth = p.depth; returning = true }))
+      (Continue (record { left = p.left + k; right = r; depth = p.depth; returning = true }))
   value_onward positions closed k r w (evaluated_at {t = t} {hs = hs} (head_value h q)) m e e' =
       (returning t hs, q, value_held positions closed k r t hs h m e e')
 
@@ -243,7 +242,7 @@ module _ (ns : List Node) (rs : List Quadword) (p : Place) where
       rs'
       p
       w
-      (GoesOn (record { left = p.left + 1; right = p.right + 1; depth = p.depth + 1; returning = false }))
+      (Continue (record { left = p.left + 1; right = p.right + 1; depth = p.depth + 1; returning = false }))
   one_onward positions closed rs' w (evaluated_at {hs = hs} (head_one {n = n} {t = t} q)) m e =
       (evaluating t (only n ∷ hs), q, open_held 0 (only n) n (one n t) t hs rs' refl refl (λ at. refl) m e)
 
@@ -256,7 +255,7 @@ module _ (ns : List Node) (rs : List Quadword) (p : Place) where
       rs'
       p
       w
-      (GoesOn (record { left = p.left + 1; right = p.right + 1; depth = p.depth + 1; returning = false }))
+      (Continue (record { left = p.left + 1; right = p.right + 1; depth = p.depth + 1; returning = false }))
   two_onward positions closed rs' w (evaluated_at {hs = hs} (head_two {n = n} {t = t} {u = u})) m e = (
     evaluating t (first n u ∷ hs),
     refl,
@@ -270,7 +269,7 @@ module _ (ns : List Node) (rs : List Quadword) (p : Place) where
   pub neither_stops : (positions closed : ℕ) (w : Walk)
       → Evaluated positions closed Neither w
       → Holds ns rs p w
-      → MovedTo ns rs p w (Stops AtVariable)
+      → MovedTo ns rs p w (Break AtVariable)
   neither_stops positions closed w (evaluated_at (head_neither_one q)) m = (q, m)
 
   -- A tree to evaluate is there, behind the gap.
@@ -311,7 +310,7 @@ module _ (ns : List Node) (rs : List Quadword) (p : Place) where
       → Holds ns rs p w
       → p.returning ≡ true
       → p.depth ≡ 0
-      → MovedTo ns rs p w (Stops AtEnd)
+      → MovedTo ns rs p w (Break AtEnd)
   end_stops (evaluating t hs) m e f = let z : ◌≡◌ {A = ℕ} 0 1 = cc m.mode in absurd (omega arith)
   end_stops (returning v []) m e f = (refl, m)
   end_stops (returning v (h ∷ hs)) m e f = absurd (omega (arith, m.stacked.deep))
@@ -321,7 +320,7 @@ module _ (ns : List Node) (rs : List Quadword) (p : Place) where
       → WalkFits positions closed w
       → Holds ns rs p w
       → (Truth (waits (one_kind (kind (node_at ns at)))) → stop_of s ≡ stop_one (one_kind (kind (node_at ns at))))
-      → MovedTo ns rs p w (Stops s)
+      → MovedTo ns rs p w (Break s)
   only_stops positions closed at s w (tag_only {n = n} a q) f m e =
       let waiting = subst (λ j. Truth (waits (one_kind (kind j)))) (sym q) f.2.0.1 in
       (ap (λ j. stops (stop_one (one_kind (kind j)))) (sym q) ∙ ap stops (sym (e waiting)), m)
@@ -332,7 +331,7 @@ module _ (ns : List Node) (rs : List Quadword) (p : Place) where
       → (tag ≡ 1 → ⊥)
       → (tag ≡ 2 → ⊥)
       → Holds ns rs p w
-      → MovedTo ns rs p w (Stops AtExit)
+      → MovedTo ns rs p w (Break AtExit)
   exit_stops at tag w (tag_only a q) h0 h1 h2 m = absurd (h0 refl)
   exit_stops at tag w (tag_first a q) h0 h1 h2 m = absurd (h1 refl)
   exit_stops at tag w (tag_second a q) h0 h1 h2 m = absurd (h2 refl)
@@ -342,7 +341,7 @@ module _ (ns : List Node) (rs : List Quadword) (p : Place) where
       → Tagged ns at 1 w
       → Holds ns rs p w
       → kind (node_at ns at) ≡ let_kind
-      → MovedTo ns rs p w (Stops AtLet)
+      → MovedTo ns rs p w (Break AtLet)
   unfolding two_kind
   let_stops at w (tag_first {n = n} {u = u} {v = v} {hs = hs} a q) m e =
       (ap (λ k. move_first (two_kind k) n v u hs) (ap kind (sym q) ∙ e), m)
@@ -417,7 +416,7 @@ module _ (ns : List Node) (rs : List Quadword) (p : Place) where
       → (kind (node_at ns at) ≡ let_kind → ⊥)
       → rs' ≡ set rs (p.depth - 1) (stack_entry 2 (at % 65536) (p.left % 65536))
       → MovedTo ns rs' p w
-      (GoesOn (record { left = p.left; right = p.right; depth = p.depth; returning = false }))
+      (Continue (record { left = p.left; right = p.right; depth = p.depth; returning = false }))
   first_onward at rs' w (tag_first {n = n} {u = u} {v = v} {hs = hs} a q) m f e = (
     evaluating u (second n v ∷ hs),
     first_move (kind n) n v u hs (λ h. f (ap kind q ∙ h)),
@@ -449,7 +448,7 @@ module _ (ns : List Node) (rs : List Quadword) (p : Place) where
       → Holds ns rs p w
       → kind (node_at ns at) ≡ pair_kind
       → MovedTo ns rs p w
-      (GoesOn (record { left = p.left; right = p.right; depth = p.depth - 1; returning = true }))
+      (Continue (record { left = p.left; right = p.right; depth = p.depth - 1; returning = true }))
   unfolding two_kind
   pair_onward at w (tag_second {n = n} {u = u} {v = v} {hs = hs} a q) m e = (
     returning (two n u v) hs,
@@ -462,26 +461,10 @@ module _ (ns : List Node) (rs : List Quadword) (p : Place) where
       → Holds ns rs p w
       → (kind (node_at ns at) ≡ pair_kind → ⊥)
       → stop_of s ≡ stop_two (two_kind (kind (node_at ns at)))
-      → MovedTo ns rs p w (Stops s)
+      → MovedTo ns rs p w (Break s)
   second_stops at s w (tag_second {n = n} {u = u} {v = v} {hs = hs} a q) m f e = (
     second_move (kind n) n u v hs (λ h. f (ap kind q ∙ h))
         ∙ ap (λ j. stops (stop_two (two_kind (kind j)))) (sym q)
         ∙ ap stops (sym e),
     m,
   )
-
--- The stops by the kind: box where it is no force, apply where it is neither application nor let.
-pub box_stops : (k : ℕ) → (k ≡ force_kind → ⊥) → Truth (waits (one_kind k)) → stop_one (one_kind k) ≡ at_box
-unfolding one_kind
-box_stops k f h = rw (ne_eqb k force_kind f, one_kind) (go (eqb k abstraction_kind) (eqb k lift_kind) (rw (ne_eqb k force_kind f, one_kind) at h))
-  where
-    go : (b c : Bool)
-        → Truth (waits (cond b an_abstraction (cond c a_lift a_box)))
-        → stop_one (cond b an_abstraction (cond c a_lift a_box)) ≡ at_box
-    go true c h = absurd h
-    go false true h = absurd h
-    go false false h = refl
-
-pub apply_stops : (k : ℕ) → (k ≡ application_kind → ⊥) → (k ≡ pair_kind → ⊥) → (k ≡ let_kind → ⊥) → stop_two (two_kind k) ≡ at_apply
-unfolding two_kind
-apply_stops k f g h = simp (two_kind, ne_eqb k application_kind f, ne_eqb k pair_kind g, ne_eqb k let_kind h)

@@ -10,12 +10,6 @@ use Rattle.machine_nodes.proofs.Laws.Spans.{at_most_all}
 use Rattle.machine_walk.proofs.Laws.Functions.{value_moves, value_falls}
 use Rattle.machine_walk.proofs.pass_value.Goals as goal
 
-pub overflow_sub-count : goal.overflow_sub-count
-overflow_sub-count c = omega (arith, c.subtree_end-end.ensures)
-
-pub shape_of-nodes : goal.shape_of-nodes
-shape_of-nodes c = c.copy_nodes.auto.nodes
-
 pub returns : goal.returns
 returns c =
     let a = c.args in

@@ -18,16 +18,16 @@ loop-next-smaller c =
     let a = c.args in
     let l = c.loop-next in
     let n = length (nodes_in a.nodes.now) in
-    falls_on (length (nodes_in l.nodes)) n l.now c.in-GoesOn.next c.move_once-moved.result
+    falls_on (length (nodes_in l.nodes)) n l.now c.in-Continue.next c.move_once.result
     (same_nodes a.nodes.now l.nodes l.invariant.1)
-    c.move_once-moved.ensures.falls
-    c.in-GoesOn.is
+    c.move_once.ensures.falls
+    c.in-Continue.is
 
 pub loop-next-preserved : goal.loop-next-preserved
 loop-next-preserved c =
     let a = c.args in
     let l = c.loop-next in
-    let t = c.move_once-moved in (
+    let t = c.move_once in (
       reaches_more (nodes_in a.nodes.now) (quadwords_in a.stack.now) a.place
           (nodes_in l.nodes)
           (nodes_in t.new.nodes)
@@ -35,25 +35,25 @@ loop-next-preserved c =
           (quadwords_in t.new.stack)
           l.now
           t.result
-          c.in-GoesOn.next
+          c.in-Continue.next
           l.invariant.0
           t.ensures.moves
-          c.in-GoesOn.is,
+          c.in-Continue.is,
       t.auto.nodes ∙ l.invariant.1,
       t.auto.stack ∙ l.invariant.2,
     )
 
-pub shape_of-nodes-in-Stops : goal.shape_of-nodes-in-Stops
-shape_of-nodes-in-Stops c = c.move_once-moved.auto.nodes ∙ c.loop-next.invariant.1
+pub shape_of-nodes-in-Break : goal.shape_of-nodes-in-Break
+shape_of-nodes-in-Break c = c.move_once.auto.nodes ∙ c.loop-next.invariant.1
 
-pub shape_of-stack-in-Stops : goal.shape_of-stack-in-Stops
-shape_of-stack-in-Stops c = c.move_once-moved.auto.stack ∙ c.loop-next.invariant.2
+pub shape_of-stack-in-Break : goal.shape_of-stack-in-Break
+shape_of-stack-in-Break c = c.move_once.auto.stack ∙ c.loop-next.invariant.2
 
-pub returns-in-Stops : goal.returns-in-Stops
-returns-in-Stops c =
+pub returns-in-Break : goal.returns-in-Break
+returns-in-Break c =
     let a = c.args in
     let l = c.loop-next in
-    let t = c.move_once-moved in
+    let t = c.move_once in
     reaches_stop (nodes_in a.nodes.now) (quadwords_in a.stack.now) a.place
     (nodes_in l.nodes)
     (nodes_in t.new.nodes)
@@ -61,7 +61,7 @@ returns-in-Stops c =
     (quadwords_in t.new.stack)
     l.now
     t.result
-    c.in-Stops.stop
+    c.in-Break.stop
     l.invariant.0
     t.ensures.moves
-    c.in-Stops.is
+    c.in-Break.is

@@ -1,9 +1,17 @@
 -- Laws of the gates of a listing that have no statement.
-use Rattle.std.specs.Prelude.{ℕ, zero, suc, ◌+◌, ◌-◌, ◌≤◌, ◌<◌, Bool, true, false, List, T as Truth}
+use Rattle.std.specs.Prelude.{ℕ, zero, suc, ◌+◌, ◌-◌, ◌≤◌, ◌<◌, Bool, true, false, List, T as Truth, Result, Ok, Err, Option as Found, None, Some, MatchOption, ⊤}
+use Rattle.std.specs.Fn.{CalledAt}
+use Rattle.std.specs.Iterator.{YieldsThen}
+use Rattle.std.specs.List.{FoldsTo}
+use Rattle.std.specs.declared.ops.Range.{Range}
+use Rattle.std.proofs.iter.Yields.{nat_range_steps}
+use Rattle.std.proofs.lemmas.Iterator.{first_from_Range}
+use denote.Param.Members.{Mut}
+use denote.Ref.{Bor}
 use native.Mathlib.Omega.{arith}
 use Rattle.std.proofs.Math.Decide.{dec_lt}
 use Rattle.std.proofs.Math.Path.{◌≡◌, refl, ap, ap₂}
-use Rattle.std.proofs.Common.{sym, subst}
+use Rattle.std.proofs.Common.{sym, ◌∙◌, subst, true≢false}
 use Rattle.std.proofs.Math.Bool.{not}
 use Rattle.std.proofs.Math.Option.{Option, none, some}
 use borrow.Author.Tests.{not-true}
@@ -11,14 +19,45 @@ use Rattle.refusals.specs.declared.Refusal.{Refusal}
 use Rattle.listing.specs.Reading.{input_count, gate_count, entry_count, kind_at, first_gates, gates_of}
 use Rattle.wire_table.specs.Wires.{first_where}
 use Rattle.wire_table.specs.WireRules.{NoSuch}
-use Rattle.wire_table.proofs.Laws.Finding.{Finds, found_none, finds_same, Passing, where_found}
-use Rattle.listing_check.specs.declared.ListingAnswer.{ListingAnswer}
-use Rattle.listing_check.specs.declared.ListingAnswer.TheVariants.{Accepted, Refused}
+use Rattle.words.specs.Found.{option_of}
+use Rattle.wire_table.proofs.Laws.Finding.{Finds, found_first, found_none, finds_same, Passing, where_found}
+use Rattle.listing_check.specs.declared.ListingSizes.{ListingSizes}
 use Rattle.listing_check.specs.Answers.{listing_check_of}
 use Rattle.listing_check.proofs.Laws.Judging.{Judged, sizes_wrong_lem, entry_wrong_lem, wires_wrong_lem, all_right, listing_judged}
 use Rattle.listing_check.proofs.Laws.Places.{ListingBounds, listing_bounds}
 use Rattle.openqasm.specs.Layout.{has_statement, AllWritten}
 use Rattle.openqasm_export.specs.Answers.{is_unwritten, first_unwritten, statements_judged, export_check_of}
+
+-- `find` over numbers from one on gives the first that passes the test.
+module _ (test : ℕ → Bool) (n k : ℕ) where
+  first_is : (r : Found ℕ)
+      → MatchOption r ((m : ℕ) → n ≤ m → m < n + k → test m ≡ false)
+      (λ i. (n ≤ i) × (i < n + k) × (test i ≡ true) × ((m : ℕ) → n ≤ m → m < i → test m ≡ false))
+      → r ≡ option_of (first_where test n k)
+  first_is None nowhere =
+      sym (ap option_of (found_none (Passing test n k) _ (where_found test k n)
+      (λ m h. true≢false (sym h.2 ∙ nowhere m h.0 h.1))))
+  first_is (Some i) h =
+      sym (ap option_of (found_first (Passing test n k) _ (where_found test k n) i
+      (record {
+        is_such = (h.0, h.1, h.2);
+        none_before = λ m below passing. true≢false (sym passing.2 ∙ h.3 m passing.0 below);
+      })))
+
+  pub find_is_first : {F : Type 0} {g : Mut F (Bor ℕ × Unit {0}) Bool} (s u : Range ℕ) (f : F) (r : Found ℕ)
+      → (xs : List ℕ) × (j : F) × YieldsThen nat_range_steps s xs r u × FoldsTo (λ p x q. CalledAt g p x false q) f xs j × MatchOption r ⊤ (λ x. (h : F) × CalledAt g j x true h)
+      → s.start ≡ n
+      → s.end ≡ n + k
+      → ((x : ℕ) (b : Bool) (q : F) → CalledAt g f x b q → (q ≡ f) × (b ≡ test x))
+      → r ≡ option_of (first_where test n k)
+  find_is_first s u f r ran start stop tells =
+      first_is r (subst (λ e. MatchOption r ((m : ℕ) → n ≤ m → m < e → test m ≡ false)
+      (λ i. (n ≤ i) × (i < e) × (test i ≡ true) × ((m : ℕ) → n ≤ m → m < i → test m ≡ false))) stop
+      (subst (λ e. MatchOption r ((m : ℕ) → e ≤ m → m < s.end → test m ≡ false)
+      (λ i. (e ≤ i) × (i < s.end) × (test i ≡ true) × ((m : ℕ) → e ≤ m → m < i → test m ≡ false))) start
+      (first_from_Range s u f r (λ x. test x ≡ true) (λ x. test x ≡ false) ran
+      (λ x q c. sym (tells x true q c).1)
+      (λ x q c. ((tells x false q c).0, sym (tells x false q c).1)))))
 
 -- Entry e is a gate without a statement.
 abbrev pub Unwritten : List ℕ → ℕ → Type 0
@@ -36,12 +75,6 @@ module _ (b : List ℕ) where
       (λ e h. (h.0, h.1, ap not h.2))
       (first_unwritten b)
       (where_found (is_unwritten b) (gate_count b) (input_count b))
-
-  -- Where a scan for it starts.
-  pub scan_start : (i : ℕ) → i ≡ input_count b → first_unwritten b ≡ first_where (is_unwritten b) i (entry_count b - i)
-  unfolding first_unwritten
-  scan_start i is =
-      let left : gate_count b ≡ entry_count b - i = omega arith in ap₂ (first_where (is_unwritten b)) (sym is) left
 
   -- Where there is none, each gate has a statement.
   first_written : NoSuch (Unwritten b) → (j : ℕ) → j ≤ gate_count b → AllWritten (first_gates b j)
@@ -82,22 +115,22 @@ module _ (b : List ℕ) where
           subst Truth h.2 this
 
   -- What the export takes: a listing that ticket 3's check accepts and in which each gate has a statement.
-  pub export_accepted : {L G O : ℕ} → export_check_of b ≡ Accepted L G O → (listing_check_of b ≡ Accepted L G O) × AllWritten (gates_of b)
+  pub export_accepted : {n : ListingSizes} → export_check_of b ≡ Ok n → (listing_check_of b ≡ Ok n) × AllWritten (gates_of b)
   unfolding export_check_of
-  export_accepted {L} {G} {O} e = of (listing_check_of b) (first_unwritten b) refl e
+  export_accepted {n} e = of (listing_check_of b) (first_unwritten b) refl e
     where
-      of : (a : ListingAnswer) (o : Option ℕ) → first_unwritten b ≡ o → statements_judged a o ≡ Accepted L G O
-          → (a ≡ Accepted L G O) × AllWritten (gates_of b)
-      of (Accepted x y z) none found p = (p, none_unwritten found)
-      of (Accepted x y z) (some n) found p = let z : ◌≡◌ {A = ℕ} 0 1 = cc in absurd (omega arith)
-      of (Refused x) o found p = let z : ◌≡◌ {A = ℕ} 0 1 = cc in absurd (omega arith)
+      of : (a : Result ListingSizes Refusal) (o : Option ℕ) → first_unwritten b ≡ o → statements_judged a o ≡ Ok n
+          → (a ≡ Ok n) × AllWritten (gates_of b)
+      of (Ok m) none found p = (p, none_unwritten found)
+      of (Ok m) (some i) found p = cc
+      of (Err x) o found p = cc
 
-  pub accepted_exported : {L G O : ℕ} → listing_check_of b ≡ Accepted L G O → AllWritten (gates_of b) → export_check_of b ≡ Accepted L G O
+  pub accepted_exported : {n : ListingSizes} → listing_check_of b ≡ Ok n → AllWritten (gates_of b) → export_check_of b ≡ Ok n
   unfolding export_check_of
   accepted_exported e written = ap₂ statements_judged e (all_written written)
 
   -- What ticket 3's check refuses is refused likewise.
-  pub refused_too : {x : Refusal} → listing_check_of b ≡ Refused x → export_check_of b ≡ Refused x
+  pub refused_too : {x : Refusal} → listing_check_of b ≡ Err x → export_check_of b ≡ Err x
   unfolding export_check_of
   refused_too e = ap (λ a. statements_judged a (first_unwritten b)) e
 
@@ -106,7 +139,7 @@ pub export_bounds : (b : List ℕ) → ListingBounds 28 (export_check_of b)
 unfolding export_check_of
 export_bounds b = of (listing_judged b) (listing_bounds b) (first_unwritten b) (unwritten_found b)
   where
-    of : {a : ListingAnswer} → Judged b a → ListingBounds 26 a → (o : Option ℕ) → Finds (Unwritten b) o → ListingBounds 28 (statements_judged a o)
+    of : {a : Result ListingSizes Refusal} → Judged b a → ListingBounds 26 a → (o : Option ℕ) → Finds (Unwritten b) o → ListingBounds 28 (statements_judged a o)
     of (sizes_wrong_lem h) s o found = ((omega arith, omega arith), s.1)
     of (entry_wrong_lem f first) s o found = ((omega arith, omega arith), s.1)
     of (wires_wrong_lem f n broken) s o found = ((omega arith, omega arith), s.1)

@@ -1,15 +1,15 @@
 -- Where 28 is the answer.
-use Rattle.std.specs.Prelude.{ℕ, ◌≡◌, refl, ◌⊎◌, ◌↔◌, Bool, false, not, ◌&&◌, List, eqb}
+use Rattle.std.specs.Prelude.{ℕ, ◌≡◌, refl, ◌⊎◌, ◌↔◌, Bool, false, not, ◌&&◌, List, eqb, Result, Err}
 use Rattle.std.proofs.Common.{arith, sym, ◌∙◌, ap, ap₂, subst, inl, inr, true≢false}
 use Rattle.std.proofs.Math.Option.{Option, none, some}
 use Rattle.rules.specs.Gates.{Init, Discard}
 use Rattle.rules.proofs.Laws.Wires.{Compared, equal, unequal, compared}
+use Rattle.refusals.specs.declared.Refusal.{Refusal}
 use Rattle.refusals.specs.declared.Refusal.TheVariants.{Run}
 use Rattle.listing.specs.Reading.{input_count, gate_count, output_count, kind_at}
 use Rattle.wire_table.specs.WireRules.{First}
 use Rattle.wire_table.proofs.Laws.Finding.{Finds, found_first, finds_same}
-use Rattle.listing_check.specs.declared.ListingAnswer.{ListingAnswer}
-use Rattle.listing_check.specs.declared.ListingAnswer.TheVariants.{Refused}
+use Rattle.listing_check.specs.declared.ListingSizes.{ListingSizes}
 use Rattle.listing_check.specs.Answers.{listing_check_of}
 use Rattle.listing_check.proofs.Laws.Judging.{Judged, sizes_wrong_lem, entry_wrong_lem, wires_wrong_lem, all_right, listing_judged}
 use Rattle.openqasm.specs.Layout.{has_statement}
@@ -44,16 +44,16 @@ module _ (b : List ℕ) where
   first_found : Finds (InitOrDiscard b) (first_unwritten b)
   first_found = finds_same (Unwritten b) (InitOrDiscard b) onward back (first_unwritten b) (unwritten_found b)
 
-  refused_so : (e : ℕ) {a : ListingAnswer} (o : Option ℕ)
+  refused_so : (e : ℕ) {a : Result ListingSizes Refusal} (o : Option ℕ)
       → Judged b a
       → listing_check_of b ≡ a
       → Finds (InitOrDiscard b) o
-      → statements_judged a o ≡ Refused (Run 28 e)
+      → statements_judged a o ≡ Err (Run 28 e)
       → UnwrittenAt b e
   refused_so e o (sizes_wrong_lem h) is found p = let z : ◌≡◌ {A = ℕ} 24 28 = cc in absurd (omega arith)
   refused_so e o (entry_wrong_lem f first) is found p = let z : ◌≡◌ {A = ℕ} 25 28 = cc in absurd (omega arith)
   refused_so e o (wires_wrong_lem f n broken) is found p = let z : ◌≡◌ {A = ℕ} 26 28 = cc in absurd (omega arith)
-  refused_so e none (all_right f n goes) is found p = let z : ◌≡◌ {A = ℕ} 0 1 = cc in absurd (omega arith)
+  refused_so e none (all_right f n goes) is found p = cc
   refused_so e (some i) (all_right f n goes) is found p =
       let here : i ≡ e = cc in
       record {
@@ -65,7 +65,7 @@ module _ (b : List ℕ) where
       }
 
 -- The check of a listing that is to be exported answers 28 with place e exactly where 02 says so.
-pub twenty_eight : (b : List ℕ) (e : ℕ) → (export_check_of b ≡ Refused (Run 28 e)) ↔ UnwrittenAt b e
+pub twenty_eight : (b : List ℕ) (e : ℕ) → (export_check_of b ≡ Err (Run 28 e)) ↔ UnwrittenAt b e
 unfolding export_check_of
 twenty_eight b e = (
   refused_so b e (first_unwritten b) (listing_judged b) refl (first_found b),

@@ -1,6 +1,6 @@
 -- `openqasm_export::write_gates` meets its contract. Assumes nothing.
 use borrow.Author.Rules.{rules}
-use Prim.Native.Nat.{ℕ, ◌+◌, ◌/◌, ◌≤◌, ◌<◌}
+use Prim.Native.Nat.{ℕ, ◌+◌, ◌*◌, ◌/◌, ◌≤◌, ◌<◌}
 use native.Mathlib.Omega.{arith}
 use mathlib.Core.Path.{◌≡◌, refl, ◌∙◌, ap, ap₂, subst}
 use mathlib.Core.List.{[], ◌∷◌, ◌++◌, map}
@@ -9,7 +9,7 @@ use Rattle.rules.specs.Gates.{wires_in, wires_out}
 use Rattle.words.specs.Numbers.{words_at}
 use Rattle.text.specs.Writing.{Puts}
 use Rattle.listing.specs.Listing.{entry_slots}
-use Rattle.listing.specs.Reading.{input_count, gate_count, kind_at, inputs_of, first_gates}
+use Rattle.listing.specs.Reading.{input_count, gate_count, kind_at, slots_from, inputs_of, first_gates}
 use Rattle.listing_check.proofs.Laws.Wires.{few_made}
 use Rattle.openqasm.specs.Layout.{gate_line}
 use Rattle.openqasm_export.specs.Places.{places_of, Begins, kept_places}
@@ -19,74 +19,40 @@ use Rattle.openqasm_export.proofs.write_gates.Goals as goal
 pub loop-i-init : goal.loop-i-init
 loop-i-init c =
     let a = c.args in
-    let few = c.input_count-inputs.ensures.upper_bound in (
-      omega arith,
-      refl,
-      refl,
-      c.slots_from-from.ensures.value (omega arith) ∙ omega (arith, c.input_count-inputs.ensures.value),
-      gates_start a.listing.now a.text.now a.at c.input_count-inputs.result c.input_count-inputs.ensures.value c.requires.0,
-    )
-
-pub overflow_add-inputs : goal.overflow_add-inputs
-overflow_add-inputs c = search (rules, c.loop-i-test.true, c.input_count-inputs.ensures.upper_bound, c.gate_count-gates.ensures.upper_bound)
-
-pub place_at-first-requires : goal.place_at-first-requires
-place_at-first-requires c = (omega (arith, c.loop-i.invariant.3, c.loop-i-test.true, c.input_count-inputs.ensures, c.gate_count-gates.ensures), omega arith)
-
-pub place_at-second-requires : goal.place_at-second-requires
-place_at-second-requires c = (omega (arith, c.loop-i.invariant.3, c.loop-i-test.true, c.input_count-inputs.ensures, c.gate_count-gates.ensures), omega arith)
-
-pub place_at-third-requires : goal.place_at-third-requires
-place_at-third-requires c = (omega (arith, c.loop-i.invariant.3, c.loop-i-test.true, c.input_count-inputs.ensures, c.gate_count-gates.ensures), omega arith)
+    ((refl, refl), gates_start a.listing.now a.out.now.text.now a.out.now.at c.input_count-inputs.result c.input_count-inputs.ensures.value c.requires.0)
 
 pub keep_places-made-requires : goal.keep_places-made-requires
-keep_places-made-requires c = (c.place_at-first.ensures.upper_bound, c.place_at-second.ensures.upper_bound, c.place_at-third.ensures.upper_bound, omega (arith, c.loop-i.invariant.4.made_is, few_made c.args.listing.now c.loop-i.i, c.loop-i-test.true, c.input_count-inputs.ensures, c.gate_count-gates.ensures))
-
-pub overflow_add-from : goal.overflow_add-from
-overflow_add-from c = search (rules, c.loop-i.invariant.3, c.loop-i-test.true, c.input_count-inputs.ensures, c.gate_count-gates.ensures)
-
-pub overflow_add-i : goal.overflow_add-i
-overflow_add-i c = search (rules, c.loop-i-test.true)
-
-pub loop-i-smaller : goal.loop-i-smaller
-loop-i-smaller c = omega (arith, c.loop-i-test.true)
+keep_places-made-requires c = (c.place_at-first.ensures.upper_bound, c.place_at-second.ensures.upper_bound, c.place_at-third.ensures.upper_bound, omega (arith, c.loop-i.invariant.1.made_is, few_made c.args.listing.now c.loop-i.i, c.loop-i-test.true, c.input_count-inputs.ensures, c.gate_count-i-end.ensures))
 
 pub loop-i-preserved : goal.loop-i-preserved
 loop-i-preserved c =
     let a = c.args in
     let b = a.listing.now in
     let s = c.loop-i in
-    let w = s.invariant.4 in
+    let w = s.invariant.1 in
     let p = c.requires.1 in
     let kind : c.kind_at-gate.result ≡ kind_at b (input_count b + s.i) = c.kind_at-gate.ensures.value ∙ ap (λ n. kind_at b (n + s.i)) c.input_count-inputs.ensures.value in
-    let below : s.i < gate_count b = omega (arith, c.loop-i-test.true, c.gate_count-gates.ensures.value) in
+    let below : s.i < gate_count b = omega (arith, c.loop-i-test.true, c.gate_count-i-end.ensures.value) in
     let few = few_made b s.i in
-    let room : s.made + entry_slots ≤ length s.table = omega (arith, few, w.made_is, s.invariant.1, p.room, p.few_inputs, p.few_gates, below) in
+    let room : s.made + entry_slots ≤ length s.table = omega (arith, few, w.made_is, s.auto.table, p.room, p.few_inputs, p.few_gates, below) in
     let counted = c.wires_in-count.ensures ∙ ap wires_in kind in
-    let slot : (k : ℕ) → _ = λ k. ap₂ (λ from n. get_or (map (λ v. get_or s.table v 0) (words_at b from n)) k 0) s.invariant.3 counted in
+    let here : c.slots_from-slots.result + 2 * entry_slots * s.i ≡ slots_from b (input_count b + s.i)
+    = omega (arith, c.slots_from-slots.ensures.value (omega arith), c.input_count-inputs.ensures.value) in
+    let slot : (k : ℕ) → _ = λ k. ap₂ (λ from n. get_or (map (λ v. get_or s.table v 0) (words_at b from n)) k 0) here counted in
     let first = c.place_at-first.result in
     let second = c.place_at-second.result in
     let third = c.place_at-third.result in
     let table' = c.keep_places-made.new.table in (
-      omega (arith, c.loop-i-test.true),
-      c.keep_places-made.auto.table ∙ s.invariant.1,
-      c.write_gate-here.auto.text ∙ s.invariant.2,
-      omega (arith, s.invariant.3),
-      gate_next b a.text.now a.at w first second third (c.place_at-first.ensures.value ∙ slot 0) (c.place_at-second.ensures.value ∙ slot 1) (c.place_at-third.ensures.value ∙ slot 2) table' c.keep_places-made.result
-          (subst (λ n. Puts s.text s.here (gate_line n (first / 2 ∷ second / 2 ∷ third / 2 ∷ [])) c.write_gate-here.new.text c.write_gate-here.result) kind c.write_gate-here.ensures)
+      (c.write_gate.ensures.0 ∙ s.invariant.0.0, c.write_gate.ensures.2 ∙ s.invariant.0.1),
+      gate_next b a.out.now.text.now a.out.now.at w first second third (c.place_at-first.ensures.value ∙ slot 0) (c.place_at-second.ensures.value ∙ slot 1) (c.place_at-third.ensures.value ∙ slot 2) table' c.keep_places-made.result
+          (subst (λ n. Puts s.out.text.now s.out.at (gate_line n (first / 2 ∷ second / 2 ∷ third / 2 ∷ [])) c.write_gate.new.out.text.now c.write_gate.new.out.at) kind c.write_gate.ensures.1)
           (c.keep_places-made.ensures.value ∙ ap (λ n. s.made + wires_out n) kind)
           (λ written. subst (λ n. Begins table' (places_of (inputs_of b) (first_gates b s.i) ++ kept_places n (first ∷ second ∷ third ∷ []))) kind
-          (c.keep_places-made.ensures.by_index _ (w.placed written) (places_made b a.text.now a.at w written) room)),
+          (c.keep_places-made.ensures.by_index _ (w.placed written) (places_made b a.out.now.text.now a.out.now.at w written) room)),
     )
-
-pub shape_of-table : goal.shape_of-table
-shape_of-table c = c.loop-i.invariant.1
-
-pub shape_of-text : goal.shape_of-text
-shape_of-text c = c.loop-i.invariant.2
 
 pub returns : goal.returns
 returns c =
     let a = c.args in
-    let r = gates_end a.listing.now a.text.now a.at c.loop-i.invariant.4 (omega (arith, c.loop-i.invariant.0, c.loop-i-test.false, c.gate_count-gates.ensures.value)) in
-    record { puts = r.0; begins = r.1 }
+    let r = gates_end a.listing.now a.out.now.text.now a.out.now.at c.loop-i.invariant.1 (omega (arith, c.loop-i-test.false, c.gate_count-i-end.ensures.value)) in
+    record { same_text = c.loop-i.invariant.0; puts = r.0; begins = r.1 }

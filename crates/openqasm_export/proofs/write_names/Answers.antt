@@ -10,35 +10,24 @@ use Rattle.openqasm_export.proofs.Laws.Writing.{outputs_start, outputs_next, out
 use Rattle.openqasm_export.proofs.write_names.Goals as goal
 
 pub loop-j-init : goal.loop-j-init
-loop-j-init c = let a = c.args in (omega arith, refl, λ written begun. outputs_start a.listing.now a.text.now a.at)
-
-pub overflow_mul-j : goal.overflow_mul-j
-overflow_mul-j c = search (rules, c.loop-j-test.true, c.output_count-count.ensures.upper_bound)
-
-pub overflow_add-from : goal.overflow_add-from
-overflow_add-from c = search (rules, c.loop-j-test.true, c.output_count-count.ensures.upper_bound, c.outputs_from-from.ensures.upper_bound)
-
-pub overflow_add-j : goal.overflow_add-j
-overflow_add-j c = search (rules, c.loop-j-test.true)
-
-pub loop-j-smaller : goal.loop-j-smaller
-loop-j-smaller c = omega (arith, c.loop-j-test.true)
+loop-j-init c = let a = c.args in ((refl, refl), λ written begun. outputs_start a.listing.now a.out.now.text.now a.out.now.at)
 
 pub loop-j-preserved : goal.loop-j-preserved
 loop-j-preserved c =
     let a = c.args in
     let b = a.listing.now in
     let s = c.loop-j in
-    let below : s.j < output_count b = omega (arith, c.loop-j-test.true, c.output_count-count.ensures.value) in (
-      omega (arith, c.loop-j-test.true),
-      c.write_output-here.auto.text ∙ s.invariant.1,
-      λ written begun. outputs_next b a.text.now a.at c.byte_at-place.result (s.invariant.2 written begun) written begun below
+    let below : s.j < output_count b = omega (arith, c.loop-j-test.true, c.output_count-j-end.ensures.value) in (
+      (c.write_output.ensures.0 ∙ s.invariant.0.0, c.write_output.ensures.2 ∙ s.invariant.0.1),
+      λ written begun. outputs_next b a.out.now.text.now a.out.now.at c.byte_at-place.result (s.invariant.1 written begun) written begun below
           (c.byte_at-place.ensures ∙ ap (λ w. get_or a.table.now w 0) (c.word_at.ensures.value ∙ ap (λ n. word_at b (n + 2 * s.j)) c.outputs_from-from.ensures.value))
-          c.write_output-here.ensures,
+          c.write_output.ensures.1,
     )
 
-pub shape_of-text : goal.shape_of-text
-shape_of-text c = c.loop-j.invariant.1
-
 pub returns : goal.returns
-returns c = let a = c.args in λ written begun. outputs_end a.listing.now a.text.now a.at (c.loop-j.invariant.2 written begun) (omega (arith, c.loop-j-test.false, c.output_count-count.ensures.value))
+returns c =
+    let a = c.args in
+    record {
+      same_text = c.loop-j.invariant.0;
+      puts = λ written begun. outputs_end a.listing.now a.out.now.text.now a.out.now.at (c.loop-j.invariant.1 written begun) (omega (arith, c.loop-j-test.false, c.output_count-j-end.ensures.value));
+    }

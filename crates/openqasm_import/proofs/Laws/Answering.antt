@@ -1,22 +1,25 @@
 -- The answer of an import, with the buffers that were lent.
-use Rattle.std.specs.Prelude.{ℕ, ◌≤◌, ◌≡◌, Bool, true, false, ◌&&◌, ◌||◌, List, [], ◌∷◌, ltb, length, take}
-use Rattle.std.proofs.Common.{arith, ◌∙◌, length-take}
-use Rattle.std.proofs.Math.Path.{sym, ap, ap₂}
+use Rattle.std.specs.Prelude.{ℕ, ◌≤◌, ◌≡◌, Bool, true, false, not, ◌&&◌, ◌||◌, List, [], ◌∷◌, eqb, ltb, length, take, Result, Ok, Err}
+use Rattle.std.specs.Result.{is_err}
+use lib.Pointwise.{pointwise}
+use Rattle.std.proofs.Common.{arith, ◌∙◌, length-take, le-ltb}
+use Rattle.std.proofs.Math.Path.{refl, sym, ap, ap₂, subst}
 use Rattle.std.proofs.Math.Bool.{cond}
 use Rattle.std.proofs.Math.Option.{none, some}
 use Rattle.lent.specs.Lent.{too_short, zeroed}
 use Rattle.lent.proofs.Laws.Lent.{all_least, short_left, long_left}
+use Rattle.refusals.specs.declared.Refusal.{Refusal}
 use Rattle.refusals.specs.declared.Refusal.TheVariants.{Run}
 use Rattle.text.specs.Writing.{Puts}
 use Rattle.text.specs.Written.{Written}
 use Rattle.text.proofs.Laws.Writing.{puts_first, all_written}
 use Rattle.listing.specs.Listing.{most_bytes}
 use Rattle.listing.proofs.Laws.Lengths.{length_listing}
+use Rattle.listing.specs.Reading.{gates_of}
+use Rattle.listing_check.specs.declared.ListingSizes.{ListingSizes}
 use Rattle.listing_check.specs.Answers.{most_wires}
 use Rattle.listing_check.specs.Wires.{Whole}
-use Rattle.openqasm.specs.declared.Conversion.{Conversion}
-use Rattle.openqasm.specs.declared.Conversion.TheVariants.{Written as Wrote, Refused}
-use Rattle.openqasm.specs.Layout.{export_of, most_text}
+use Rattle.openqasm.specs.Layout.{AllWritten, export_of, most_text}
 use Rattle.openqasm_export.specs.Answers.{export_check_of}
 use Rattle.openqasm_export.proofs.Laws.Longest.{sound_fits}
 use Rattle.openqasm_export.proofs.Laws.Answering.{or_false, written_whole, accepted_whole}
@@ -25,6 +28,7 @@ use Rattle.openqasm_parts.proofs.Theorems.ReadBack.{parts_few}
 use Rattle.openqasm_import.specs.Answers.{is_accepted, same_bytes, import_of, import_lengths, imported_as, out_after}
 use Rattle.openqasm_import.specs.Answers.{import_answer, import_bytes}
 use Rattle.openqasm_import.specs.Buffers.{AllLong}
+use Rattle.openqasm_import.proofs.Laws.Comparing.{same_told}
 use Rattle.openqasm_import.proofs.Theorems.Imports.{read_sound, read_written}
 
 -- These bytes stand at the start of a buffer, before a place.
@@ -68,17 +72,55 @@ module _ (text : List ℕ) where
       → Stands b listing r
   listing_stands {l} {listing} room same w = written_stands w (omega (arith, read_fits)) same
 
-  -- If the export takes it, it is within the sizes, and its text stands likewise.
-  pub read_whole_lem : (table : List ℕ) → is_accepted (export_check_of b) ≡ true → most_wires ≤ length table → Whole b table
-  read_whole_lem table passed room = accepted_whole b table (read_sound text passed) room
+  -- What the check of its export answers tells whether the export takes it.
+  module _ {listing : List ℕ} {n : ℕ} {answer : Result ListingSizes Refusal} {failed t : Bool}
+      (read : Stands b listing n) (is : answer ≡ export_check_of (take n listing))
+      (told : failed ≡ is_err answer) (tested : failed ≡ t) where
+    pub taken : is_accepted (export_check_of b) ≡ not t
+    taken =
+        ap (λ d. is_accepted (export_check_of d)) (sym read.part_is)
+        ∙ ap is_accepted (sym is)
+        ∙ of answer
+        ∙ ap not (sym told ∙ tested)
+      where
+        of : (a : Result ListingSizes Refusal) → is_accepted a ≡ not (is_err a)
+        of (Ok m) = refl
+        of (Err x) = refl
 
-  pub text_stands : {l exported : List ℕ} {r : ℕ}
+  -- If the export takes it, it is within the sizes, and its text stands likewise.
+  pub text_stands : {l listing exported table : List ℕ} {n r : ℕ}
+      → Stands b listing n
       → is_accepted (export_check_of b) ≡ true
+      → most_wires ≤ length table
       → most_text ≤ length l
       → length exported ≡ length l
-      → Written l (export_of b) exported r
+      → (Whole (take n listing) table → AllWritten (gates_of (take n listing)) → Written l (export_of (take n listing)) exported r)
       → Stands (export_of b) exported r
-  text_stands passed room same w = written_stands w (omega (arith, sound_fits b (read_sound text passed) (read_written text passed), room)) same
+  text_stands {l} {listing} {exported} {table} {n} {r} read passed long room same w =
+      let sound = read_sound text passed in
+      let written = read_written text passed in
+      let here = sym read.part_is in
+      written_stands
+      (subst (λ d. Written l (export_of d) exported r) read.part_is
+      (w (subst (λ d. Whole d table) here (accepted_whole b table sound long)) (subst (λ d. AllWritten (gates_of d)) here written)))
+      (omega (arith, sound_fits b sound written, room))
+      same
+
+  -- What std says of the text and the one that was written.
+  pub compared : {exported : List ℕ} {r : ℕ} {differs t : Bool}
+      → Stands (export_of b) exported r
+      → differs ≡ not (pointwise eqb text (take r exported))
+      → differs ≡ t
+      → same_bytes text (export_of b) ≡ not t
+  compared {exported} {r} stands told tested =
+      ap (same_bytes text) (sym stands.part_is)
+      ∙ sym (same_told text (take r exported))
+      ∙ of (pointwise eqb text (take r exported))
+      ∙ ap not (sym told ∙ tested)
+    where
+      of : (s : Bool) → s ≡ not (not s)
+      of true = refl
+      of false = refl
 
   -- The three ways to end.
   not_accepted : is_accepted (export_check_of b) ≡ false → import_of text ≡ none
@@ -94,22 +136,22 @@ module _ (text : List ℕ) where
   same_text e f = ap₂ (λ t u. cond (t && u) (some b) none) e f
 
   module _ (out : List ℕ) where
-    none_answered : {r : Conversion}
+    none_answered : {r : Result ℕ Refusal}
         → import_of text ≡ none
-        → r ≡ Refused (Run 27 0)
+        → r ≡ Err (Run 27 0)
         → (r ≡ imported_as (import_of text)) × (out ≡ out_after (import_of text) out)
     none_answered e is = (is ∙ sym (ap imported_as e), sym (ap (λ o. out_after o out) e))
 
-    pub not_accepted_answered : {r : Conversion}
+    pub not_accepted_answered : {r : Result ℕ Refusal}
         → is_accepted (export_check_of b) ≡ false
-        → r ≡ Refused (Run 27 0)
+        → r ≡ Err (Run 27 0)
         → (r ≡ imported_as (import_of text)) × (out ≡ out_after (import_of text) out)
     not_accepted_answered e is = none_answered (not_accepted e) is
 
-    pub other_text_answered : {r : Conversion}
+    pub other_text_answered : {r : Result ℕ Refusal}
         → is_accepted (export_check_of b) ≡ true
         → same_bytes text (export_of b) ≡ false
-        → r ≡ Refused (Run 27 0)
+        → r ≡ Err (Run 27 0)
         → (r ≡ imported_as (import_of text)) × (out ≡ out_after (import_of text) out)
     other_text_answered e f is = none_answered (other_text e f) is
 
@@ -119,11 +161,11 @@ module _ (text : List ℕ) where
         → most_bytes ≤ length out
         → n ≡ length b
         → Puts out 0 b out' at
-        → (Wrote n ≡ imported_as (import_of text)) × (out' ≡ out_after (import_of text) out)
+        → (Ok n ≡ imported_as (import_of text)) × (out' ≡ out_after (import_of text) out)
     same_text_answered e f room is puts =
         let whole = written_whole (puts_first puts) (omega (arith, read_fits, room)) in
         let found = same_text e f in
-        (ap Wrote is ∙ sym (ap imported_as found), whole.1 ∙ sym (ap (λ o. out_after o out) found))
+        (ap Ok is ∙ sym (ap imported_as found), whole.1 ∙ sym (ap (λ o. out_after o out) found))
 
   -- Buffers that are too short, and those that are not.
   module _ (out slots listing table exported : List ℕ) where
@@ -143,18 +185,7 @@ module _ (text : List ℕ) where
         || (ltb (length slots) slots_bytes || (ltb (length listing) most_bytes || (ltb (length table) most_wires || t))))
         (or_false (ltb (length exported) most_text))
 
-    pub short_answered : {r : Conversion}
-        → tested ≡ true
-        → r ≡ Refused (Run 19 0)
-        → (r ≡ import_answer text lent) × (lent ≡ import_bytes text lent)
-    unfolding import_answer
-    short_answered short is =
-        let e = same_test ∙ short in (
-          is ∙ sym (ap (λ t. cond t (Refused (Run 19 0)) (imported_as (import_of text))) e),
-          short_left import_lengths (out_after (import_of text)) lent e,
-        )
-
-    pub all_long : tested ≡ false → AllLong out slots listing table exported
+    all_long : tested ≡ false → AllLong out slots listing table exported
     all_long long =
         let e = all_least import_lengths (length out ∷ length slots ∷ length listing ∷ length table ∷ length exported ∷ [])
         (same_test ∙ long) in
@@ -166,8 +197,29 @@ module _ (text : List ℕ) where
           exported_long = e.1.1.1.1.0;
         }
 
-    pub long_answered : {r : Conversion} (out' slots' listing' table' exported' : List ℕ)
-        → tested ≡ false
+    pub short_answered : {r : Result ℕ Refusal}
+        → (AllLong out slots listing table exported → ⊥)
+        → r ≡ Err (Run 19 0)
+        → (r ≡ import_answer text lent) × (lent ≡ import_bytes text lent)
+    unfolding import_answer
+    short_answered short is =
+        let e = same_test ∙ of tested refl in (
+          is ∙ sym (ap (λ t. cond t (Err (Run 19 0)) (imported_as (import_of text))) e),
+          short_left import_lengths (out_after (import_of text)) lent e,
+        )
+      where
+        of : (t : Bool) → tested ≡ t → tested ≡ true
+        of true e = e
+        of false e = absurd (short (all_long e))
+
+    none_short : AllLong out slots listing table exported → tested ≡ false
+    none_short l =
+        ap₂ ◌||◌ (le-ltb _ _ l.out_long)
+        (ap₂ ◌||◌ (le-ltb _ _ l.slots_long)
+        (ap₂ ◌||◌ (le-ltb _ _ l.listing_long) (ap₂ ◌||◌ (le-ltb _ _ l.table_long) (le-ltb _ _ l.exported_long))))
+
+    pub long_answered : {r : Result ℕ Refusal} (out' slots' listing' table' exported' : List ℕ)
+        → AllLong out slots listing table exported
         → r ≡ imported_as (import_of text)
         → out' ≡ out_after (import_of text) out
         → slots' ≡ zeroed slots
@@ -178,8 +230,8 @@ module _ (text : List ℕ) where
         × ((out' ∷ slots' ∷ listing' ∷ table' ∷ exported' ∷ []) ≡ import_bytes text lent)
     unfolding import_answer
     long_answered out' slots' listing' table' exported' long is o s l t x =
-        let e = same_test ∙ long in (
-          is ∙ sym (ap (λ t. cond t (Refused (Run 19 0)) (imported_as (import_of text))) e),
+        let e = same_test ∙ none_short long in (
+          is ∙ sym (ap (λ t. cond t (Err (Run 19 0)) (imported_as (import_of text))) e),
           long_left import_lengths (out_after (import_of text)) lent (out' ∷ slots' ∷ listing' ∷ table' ∷ exported' ∷ []) e
               (ap₂ (λ u v. u ∷ v ∷ listing' ∷ table' ∷ exported' ∷ []) o s
               ∙ ap₂ (λ u v. out_after (import_of text) out ∷ zeroed slots ∷ u ∷ v ∷ exported' ∷ []) l t

@@ -1,5 +1,5 @@
 -- Ticket 4's promises of the import.
-use Rattle.std.specs.Prelude.{ℕ, ◌≤◌, Bool, ◌&&◌, List}
+use Rattle.std.specs.Prelude.{ℕ, ◌≤◌, Bool, ◌&&◌, List, Result, Ok, Err}
 use Rattle.std.proofs.Common.{arith, ◌∙◌}
 use Rattle.std.proofs.Math.Path.{◌≡◌, refl, sym, ap, ap₂, subst}
 use Rattle.std.proofs.Math.Bool.{true, false, cond}
@@ -10,8 +10,8 @@ use Rattle.listing.specs.Listing.{listing_bytes, most_outputs}
 use Rattle.listing.specs.Reading.{inputs_of, gates_of, outputs_of}
 use Rattle.listing.proofs.Laws.Decoding.{inputs_back, gates_back, outputs_back}
 use Rattle.wire_table.specs.WireRules.{GoesOnce}
-use Rattle.listing_check.specs.declared.ListingAnswer.{ListingAnswer}
-use Rattle.listing_check.specs.declared.ListingAnswer.TheVariants.{Accepted, Refused as NotListed}
+use Rattle.refusals.specs.declared.Refusal.{Refusal}
+use Rattle.listing_check.specs.declared.ListingSizes.{ListingSizes}
 use Rattle.listing_check.specs.Answers.{listing_check_of}
 use Rattle.listing_check.specs.Meaning.{SoundListing}
 use Rattle.listing_check.proofs.Laws.Judging.{Judged, sizes_wrong_lem, entry_wrong_lem, wires_wrong_lem, all_right, listing_judged}
@@ -26,10 +26,10 @@ use Rattle.openqasm_import.specs.Meaning.{ExportedFrom, ImportMeans}
 use Rattle.openqasm_import.proofs.Laws.Comparing.{same_as_itself, same_are}
 
 -- A listing that is accepted has wires that go once.
-goes_once_of : (b : List ℕ) {a : ListingAnswer} → Judged b a → is_accepted a ≡ true → GoesOnce (inputs_of b) (gates_of b) (outputs_of b)
-goes_once_of b (sizes_wrong_lem h) e = let z : ◌≡◌ {A = ℕ} 0 1 = cc in absurd (omega arith)
-goes_once_of b (entry_wrong_lem f first) e = let z : ◌≡◌ {A = ℕ} 0 1 = cc in absurd (omega arith)
-goes_once_of b (wires_wrong_lem f n broken) e = let z : ◌≡◌ {A = ℕ} 0 1 = cc in absurd (omega arith)
+goes_once_of : (b : List ℕ) {a : Result ListingSizes Refusal} → Judged b a → is_accepted a ≡ true → GoesOnce (inputs_of b) (gates_of b) (outputs_of b)
+goes_once_of b (sizes_wrong_lem h) e = cc
+goes_once_of b (entry_wrong_lem f first) e = cc
+goes_once_of b (wires_wrong_lem f n broken) e = cc
 goes_once_of b (all_right f n goes) e = goes
 
 -- What the export takes is accepted by ticket 3's check, and each of its gates has a statement.
@@ -38,10 +38,10 @@ taken_accepted : (b : List ℕ)
     → (is_accepted (listing_check_of b) ≡ true) × AllWritten (gates_of b)
 taken_accepted b passed = of (export_check_of b) refl passed
   where
-    of : (a : ListingAnswer) → export_check_of b ≡ a → is_accepted a ≡ true
+    of : (a : Result ListingSizes Refusal) → export_check_of b ≡ a → is_accepted a ≡ true
         → (is_accepted (listing_check_of b) ≡ true) × AllWritten (gates_of b)
-    of (Accepted L G O) e p = let x = export_accepted b e in (ap is_accepted x.0, x.1)
-    of (NotListed x) e p = let z : ◌≡◌ {A = ℕ} 0 1 = cc in absurd (omega arith)
+    of (Ok n) e p = let x = export_accepted b e in (ap is_accepted x.0, x.1)
+    of (Err x) e p = cc
 
 module _ (text : List ℕ) where
   abbrev p : Parts
@@ -98,8 +98,8 @@ module _ (text : List ℕ) where
             written = read_written passed;
             text_is = sym (same_are text (export_of b) same);
           }
-      of true passed false other e = let z : ◌≡◌ {A = ℕ} 0 1 = cc in absurd (omega arith)
-      of false failed t same e = let z : ◌≡◌ {A = ℕ} 0 1 = cc in absurd (omega arith)
+      of true passed false other e = cc
+      of false failed t same e = cc
 
   -- The listing of which the text is the export is imported.
   from_imported : (c : List ℕ) → ExportedFrom c text → import_of text ≡ some c

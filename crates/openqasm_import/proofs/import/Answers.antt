@@ -1,25 +1,32 @@
 -- `openqasm_import::import` meets its contract. Assumes nothing.
+use native.Mathlib.Omega.{arith}
 use mathlib.Core.Path.{◌∙◌, ap}
 use lib.ListN.{replicate}
+use Rattle.openqasm_import.specs.Buffers.{AllLong}
 use Rattle.openqasm_import.proofs.Theorems.Imports.{import_means}
-use Rattle.openqasm_import.proofs.Laws.Answering.{short_answered, all_long, long_answered}
+use Rattle.openqasm_import.proofs.Laws.Answering.{short_answered, long_answered}
 use Rattle.openqasm_import.proofs.import.Goals as goal
 
-pub returns-then-out-slots : goal.returns-then-out-slots
-returns-then-out-slots c =
+pub returns-then-out-lt-MOST_BYTES : goal.returns-then-out-lt-MOST_BYTES
+returns-then-out-lt-MOST_BYTES c =
     let a = c.args in
-    let short = short_answered a.text.now a.out.now a.slots.now a.listing.now a.table.now a.exported.now c.if-out-slots.true c.refused.ensures in
+    let short = short_answered a.text.now a.out.now a.slots.now a.listing.now a.table.now a.exported.now
+    (λ long. omega (arith, c.then-out-lt-MOST_BYTES.either)) c.refused.ensures in
     record { answer = short.0; bytes = short.1; meaning = import_means a.text.now }
-
-pub import_uncleared-answer-requires : goal.import_uncleared-answer-requires
-import_uncleared-answer-requires c = let a = c.args in all_long a.text.now a.out.now a.slots.now a.listing.now a.table.now a.exported.now c.if-out-slots.false
 
 pub returns : goal.returns
 returns c =
     let a = c.args in
     let u = c.import_uncleared-answer in
+    let all : AllLong a.out.now a.slots.now a.listing.now a.table.now a.exported.now = record {
+      out_long = omega arith;
+      slots_long = omega arith;
+      listing_long = omega arith;
+      table_long = omega arith;
+      exported_long = omega arith;
+    } in
     let long = long_answered a.text.now a.out.now a.slots.now a.listing.now a.table.now a.exported.now
-    u.new.out c.clear.new.memory c.clear-2.new.memory c.clear-3.new.memory c.clear-4.new.memory c.if-out-slots.false u.ensures.value u.ensures.out_after
+    u.new.out c.clear.new.memory c.clear-2.new.memory c.clear-3.new.memory c.clear-4.new.memory all u.ensures.value u.ensures.out_after
     (c.clear.ensures ∙ ap (λ n. replicate n 0) u.auto.slots)
     (c.clear-2.ensures ∙ ap (λ n. replicate n 0) u.auto.listing)
     (c.clear-3.ensures ∙ ap (λ n. replicate n 0) u.auto.table)

@@ -1,5 +1,5 @@
 -- What each answer leaves to be printed, and that it is what the program prints.
-use Rattle.std.specs.Prelude.{ℕ, ◌≤◌, ◌≡◌, false, List, [], ◌∷◌, ◌++◌, map, get_or, take, drop}
+use Rattle.std.specs.Prelude.{ℕ, ◌≤◌, ◌≡◌, false, List, [], ◌∷◌, ◌++◌, map, get_or, take, drop, Result, Ok, Err}
 use Rattle.std.proofs.Common.{arith, sym, ◌∙◌, ap₂, subst, subst₂, length-take, length-append}
 use Rattle.std.proofs.Math.Path.{ap}
 use Rattle.std.proofs.Math.Bool.{cond}
@@ -14,11 +14,8 @@ use Rattle.refusals.specs.Refusals.{refusal_number, refusal_place}
 use Rattle.text.specs.Written.{Written}
 use Rattle.text.proofs.Laws.Writing.{all_written}
 use Rattle.listing.specs.Listing.{most_bytes}
-use Rattle.listing_check.specs.declared.ListingAnswer.{ListingAnswer}
-use Rattle.listing_check.specs.declared.ListingAnswer.TheVariants.{Accepted, Refused as NotListed}
+use Rattle.listing_check.specs.declared.ListingSizes.{ListingSizes}
 use Rattle.listing_check.specs.Answers.{most_wires}
-use Rattle.openqasm.specs.declared.Conversion.{Conversion}
-use Rattle.openqasm.specs.declared.Conversion.TheVariants.{Written as Wrote, Refused}
 use Rattle.openqasm.specs.Layout.{export_of, most_text}
 use Rattle.openqasm_export.specs.Answers.{export_lengths, export_check_of, exported_as, out_after as text_after, export_answer}
 use Rattle.openqasm_export.specs.Answers.{export_bytes}
@@ -30,12 +27,12 @@ use Rattle.openqasm_io.specs.Printing.{refusal_line, answer_bytes, exported_byte
 use Rattle.openqasm_io.specs.Answered.{Ends}
 
 -- The two ways to end.
-module _ {answer : Conversion} {l out : List ℕ} {at : ℕ} where
-  pub ends_written : {n : ℕ} → answer ≡ Wrote n → out ≡ l → at ≡ n → Ends answer l out at
+module _ {answer : Result ℕ Refusal} {l out : List ℕ} {at : ℕ} where
+  pub ends_written : {n : ℕ} → answer ≡ Ok n → out ≡ l → at ≡ n → Ends answer l out at
   ends_written kind same is = subst (λ a. Ends a l out at) (sym kind) (same, is)
 
   pub ends_refused : {x : Refusal} {number place : ℕ}
-      → answer ≡ Refused x
+      → answer ≡ Err x
       → number ≡ refusal_number x
       → place ≡ refusal_place x
       → Written l (refused_line number place) out at
@@ -58,7 +55,7 @@ written_starts xs l out at is here = (
 
 refusal_starts : (x : Refusal) (l out : List ℕ) (at : ℕ)
     → refusal_bytes ≤ length l
-    → Ends (Refused x) l out at
+    → Ends (Err x) l out at
     → Starts (refusal_line x) out at
 refusal_starts x l out at room ends =
     let whole = all_written ends.0 (omega (arith, ends.1)) in
@@ -76,15 +73,15 @@ first_left least written out work long is =
 
 -- What `qasmout` prints is what stands in front.
 module _ (b : List ℕ) where
-  export_starts : (a : ListingAnswer) (out out' : List ℕ) (at : ℕ)
+  export_starts : (a : Result ListingSizes Refusal) (out out' : List ℕ) (at : ℕ)
       → refusal_bytes ≤ length out
       → Ends (exported_as b a) (text_after b a out) out' at
       → Starts (answer_bytes b a) out' at
-  export_starts (Accepted inputs gates outputs) out out' at room ends = written_starts (export_of b) out out' at ends.0 ends.1
-  export_starts (NotListed x) out out' at room ends = refusal_starts x out out' at room ends
+  export_starts (Ok sizes) out out' at room ends = written_starts (export_of b) out out' at ends.0 ends.1
+  export_starts (Err x) out out' at room ends = refusal_starts x out out' at room ends
 
   pub export_printed : (out out' : List ℕ) (work : List (List ℕ)) (at : ℕ)
-      {answer : Conversion} {left : List ℕ} {work' : List (List ℕ)}
+      {answer : Result ℕ Refusal} {left : List ℕ} {work' : List (List ℕ)}
       → most_text ≤ length out
       → too_short (most_wires ∷ []) work ≡ false
       → answer ≡ export_answer b (out ∷ work)
@@ -97,7 +94,7 @@ module _ (b : List ℕ) where
       let a = export_check_of b in
       export_starts a out out' at (omega arith)
       (subst₂ (λ c l. Ends c l out' at)
-      (is ∙ ap (λ t. cond t (Refused (Run 19 0)) (exported_as b a)) long)
+      (is ∙ ap (λ t. cond t (Err (Run 19 0)) (exported_as b a)) long)
       (first_left export_lengths (text_after b a) out work long bytes)
       ends)
 
@@ -114,7 +111,7 @@ module _ (text : List ℕ) where
   import_starts (some b) out out' at room ends = written_starts b out out' at ends.0 ends.1
 
   pub import_printed : (out out' : List ℕ) (work : List (List ℕ)) (at : ℕ)
-      {answer : Conversion} {left : List ℕ} {work' : List (List ℕ)}
+      {answer : Result ℕ Refusal} {left : List ℕ} {work' : List (List ℕ)}
       → most_bytes ≤ length out
       → too_short memory_lengths work ≡ false
       → answer ≡ import_answer text (out ∷ work)
@@ -127,6 +124,6 @@ module _ (text : List ℕ) where
       let o = import_of text in
       import_starts o out out' at (omega arith)
       (subst₂ (λ c l. Ends c l out' at)
-      (is ∙ ap (λ t. cond t (Refused (Run 19 0)) (imported_as o)) long)
+      (is ∙ ap (λ t. cond t (Err (Run 19 0)) (imported_as o)) long)
       (first_left import_lengths (listing_after o) out work long bytes)
       ends)

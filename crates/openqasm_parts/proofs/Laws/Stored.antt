@@ -1,6 +1,6 @@
 -- Laws of specs/Stored: each item that is read is stored behind those before it, and the listing follows from what is stored.
 use Rattle.std.specs.Prelude.{ℕ, zero, suc, ◌+◌, ◌*◌, ◌-◌, ◌≤◌, ◌<◌, ◌≡◌, refl, Bool, true, false, ◌||◌, cond, T as Truth, eqb, ltb, length, get_or, set, take, drop}
-use Rattle.std.proofs.Common.{arith, sym, ◌∙◌, ap, ap₂, subst, length-append, length-set, take-append-drop, take_all, drop-drop, eqb-true}
+use Rattle.std.proofs.Common.{arith, sym, ◌∙◌, ap, ap₂, subst, length-append, take-append-drop, take_all, drop-drop, eqb-true}
 use mathlib.Core.List.{List, [], ◌∷◌, ◌++◌, map, flat_map, append_assoc, append-nil, reverse-cons}
 use Rattle.rules.specs.Types.{Wire, Bit, Qubit}
 use Rattle.rules.specs.Gates.{is_gate, wires_in}
@@ -8,7 +8,6 @@ use Rattle.rules.specs.Terms.{Gate, ◌on◌}
 use Rattle.rules.specs.Circuits.{numbers}
 use Rattle.rules.specs.Slots.{no_wire}
 use Rattle.rules.specs.Sizes.{most_labels, most_gates}
-use Rattle.words.specs.Words.{words}
 use Rattle.words.specs.Regions.{Stands}
 use Rattle.text.specs.Written.{Written}
 use Rattle.text.specs.Writing.{Puts}
@@ -50,16 +49,9 @@ puts_add {m} {ys} {m'} {at} {at'} p = record { behind = stands_more }
         let behind : length (xs ++ ys) ≡ at' = omega (arith, w.place) in
         ap (λ k. take k m') behind ∙ all_written w (omega arith)
 
--- One byte and a word are put where there is room for them.
+-- One byte is put where there is room for it.
 pub one_added : (m : List ℕ) (at x : ℕ) → at < length m → Adds m at (x ∷ []) (set m at x)
 one_added m at x room = puts_add (puts_byte m at x room)
-
-pub word_put : (m : List ℕ) (at x y : ℕ) → at + 2 ≤ length m → Puts m at (x ∷ y ∷ []) (set (set m at x) (at + 1) y) (at + 2)
-word_put m at x y room =
-    let two : at + 1 + 1 ≡ at + 2 = omega arith in
-    puts_both (puts_byte m at x (omega arith))
-    (subst (Puts (set m at x) (at + 1) (y ∷ []) (set (set m at x) (at + 1) y)) two
-    (puts_byte (set m at x) (at + 1) y (omega (arith, length-set m at x))))
 
 -- The slots of an entry, one behind the other.
 pub slots_added : {m m₁ m₂ m₃ : List ℕ} {at : ℕ} (first second third : ℕ)
@@ -357,7 +349,7 @@ inputs_hold labels text =
 
 pub gates_start : {labels : ℕ} {text held kinds slots : List ℕ} {at inputs : ℕ} (gates : ℕ)
     → InputsRead labels 0 text at inputs kinds slots
-    → words held ≡ numbers 0 most_labels
+    → held ≡ numbers 0 most_labels
     → GatesRead labels gates gates text at inputs 0 inputs held kinds slots
 unfolding behind_gates
 gates_start {labels} {text} {kinds = kinds} {slots = slots} {at} {inputs} gates w numbered =
@@ -383,13 +375,13 @@ module _ {labels gates : ℕ} {text held kinds slots : List ℕ} {at inputs i ma
       → inputs + i + 1 ≤ length kinds
       → 2 * entry_slots * (inputs + i + 1) ≤ length slots
       → count ≡ wires_in item.kind
-      → first ≡ cond (ltb 0 count) (get_or (words held) item.first 0) no_wire
-      → second ≡ cond (ltb 1 count) (get_or (words held) item.second 0) no_wire
-      → third ≡ cond (ltb 2 count) (get_or (words held) item.third 0) no_wire
+      → first ≡ cond (ltb 0 count) (get_or held item.first 0) no_wire
+      → second ≡ cond (ltb 1 count) (get_or held item.second 0) no_wire
+      → third ≡ cond (ltb 2 count) (get_or held item.third 0) no_wire
       → Adds kinds (inputs + i) (item.kind ∷ []) kinds'
       → Adds slots (2 * entry_slots * (inputs + i)) (flat_map bytes_of (first ∷ second ∷ third ∷ [])) slots'
       → made' ≡ made + count
-      → words held' ≡ holding (words held) (take count (item.first ∷ item.second ∷ item.third ∷ [])) made
+      → held' ≡ holding held (take count (item.first ∷ item.second ∷ item.third ∷ [])) made
       → GatesRead labels gates (gates - (i + 1)) text (at + item.length) inputs (i + 1) made' held' kinds' slots'
   gate_next {slots' = slots'} item w below is wants short room room' counted is_first is_second is_third kind wires
       makes holds =
@@ -408,7 +400,7 @@ module _ {labels gates : ℕ} {text held kinds slots : List ℕ} {at inputs i ma
         stored = stored_gate item w.stored wants room room' kind
             (subst (λ ws. Adds slots (2 * entry_slots * (inputs + i)) (flat_map bytes_of ws) slots') slots_are wires);
         held_are = holds
-            ∙ ap (λ k. holding (words held) (take k registers) made) counted
+            ∙ ap (λ k. holding held (take k registers) made) counted
             ∙ ap₂ (λ l m. holding l (take (wires_in n) registers) m) w.held_are w.made_is;
         made_is = makes ∙ ap₂ ◌+◌ w.made_is counted;
         few_inputs = w.few_inputs;
@@ -476,7 +468,7 @@ module _ {labels gates outputs : ℕ} {text held kinds slots : List ℕ} {at inp
       → is_output item.kind ≡ true
       → item.length ≤ 26
       → 2 * entry_slots * (inputs + done) + 2 * (i + 1) ≤ length slots
-      → wire ≡ get_or (words held) item.first 0
+      → wire ≡ get_or held item.first 0
       → Adds slots (2 * entry_slots * (inputs + done) + 2 * i) (flat_map bytes_of (wire ∷ [])) slots'
       → OutputsRead labels gates outputs (outputs - (i + 1)) text (at + item.length) inputs done (i + 1) held kinds slots'
   output_next {slots' = slots'} item w below is wants short room is_wire added =

@@ -1,14 +1,9 @@
 use mathlib.Core.Path.{refl, sym, ap, ◌∙◌}
 use mathlib.Core.Bool.{cond}
 use borrow.Author.Tests.{eq-eqb, ne_eqb}
-use Rattle.openqasm_reader.specs.Items.{kind_of, before, between, behind}
+use Rattle.openqasm_reader.specs.Items.{kind_of, between}
 use Rattle.openqasm_reader.proofs.Laws.Items.{name_here, item_two}
-use borrow.Author.Rules.{rules}
 use Rattle.openqasm_reader.proofs.controlled_gate.Goals as goal
-
-pub two_numbers-requires : goal.two_numbers-requires
-unfolding before between behind
-two_numbers-requires c = record { at_bound = search rules; prefix_value = (refl, refl, refl) }
 
 pub returns-then-byte_at-eq120 : goal.returns-then-byte_at-eq120
 unfolding kind_of between
@@ -19,10 +14,6 @@ returns-then-byte_at-eq120 c =
     let name = name_here a.text.now a.at _ _ digits c.byte_at.ensures in
     let named = eq-eqb _ 120 (sym name ∙ c.if-byte_at-eq120.true) in
     item_two a.text.now a.at 105 7 (sym c.requires.1) (ap (λ b. cond b 7 8) named) _ refl refl refl c.two_numbers.ensures
-
-pub two_numbers-requires-2 : goal.two_numbers-requires-2
-unfolding before between behind
-two_numbers-requires-2 c = record { at_bound = search rules; prefix_value = (refl, refl, refl) }
 
 pub returns : goal.returns
 unfolding kind_of between

@@ -1,88 +1,10 @@
 -- `openqasm_reader::item_at` meets its contract. Assumes nothing.
 use native.Mathlib.Omega.{arith}
 use mathlib.Core.Path.{refl, sym, ◌∙◌}
-use Rattle.openqasm_reader.specs.Items.{kind_of, before, between, behind}
-use Rattle.openqasm_reader.proofs.Laws.Items.{kind_none, inside, no_item_here, item_one, item_two}
+use Rattle.openqasm_reader.specs.Items.{kind_of, between}
+use Rattle.openqasm_reader.proofs.Laws.Items.{kind_none, no_item_here, item_one, item_two}
 use borrow.Author.Rules.{rules}
 use Rattle.openqasm_reader.proofs.item_at.Goals as goal
-
-pub one_number-requires : goal.one_number-requires
-unfolding before behind
-one_number-requires c =
-    let a = c.args in
-    let byte = c.byte_at.ensures in
-    let here = inside a.text.now a.at (omega (arith, byte, c.in-104.is)) in
-    record { at_bound = search rules; prefix_value = (refl, refl) }
-
-pub one_number-requires-in-120 : goal.one_number-requires-in-120
-unfolding before behind
-one_number-requires-in-120 c =
-    let a = c.args in
-    let byte = c.byte_at.ensures in
-    let here = inside a.text.now a.at (omega (arith, byte, c.in-120.is)) in
-    record { at_bound = search rules; prefix_value = (refl, refl) }
-
-pub one_number-requires-in-122 : goal.one_number-requires-in-122
-unfolding before behind
-one_number-requires-in-122 c =
-    let a = c.args in
-    let byte = c.byte_at.ensures in
-    let here = inside a.text.now a.at (omega (arith, byte, c.in-122.is)) in
-    record { at_bound = search rules; prefix_value = (refl, refl) }
-
-pub one_number-requires-in-115 : goal.one_number-requires-in-115
-unfolding before behind
-one_number-requires-in-115 c =
-    let a = c.args in
-    let byte = c.byte_at.ensures in
-    let here = inside a.text.now a.at (omega (arith, byte, c.in-115.is)) in
-    record { at_bound = search rules; prefix_value = (refl, refl) }
-
-pub one_number-requires-in-116 : goal.one_number-requires-in-116
-unfolding before behind
-one_number-requires-in-116 c =
-    let a = c.args in
-    let byte = c.byte_at.ensures in
-    let here = inside a.text.now a.at (omega (arith, byte, c.in-116.is)) in
-    record { at_bound = search rules; prefix_value = (refl, refl) }
-
-pub bit_register_or_gate-requires : goal.bit_register_or_gate-requires
-bit_register_or_gate-requires c =
-    let a = c.args in
-    let byte = c.byte_at.ensures in
-    let here = inside a.text.now a.at (omega (arith, byte, c.in-99.is)) in
-    (search rules, sym byte ∙ c.in-99.is)
-
-pub two_numbers-requires : goal.two_numbers-requires
-unfolding before between behind
-two_numbers-requires c =
-    let a = c.args in
-    let byte = c.byte_at.ensures in
-    let here = inside a.text.now a.at (omega (arith, byte, c.in-109.is)) in
-    record { at_bound = search rules; prefix_value = (refl, refl, refl) }
-
-pub controlled_gate-requires : goal.controlled_gate-requires
-controlled_gate-requires c =
-    let a = c.args in
-    let byte = c.byte_at.ensures in
-    let here = inside a.text.now a.at (omega (arith, byte, c.in-105.is)) in
-    (search rules, sym byte ∙ c.in-105.is)
-
-pub two_numbers-requires-in-113 : goal.two_numbers-requires-in-113
-unfolding before between behind
-two_numbers-requires-in-113 c =
-    let a = c.args in
-    let byte = c.byte_at.ensures in
-    let here = inside a.text.now a.at (omega (arith, byte, c.in-113.is)) in
-    record { at_bound = search rules; prefix_value = (refl, refl, refl) }
-
-pub one_number-requires-in-32 : goal.one_number-requires-in-32
-unfolding before behind
-one_number-requires-in-32 c =
-    let a = c.args in
-    let byte = c.byte_at.ensures in
-    let here = inside a.text.now a.at (omega (arith, byte, c.in-32.is)) in
-    record { at_bound = search rules; prefix_value = (refl, refl) }
 
 pub returns-in-104 : goal.returns-in-104
 unfolding kind_of between
@@ -119,18 +41,12 @@ returns-in-116 c =
     let first = sym c.in-116.is ∙ c.byte_at.ensures in
     item_one a.text.now a.at 116 4 first refl _ refl refl c.one_number-in-116.ensures
 
-pub returns-in-99 : goal.returns-in-99
-returns-in-99 c = c.bit_register_or_gate.ensures
-
 pub returns-in-109 : goal.returns-in-109
 unfolding kind_of between
 returns-in-109 c =
     let a = c.args in
     let first = sym c.in-109.is ∙ c.byte_at.ensures in
     item_two a.text.now a.at 109 6 first refl _ refl refl refl c.two_numbers.ensures
-
-pub returns-in-105 : goal.returns-in-105
-returns-in-105 c = c.controlled_gate.ensures
 
 pub returns-in-113 : goal.returns-in-113
 unfolding kind_of between
@@ -149,8 +65,7 @@ returns-in-32 c =
 pub returns-in_default : goal.returns-in_default
 returns-in_default c =
     let a = c.args in
-    let r = c.in_default.in_default-own.rest in
-    let none = kind_none _ _ _
-    r.0.0.0.0.0.0.0.0.0.1 r.0.0.0.0.0.0.0.0.1 r.0.0.0.0.0.0.0.1 r.0.0.0.0.0.0.1
-    r.0.0.0.0.0.1 r.0.0.0.0.1 r.0.0.0.1 r.0.0.1 r.0.1 r.1 in
+    let none = kind_none c.byte_at.result _ _
+    (λ e. omega arith) (λ e. omega arith) (λ e. omega arith) (λ e. omega arith) (λ e. omega arith)
+    (λ e. omega arith) (λ e. omega arith) (λ e. omega arith) (λ e. omega arith) (λ e. omega arith) in
     (no_item_here a.text.now a.at _ 255 c.byte_at.ensures none refl, search rules)

@@ -1,5 +1,5 @@
 -- From the tests to the trees: the label section, the types at all positions, the term.
-use Rattle.std.specs.Prelude.{ℕ, zero, suc, ◌+◌, ◌-◌, ◌≤◌, ◌<◌, ◌≡◌, refl, Bool, true, false, ◌&&◌, not, List, [], ◌∷◌, T as Truth, eqb, ltb, length}
+use Rattle.std.specs.Prelude.{ℕ, zero, suc, ◌+◌, ◌-◌, ◌≤◌, ◌<◌, ◌≡◌, refl, Bool, true, false, ◌&&◌, not, List, [], ◌∷◌, T as Truth, eqb, ltb, length, Result, Ok, is_some}
 use Rattle.std.proofs.Common.{sym, ap, subst, ◌∙◌, true≢false, arith, eqb→eq, ltb→lt}
 use Rattle.std.proofs.Math.Option.{some}
 use Rattle.std.proofs.Math.Decide.{dec_lt}
@@ -9,8 +9,9 @@ use Rattle.rules.specs.Types.{Wire, Bit, Qubit, Ty, ◌⊗◌, ◌⊸◌, !◌, 
 use Rattle.rules.specs.Gates.{nth, is_gate}
 use Rattle.rules.specs.Terms.{Term, abstraction, application, pair, let_in, lift, force, box, apply}
 use Rattle.rules.proofs.Laws.Booleans.{and_both}
+use Rattle.program.specs.Format.{known}
 use Rattle.program.specs.Format.{label_count, type_count, term_count, first_term, entry_count, kind_at, argument_at}
-use Rattle.program.specs.Format.{label_shape, type_shape, term_shape, shape_at, is_known, shape_allows}
+use Rattle.program.specs.Format.{label_shape, type_shape, term_shape, shape_at, shape_allows}
 use Rattle.program.specs.Traversal.{traverse_from}
 use Rattle.program.specs.Reading.{runs_out, kind_wrong, argument_wrong, type_wrong, circ_wrong, box_wrong, wires_wrong}
 use Rattle.program.specs.Trees.{TypeAt, bit_at, qubit_at, unit_at, tensor_at, function_at, reusable_at, circ_at}
@@ -27,10 +28,9 @@ use Rattle.program.proofs.Laws.TreeTraversal.{traverse_entry, type_parts_lem, ty
 use Rattle.program.proofs.Laws.WireTests.{circ_test, box_test, wires_of_type, wires_of_term}
 use Rattle.program.proofs.Laws.Tests.{Passed}
 use Rattle.program.specs.declared.format.Argument.TheVariants.{Zero}
-use Rattle.program.specs.declared.format.Shape.TheVariants.{Node}
-use Rattle.program.specs.declared.traversal.Subject.TheVariants.{TypeEnd, TermEnd}
+use Rattle.program.specs.declared.traversal.Halt.{Halt}
+use Rattle.program.specs.Traversal.{End}
 use Rattle.program.specs.declared.traversal.Parts.TheVariants.{Leaf, One, Two}
-use Rattle.program.specs.declared.traversal.Traversed.TheVariants.{To}
 
 -- Types stand one behind the other from e to n − 1, one for each part that a traversal waits for.
 data TypesAt (f : List ℕ) : ℕ → List ℕ → ℕ → Type 0 where
@@ -63,55 +63,55 @@ types_two_at C g (next_type {m = m} {A = A} s (next_type {m = k} {A = B} t r)) =
 -- One entry of the type section.
 type_entry : (f : List ℕ) (left e b : ℕ) (waiting : List ℕ)
     → label_count f ≤ e → e < first_term f → TypeKind (kind_at f e)
-    → runs_out (traverse_from TypeEnd f (suc left) e (b ∷ waiting)) ≡ false
-    → ((w : List ℕ) → runs_out (traverse_from TypeEnd f left (suc e) w) ≡ false → Types f (suc e) w)
+    → runs_out (traverse_from End f (suc left) e (b ∷ waiting)) ≡ false
+    → ((w : List ℕ) → runs_out (traverse_from End f left (suc e) w) ≡ false → Types f (suc e) w)
     → Types f e (b ∷ waiting)
 unfolding type_shape
 type_entry f left e b waiting h l (is_bit k) o ih =
     types_leaf (bit_at k)
-    (ih waiting (ap runs_out (sym (traverse_entry TypeEnd f left e b waiting Leaf (type_parts_lem f e b 0 h l k))) ∙ o))
+    (ih waiting (ap runs_out (sym (traverse_entry End f left e b waiting Leaf (type_parts_lem f e b 0 h l k))) ∙ o))
 type_entry f left e b waiting h l (is_qubit k) o ih =
     types_leaf (qubit_at k)
-    (ih waiting (ap runs_out (sym (traverse_entry TypeEnd f left e b waiting Leaf (type_parts_lem f e b 1 h l k))) ∙ o))
+    (ih waiting (ap runs_out (sym (traverse_entry End f left e b waiting Leaf (type_parts_lem f e b 1 h l k))) ∙ o))
 type_entry f left e b waiting h l (is_tensor k) o ih =
     let r =
     ih (b ∷ b ∷ waiting)
-    (ap runs_out (sym (traverse_entry TypeEnd f left e b waiting (Two b b) (type_parts_lem f e b 2 h l k))) ∙ o) in
+    (ap runs_out (sym (traverse_entry End f left e b waiting (Two b b) (type_parts_lem f e b 2 h l k))) ∙ o) in
     (r.0, types_two_at ◌⊗◌ (λ A B m n s t. tensor_at k s t) r.1, r.2)
 type_entry f left e b waiting h l (is_function k) o ih =
     let r =
     ih (b ∷ b ∷ waiting)
-    (ap runs_out (sym (traverse_entry TypeEnd f left e b waiting (Two b b) (type_parts_lem f e b 3 h l k))) ∙ o) in
+    (ap runs_out (sym (traverse_entry End f left e b waiting (Two b b) (type_parts_lem f e b 3 h l k))) ∙ o) in
     (r.0, types_two_at ◌⊸◌ (λ A B m n s t. function_at k s t) r.1, r.2)
 type_entry f left e b waiting h l (is_reusable k) o ih =
     let r =
     ih (b ∷ waiting)
-    (ap runs_out (sym (traverse_entry TypeEnd f left e b waiting (One b) (type_parts_lem f e b 4 h l k))) ∙ o) in
+    (ap runs_out (sym (traverse_entry End f left e b waiting (One b) (type_parts_lem f e b 4 h l k))) ∙ o) in
     (r.0, types_one_at !◌ (λ A m s. reusable_at k s) r.1, r.2)
 type_entry f left e b waiting h l (is_circ k) o ih =
     let r =
     ih (b ∷ b ∷ waiting)
-    (ap runs_out (sym (traverse_entry TypeEnd f left e b waiting (Two b b) (type_parts_lem f e b 5 h l k))) ∙ o) in
+    (ap runs_out (sym (traverse_entry End f left e b waiting (Two b b) (type_parts_lem f e b 5 h l k))) ∙ o) in
     (r.0, types_two_at Circ (λ A B m n s t. circ_at k s t) r.1, r.2)
 type_entry f left e b waiting h l (is_unit k) o ih =
     types_leaf (unit_at k)
-    (ih waiting (ap runs_out (sym (traverse_entry TypeEnd f left e b waiting Leaf (type_parts_lem f e b 6 h l k))) ∙ o))
+    (ih waiting (ap runs_out (sym (traverse_entry End f left e b waiting Leaf (type_parts_lem f e b 6 h l k))) ∙ o))
 
 -- An entry of the type section has one of its kinds.
 kind_of_type : (f : List ℕ) → Passed f → (e : ℕ) → label_count f ≤ e → e < first_term f → TypeKind (kind_at f e)
 unfolding kind_wrong
 kind_of_type f p e h l =
     type_kind (kind_at f e)
-    (of_true (is_known (type_shape (kind_at f e)))
-    (ap is_known (sym (shape_of_type f e h l))
-    ∙ not-false (is_known (shape_at f e)) (p.kinds_right e (omega arith))))
+    (of_true (is_some (type_shape (kind_at f e)))
+    (ap is_some (sym (shape_of_type f e h l))
+    ∙ not-false (is_some (shape_at f e)) (p.kinds_right e (omega arith))))
 
 -- A traversal that does not run out of the section leaves a type behind it for each part.
 types_from : (f : List ℕ)
     → Passed f
     → (left e : ℕ) (waiting : List ℕ)
     → label_count f ≤ e → e + left ≡ first_term f
-    → runs_out (traverse_from TypeEnd f left e waiting) ≡ false
+    → runs_out (traverse_from End f left e waiting) ≡ false
     → Types f e waiting
 types_from f p zero e [] h l o = (e, no_type, omega arith)
 types_from f p zero e (b ∷ waiting) h l o = absurd (true≢false o)
@@ -206,9 +206,9 @@ kind_of_label : (f : List ℕ) → Passed f → (e : ℕ) → e < label_count f 
 unfolding kind_wrong
 kind_of_label f p e h =
     label_range (kind_at f e)
-    (of_true (is_known (label_shape (kind_at f e)))
-    (ap is_known (sym (shape_of_label f e h))
-    ∙ not-false (is_known (shape_at f e)) (p.kinds_right e (omega arith))))
+    (of_true (is_some (label_shape (kind_at f e)))
+    (ap is_some (sym (shape_of_label f e h))
+    ∙ not-false (is_some (shape_at f e)) (p.kinds_right e (omega arith))))
 
 pub label_wires_kinds : (f : List ℕ)
     → Passed f
@@ -222,7 +222,7 @@ label_wires_kinds f p e α q =
 pub argument_zero : (f : List ℕ) → Passed f → (e : ℕ) → e < first_term f → argument_at f e ≡ 0
 argument_zero f p e h = go (dec_lt e (label_count f))
   where
-    of_shape : (parts : ℕ) → shape_at f e ≡ Node parts Zero → argument_at f e ≡ 0
+    of_shape : (parts : ℕ) → shape_at f e ≡ known parts Zero → argument_at f e ≡ 0
     of_shape parts q =
         eqb→eq (argument_at f e) 0
         (holds_of (eqb (argument_at f e) 0) (argument_wrong f e) (p.arguments_right e (omega arith))
@@ -270,73 +270,73 @@ term_entry : (f : List ℕ)
     → Passed f
     → (left e b n : ℕ) (waiting : List ℕ)
     → first_term f ≤ e → e < entry_count f → TermKind (kind_at f e)
-    → traverse_from TermEnd f (suc left) e (b ∷ waiting) ≡ To n
-    → ((w : List ℕ) → traverse_from TermEnd f left (suc e) w ≡ To n → TermsAt f (suc e) w n)
+    → traverse_from End f (suc left) e (b ∷ waiting) ≡ Ok n
+    → ((w : List ℕ) → traverse_from End f left (suc e) w ≡ Ok n → TermsAt f (suc e) w n)
     → TermsAt f e (b ∷ waiting) n
 unfolding term_shape
 term_entry f p left e b n waiting h l (is_variable k) o ih =
     next_term (variable_term_at k refl)
-    (ih waiting (sym (traverse_entry TermEnd f left e b waiting Leaf (term_parts_lem f e b 16 h k)) ∙ o))
+    (ih waiting (sym (traverse_entry End f left e b waiting Leaf (term_parts_lem f e b 16 h k)) ∙ o))
 term_entry f p left e b n waiting h l (is_label k) o ih =
     next_term (label_at k refl)
-    (ih waiting (sym (traverse_entry TermEnd f left e b waiting Leaf (term_parts_lem f e b 17 h k)) ∙ o))
+    (ih waiting (sym (traverse_entry End f left e b waiting Leaf (term_parts_lem f e b 17 h k)) ∙ o))
 term_entry f p left e b n waiting h l (is_abstraction k) o ih =
     let r =
-    ih (b ∷ waiting) (sym (traverse_entry TermEnd f left e b waiting (One b) (term_parts_lem f e b 18 h k)) ∙ o) in
+    ih (b ∷ waiting) (sym (traverse_entry End f left e b waiting (One b) (term_parts_lem f e b 18 h k)) ∙ o) in
     let t = position_typed f p (argument_at f e) (ltb→lt (argument_at f e) (type_count f) (argument_of_term f p e 18 h l k)) in
     terms_one_at (abstraction t.0) (λ M m s. abstraction_at k t.1 s) r
 term_entry f p left e b n waiting h l (is_application k) o ih =
     let r =
-    ih (b ∷ b ∷ waiting) (sym (traverse_entry TermEnd f left e b waiting (Two b b) (term_parts_lem f e b 19 h k)) ∙ o) in
+    ih (b ∷ b ∷ waiting) (sym (traverse_entry End f left e b waiting (Two b b) (term_parts_lem f e b 19 h k)) ∙ o) in
     let z = eqb→eq (argument_at f e) 0 (argument_of_term f p e 19 h l k) in
     terms_two_at application (λ M N m j s t. application_at k z s t) r
 term_entry f p left e b n waiting h l (is_pair k) o ih =
     let r =
-    ih (b ∷ b ∷ waiting) (sym (traverse_entry TermEnd f left e b waiting (Two b b) (term_parts_lem f e b 20 h k)) ∙ o) in
+    ih (b ∷ b ∷ waiting) (sym (traverse_entry End f left e b waiting (Two b b) (term_parts_lem f e b 20 h k)) ∙ o) in
     let z = eqb→eq (argument_at f e) 0 (argument_of_term f p e 20 h l k) in
     terms_two_at pair (λ M N m j s t. pair_at k z s t) r
 term_entry f p left e b n waiting h l (is_let k) o ih =
     let r =
-    ih (b ∷ b ∷ waiting) (sym (traverse_entry TermEnd f left e b waiting (Two b b) (term_parts_lem f e b 21 h k)) ∙ o) in
+    ih (b ∷ b ∷ waiting) (sym (traverse_entry End f left e b waiting (Two b b) (term_parts_lem f e b 21 h k)) ∙ o) in
     let z = eqb→eq (argument_at f e) 0 (argument_of_term f p e 21 h l k) in
     terms_two_at let_in (λ M N m j s t. let_at k z s t) r
 term_entry f p left e b n waiting h l (is_lift_lem k) o ih =
     let r =
-    ih (b ∷ waiting) (sym (traverse_entry TermEnd f left e b waiting (One b) (term_parts_lem f e b 22 h k)) ∙ o) in
+    ih (b ∷ waiting) (sym (traverse_entry End f left e b waiting (One b) (term_parts_lem f e b 22 h k)) ∙ o) in
     let z = eqb→eq (argument_at f e) 0 (argument_of_term f p e 22 h l k) in
     terms_one_at lift (λ M m s. lift_at k z s) r
 term_entry f p left e b n waiting h l (is_force k) o ih =
     let r =
-    ih (b ∷ waiting) (sym (traverse_entry TermEnd f left e b waiting (One b) (term_parts_lem f e b 23 h k)) ∙ o) in
+    ih (b ∷ waiting) (sym (traverse_entry End f left e b waiting (One b) (term_parts_lem f e b 23 h k)) ∙ o) in
     let z = eqb→eq (argument_at f e) 0 (argument_of_term f p e 23 h l k) in
     terms_one_at force (λ M m s. force_at k z s) r
 term_entry f p left e b n waiting h l (is_box k) o ih =
     let r =
-    ih (b ∷ waiting) (sym (traverse_entry TermEnd f left e b waiting (One b) (term_parts_lem f e b 24 h k)) ∙ o) in
+    ih (b ∷ waiting) (sym (traverse_entry End f left e b waiting (One b) (term_parts_lem f e b 24 h k)) ∙ o) in
     let t = position_typed f p (argument_at f e) (ltb→lt (argument_at f e) (type_count f) (argument_of_term f p e 24 h l k)) in
     terms_one_at (box t.0) (λ M m s. box_term_at k t.1 s) r
 term_entry f p left e b n waiting h l (is_apply k) o ih =
     let r =
-    ih (b ∷ b ∷ waiting) (sym (traverse_entry TermEnd f left e b waiting (Two b b) (term_parts_lem f e b 25 h k)) ∙ o) in
+    ih (b ∷ b ∷ waiting) (sym (traverse_entry End f left e b waiting (Two b b) (term_parts_lem f e b 25 h k)) ∙ o) in
     let z = eqb→eq (argument_at f e) 0 (argument_of_term f p e 25 h l k) in
     terms_two_at apply (λ M N m j s t. apply_at k z s t) r
 term_entry f p left e b n waiting h l (is_gate_lem k) o ih =
     next_term (gate_term_at k refl)
-    (ih waiting (sym (traverse_entry TermEnd f left e b waiting Leaf (term_parts_lem f e b 26 h k)) ∙ o))
+    (ih waiting (sym (traverse_entry End f left e b waiting Leaf (term_parts_lem f e b 26 h k)) ∙ o))
 term_entry f p left e b n waiting h l (is_unit_value k) o ih =
     next_term (unit_value_at k (eqb→eq (argument_at f e) 0 (argument_of_term f p e 27 h l k)))
-    (ih waiting (sym (traverse_entry TermEnd f left e b waiting Leaf (term_parts_lem f e b 27 h k)) ∙ o))
+    (ih waiting (sym (traverse_entry End f left e b waiting Leaf (term_parts_lem f e b 27 h k)) ∙ o))
 
 -- An entry of the term section has one of its kinds.
 kind_of_term : (f : List ℕ) → Passed f → (e : ℕ) → first_term f ≤ e → e < entry_count f → TermKind (kind_at f e)
 unfolding kind_wrong
 kind_of_term f p e h l =
     term_kind (kind_at f e)
-    (of_true (is_known (term_shape (kind_at f e)))
-    (ap is_known (sym (shape_of_term f e h))
-    ∙ not-false (is_known (shape_at f e)) (p.kinds_right e l)))
+    (of_true (is_some (term_shape (kind_at f e)))
+    (ap is_some (sym (shape_of_term f e h))
+    ∙ not-false (is_some (shape_at f e)) (p.kinds_right e l)))
 
-to_is : (m n : ℕ) → To m ≡ To n → m ≡ n
+to_is : (m n : ℕ) → ◌≡◌ {A = Result ℕ Halt} (Ok m) (Ok n) → m ≡ n
 to_is m n h = cc
 
 -- A traversal that comes to an end leaves a term behind it for each part.
@@ -344,7 +344,7 @@ terms_from : (f : List ℕ)
     → Passed f
     → (left e n : ℕ) (waiting : List ℕ)
     → first_term f ≤ e → e + left ≡ entry_count f
-    → traverse_from TermEnd f left e waiting ≡ To n
+    → traverse_from End f left e waiting ≡ Ok n
     → TermsAt f e waiting n
 terms_from f p zero e n [] h l o = subst (λ i. TermsAt f e [] i) (to_is e n o) no_term
 terms_from f p zero e n (b ∷ waiting) h l o = let z : ◌≡◌ {A = ℕ} 0 1 = cc in let y : ⊥ = omega arith in absurd y

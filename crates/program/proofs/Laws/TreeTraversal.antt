@@ -1,5 +1,5 @@
 -- Traversals over trees that stand in a file.
-use Rattle.std.specs.Prelude.{ℕ, suc, ◌+◌, ◌≤◌, ◌<◌, ◌≡◌, refl, Bool, true, false, ◌&&◌, cond, List, ◌∷◌, T as Truth, eqb, ltb}
+use Rattle.std.specs.Prelude.{ℕ, suc, ◌+◌, ◌≤◌, ◌<◌, ◌≡◌, refl, Bool, true, false, ◌&&◌, cond, List, ◌∷◌, T as Truth, eqb, ltb, Result, Err}
 use Rattle.std.proofs.Common.{ap, ap₂, subst, ◌∙◌, true≢false, arith}
 use Rattle.std.proofs.Math.Decide.{dec_lt, ℕ_discrete}
 use Rattle.rules.specs.Kinds.{variable_kind, abstraction_kind, let_kind}
@@ -15,12 +15,12 @@ use Rattle.program.specs.Trees.{TypeAt, bit_at, qubit_at, unit_at, tensor_at, fu
 use Rattle.program.specs.Trees.{variable_term_at, label_at, abstraction_at, application_at, pair_at, let_at, lift_at}
 use Rattle.program.specs.Trees.{force_at, box_term_at, apply_at, gate_term_at, unit_value_at, closed_under}
 use Rattle.program.proofs.Laws.Kinds.{shape_of_type, shape_of_term}
-use Rattle.program.specs.declared.traversal.Subject.{Subject}
-use Rattle.program.specs.declared.traversal.Subject.TheVariants.{TypeEnd, WireType, TermEnd, Scope}
+use Rattle.program.specs.Traversal.{Subject}
+use Rattle.program.specs.Traversal.{End, WireType, Scope}
 use Rattle.program.specs.declared.traversal.Parts.{Parts}
 use Rattle.program.specs.declared.traversal.Parts.TheVariants.{Leaf, One, Two, Stop}
-use Rattle.program.specs.declared.traversal.Traversed.{Traversed}
-use Rattle.program.specs.declared.traversal.Traversed.TheVariants.{Stopped}
+use Rattle.program.specs.declared.traversal.Halt.{Halt}
+use Rattle.program.specs.declared.traversal.Halt.TheVariants.{Stopped}
 
 -- The entries from e to n − 1: the first of them, and those behind it.
 pub range_leaf : (P : ℕ → Type 0) (e : ℕ) → P e → (i : ℕ) → e ≤ i → i < suc e → P i
@@ -45,13 +45,13 @@ range_two P e m n h first second = range_one P e n h (λ i k l. go i k l (dec_lt
     go i k l (no q) = second i (omega (arith, q)) l
 
 -- How a traversal goes on behind an entry with these parts.
-abbrev pub traverse_on : Subject → List ℕ → ℕ → ℕ → List ℕ → Parts → Traversed
+abbrev pub traverse_on : Subject → List ℕ → ℕ → ℕ → List ℕ → Parts → Result ℕ Halt
 traverse_on s f left e waiting p =
     elim p [
       | Leaf ↦ traverse_from s f left (suc e) waiting
       | One x ↦ traverse_from s f left (suc e) (x ∷ waiting)
       | Two x y ↦ traverse_from s f left (suc e) (x ∷ y ∷ waiting)
-      | Stop ↦ Stopped e
+      | Stop ↦ Err (Stopped e)
     ]
 
 -- One entry of a traversal.
@@ -81,7 +81,7 @@ Passes s f e b size n =
 -- A traversal stops in these entries.
 abbrev pub Stops : Subject → List ℕ → ℕ → ℕ → ℕ → Type 0
 Stops s f e b size =
-    (left : ℕ) (waiting : List ℕ) → (x : ℕ) × (traverse_from s f (size + left) e (b ∷ waiting) ≡ Stopped x)
+    (left : ℕ) (waiting : List ℕ) → (x : ℕ) × (traverse_from s f (size + left) e (b ∷ waiting) ≡ Err (Stopped x))
 
 -- The same traversal with the number of entries left written in another way.
 left_is : (s : Subject) (f : List ℕ) (e : ℕ) (waiting : List ℕ) (k l : ℕ)
@@ -160,38 +160,38 @@ stop_second s f e b x y size more m h p q left waiting =
 -- The parts of an entry of the type section.
 pub type_parts_lem : (f : List ℕ) (e b k : ℕ)
     → label_count f ≤ e → e < first_term f → kind_at f e ≡ k
-    → parts_at TypeEnd f e b ≡ parts_of (type_shape k) b
+    → parts_at End f e b ≡ parts_of (type_shape k) b
 type_parts_lem f e b k h l q = ap (λ s. parts_of s b) (shape_of_type f e h l ∙ ap type_shape q)
 
 -- A type that stands in the type section is passed over by the traversal to its end.
 pub pass_type : {f : List ℕ} {e n : ℕ} {A : Ty}
     → TypeAt f e A n
     → (b : ℕ) → label_count f ≤ e → n ≤ first_term f
-    → Passes TypeEnd f e b (entries A) n
+    → Passes End f e b (entries A) n
 unfolding type_shape
-pass_type {f} (bit_at {e = e} k) b h l = pass_leaf TypeEnd f e b (type_parts_lem f e b 0 h l k)
-pass_type {f} (qubit_at {e = e} k) b h l = pass_leaf TypeEnd f e b (type_parts_lem f e b 1 h l k)
-pass_type {f} (unit_at {e = e} k) b h l = pass_leaf TypeEnd f e b (type_parts_lem f e b 6 h l k)
+pass_type {f} (bit_at {e = e} k) b h l = pass_leaf End f e b (type_parts_lem f e b 0 h l k)
+pass_type {f} (qubit_at {e = e} k) b h l = pass_leaf End f e b (type_parts_lem f e b 1 h l k)
+pass_type {f} (unit_at {e = e} k) b h l = pass_leaf End f e b (type_parts_lem f e b 6 h l k)
 pass_type {f} (tensor_at {e = e} {m = m} {n = n} {A = A} {B = B} k s t) b h l =
     let p = type_end s in
     let q = type_end t in
-    pass_two TypeEnd f e b b b (entries A) (entries B) m n (type_parts_lem f e b 2 h (omega arith) k)
+    pass_two End f e b b b (entries A) (entries B) m n (type_parts_lem f e b 2 h (omega arith) k)
     (pass_type s b (omega arith) (omega arith))
     (pass_type t b (omega arith) l)
 pass_type {f} (function_at {e = e} {m = m} {n = n} {A = A} {B = B} k s t) b h l =
     let p = type_end s in
     let q = type_end t in
-    pass_two TypeEnd f e b b b (entries A) (entries B) m n (type_parts_lem f e b 3 h (omega arith) k)
+    pass_two End f e b b b (entries A) (entries B) m n (type_parts_lem f e b 3 h (omega arith) k)
     (pass_type s b (omega arith) (omega arith))
     (pass_type t b (omega arith) l)
 pass_type {f} (reusable_at {e = e} {n = n} {A = A} k s) b h l =
     let p = type_end s in
-    pass_one TypeEnd f e b b (entries A) n (type_parts_lem f e b 4 h (omega arith) k)
+    pass_one End f e b b (entries A) n (type_parts_lem f e b 4 h (omega arith) k)
     (pass_type s b (omega arith) l)
 pass_type {f} (circ_at {e = e} {m = m} {n = n} {A = A} {B = B} k s t) b h l =
     let p = type_end s in
     let q = type_end t in
-    pass_two TypeEnd f e b b b (entries A) (entries B) m n (type_parts_lem f e b 5 h (omega arith) k)
+    pass_two End f e b b b (entries A) (entries B) m n (type_parts_lem f e b 5 h (omega arith) k)
     (pass_type s b (omega arith) (omega arith))
     (pass_type t b (omega arith) l)
 
@@ -270,47 +270,47 @@ term_source (unit_value_at k a) = tt
 -- The parts of an entry of the term section.
 pub term_parts_lem : (f : List ℕ) (e b k : ℕ)
     → first_term f ≤ e → kind_at f e ≡ k
-    → parts_at TermEnd f e b ≡ parts_of (term_shape k) b
+    → parts_at End f e b ≡ parts_of (term_shape k) b
 term_parts_lem f e b k h q = ap (λ s. parts_of s b) (shape_of_term f e h ∙ ap term_shape q)
 
 -- A term that stands in the term section is passed over by the traversal to its end.
 pub pass_term : {f : List ℕ} {e n : ℕ} {M : Term}
     → TermAt f e M n
     → (b : ℕ) → first_term f ≤ e
-    → Passes TermEnd f e b (nodes M) n
+    → Passes End f e b (nodes M) n
 unfolding term_shape
-pass_term {f} (variable_term_at {e = e} k a) b h = pass_leaf TermEnd f e b (term_parts_lem f e b 16 h k)
-pass_term {f} (label_at {e = e} k a) b h = pass_leaf TermEnd f e b (term_parts_lem f e b 17 h k)
+pass_term {f} (variable_term_at {e = e} k a) b h = pass_leaf End f e b (term_parts_lem f e b 16 h k)
+pass_term {f} (label_at {e = e} k a) b h = pass_leaf End f e b (term_parts_lem f e b 17 h k)
 pass_term {f} (abstraction_at {e = e} {n = n} {M = M} k a s) b h =
-    pass_one TermEnd f e b b (nodes M) n (term_parts_lem f e b 18 h k) (pass_term s b (omega arith))
+    pass_one End f e b b (nodes M) n (term_parts_lem f e b 18 h k) (pass_term s b (omega arith))
 pass_term {f} (application_at {e = e} {m = m} {n = n} {M = M} {N = N} k a s t) b h =
     let p = term_end s in
-    pass_two TermEnd f e b b b (nodes M) (nodes N) m n (term_parts_lem f e b 19 h k)
+    pass_two End f e b b b (nodes M) (nodes N) m n (term_parts_lem f e b 19 h k)
     (pass_term s b (omega arith))
     (pass_term t b (omega arith))
 pass_term {f} (pair_at {e = e} {m = m} {n = n} {M = M} {N = N} k a s t) b h =
     let p = term_end s in
-    pass_two TermEnd f e b b b (nodes M) (nodes N) m n (term_parts_lem f e b 20 h k)
+    pass_two End f e b b b (nodes M) (nodes N) m n (term_parts_lem f e b 20 h k)
     (pass_term s b (omega arith))
     (pass_term t b (omega arith))
 pass_term {f} (let_at {e = e} {m = m} {n = n} {M = M} {N = N} k a s t) b h =
     let p = term_end s in
-    pass_two TermEnd f e b b b (nodes M) (nodes N) m n (term_parts_lem f e b 21 h k)
+    pass_two End f e b b b (nodes M) (nodes N) m n (term_parts_lem f e b 21 h k)
     (pass_term s b (omega arith))
     (pass_term t b (omega arith))
 pass_term {f} (lift_at {e = e} {n = n} {M = M} k a s) b h =
-    pass_one TermEnd f e b b (nodes M) n (term_parts_lem f e b 22 h k) (pass_term s b (omega arith))
+    pass_one End f e b b (nodes M) n (term_parts_lem f e b 22 h k) (pass_term s b (omega arith))
 pass_term {f} (force_at {e = e} {n = n} {M = M} k a s) b h =
-    pass_one TermEnd f e b b (nodes M) n (term_parts_lem f e b 23 h k) (pass_term s b (omega arith))
+    pass_one End f e b b (nodes M) n (term_parts_lem f e b 23 h k) (pass_term s b (omega arith))
 pass_term {f} (box_term_at {e = e} {n = n} {M = M} k a s) b h =
-    pass_one TermEnd f e b b (nodes M) n (term_parts_lem f e b 24 h k) (pass_term s b (omega arith))
+    pass_one End f e b b (nodes M) n (term_parts_lem f e b 24 h k) (pass_term s b (omega arith))
 pass_term {f} (apply_at {e = e} {m = m} {n = n} {M = M} {N = N} k a s t) b h =
     let p = term_end s in
-    pass_two TermEnd f e b b b (nodes M) (nodes N) m n (term_parts_lem f e b 25 h k)
+    pass_two End f e b b b (nodes M) (nodes N) m n (term_parts_lem f e b 25 h k)
     (pass_term s b (omega arith))
     (pass_term t b (omega arith))
-pass_term {f} (gate_term_at {e = e} k a) b h = pass_leaf TermEnd f e b (term_parts_lem f e b 26 h k)
-pass_term {f} (unit_value_at {e = e} k a) b h = pass_leaf TermEnd f e b (term_parts_lem f e b 27 h k)
+pass_term {f} (gate_term_at {e = e} k a) b h = pass_leaf End f e b (term_parts_lem f e b 26 h k)
+pass_term {f} (unit_value_at {e = e} k a) b h = pass_leaf End f e b (term_parts_lem f e b 27 h k)
 
 -- The parts of an entry of kind k with argument a in the traversal over binders.
 abbrev scope_parts_of : ℕ → ℕ → ℕ → Parts

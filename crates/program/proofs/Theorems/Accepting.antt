@@ -1,5 +1,5 @@
 -- `read` accepts exactly the files in which trees stand: what it accepts has a term, and what has a term it accepts.
-use Rattle.std.specs.Prelude.{ℕ, ◌+◌, ◌-◌, ◌≤◌, ◌<◌, ◌≡◌, refl, Bool, true, false, ◌&&◌, not, List, [], ◌∷◌, T as Truth, eqb, ltb}
+use Rattle.std.specs.Prelude.{ℕ, ◌+◌, ◌-◌, ◌≤◌, ◌<◌, ◌≡◌, refl, Bool, true, false, ◌&&◌, not, List, [], ◌∷◌, T as Truth, eqb, ltb, is_some}
 use Rattle.std.proofs.Common.{sym, ap, subst, ◌∙◌, true≢false, arith, eq-eqb, lt-ltb}
 use Rattle.std.proofs.Math.Decide.{dec_lt}
 use Rattle.rules.specs.Kinds.{circuit_kind, box_kind}
@@ -10,8 +10,10 @@ use Rattle.rules.specs.Sizes.{nodes}
 use Rattle.rules.proofs.Laws.Booleans.{and_left, and_right, is_true}
 use Rattle.rules.proofs.Laws.TypeCodes.{wire_kind}
 use Rattle.rules.proofs.Laws.Wires.{nth_within}
+use Rattle.program.specs.Format.{known}
+use Rattle.program.specs.Reading.{accepted}
 use Rattle.program.specs.Format.{label_count, type_count, term_count, first_term, entry_count, kind_at, argument_at}
-use Rattle.program.specs.Format.{term_shape, shape_at, is_known, shape_allows}
+use Rattle.program.specs.Format.{term_shape, shape_at, shape_allows}
 use Rattle.program.specs.Traversal.{traverse_from}
 use Rattle.program.specs.Reading.{runs_out, kind_wrong, argument_wrong, type_wrong, circ_wrong, box_wrong, wires_wrong}
 use Rattle.program.specs.Reading.{read_of}
@@ -31,9 +33,7 @@ use Rattle.program.proofs.Laws.Tests.{Passed, is_stopped, passed_of, of_passed}
 use Rattle.program.proofs.Laws.Sections.{position_typed, type_formed, label_wires, label_wires_count, label_wires_kinds}
 use Rattle.program.proofs.Laws.Sections.{argument_zero, whole_term, term_allowed, Allowed}
 use Rattle.program.specs.declared.format.Argument.TheVariants.{Zero}
-use Rattle.program.specs.declared.format.Shape.TheVariants.{Node}
-use Rattle.program.specs.declared.ReadAnswer.TheVariants.{Accepted}
-use Rattle.program.specs.declared.traversal.Subject.TheVariants.{TypeEnd, TermEnd, Scope}
+use Rattle.program.specs.Traversal.{End, Scope}
 use Rattle.program.proofs.Laws.Traversal.{traverse_none}
 
 -- The traversal over binders stops at a term that has a variable with no binder.
@@ -82,7 +82,7 @@ trees_of f p M s =
 
 -- A file that `read` accepts has labels and a term: the trees that stand in it. The answer has its sizes.
 pub read_sound : (f : List ℕ) (L P N : ℕ)
-    → read_of f ≡ Accepted L P N
+    → read_of f ≡ accepted L P N
     → (labels : List Wire)
     × (M : Term)
     × AcceptedFile f labels M
@@ -99,7 +99,7 @@ abbrev EntryRight : List ℕ → ℕ → Type 0
 EntryRight f e = (kind_wrong f e ≡ false) × (argument_wrong f e ≡ false) × (wires_wrong f e ≡ false)
 
 zero_shape_right : (f : List ℕ) (e parts : ℕ)
-    → shape_at f e ≡ Node parts Zero → argument_at f e ≡ 0 → wires_wrong f e ≡ false
+    → shape_at f e ≡ known parts Zero → argument_at f e ≡ 0 → wires_wrong f e ≡ false
     → EntryRight f e
 zero_shape_right f e parts h a w = (
   zero_shape_kind f e parts h,
@@ -153,8 +153,8 @@ type_right_at {f} {e} {n} {A} s h l w a =
     let r = type_shape_zero (kind_at f e) (kind_of_tree s) in (
       zero_shape_right f e r.0 (shape_of_type f e h (omega arith) ∙ r.1) a
           (wires_of_type f e h (omega arith) ∙ type_wires s l w),
-      ap (λ j. runs_out (traverse_from TypeEnd f j e (0 ∷ []))) k
-          ∙ ap runs_out (pass_type s 0 h l (first_term f - n) [] ∙ traverse_none TypeEnd f (first_term f - n) n),
+      ap (λ j. runs_out (traverse_from End f j e (0 ∷ []))) k
+          ∙ ap runs_out (pass_type s 0 h l (first_term f - n) [] ∙ traverse_none End f (first_term f - n) n),
     )
 
 type_right : (f : List ℕ) (labels : List Wire) (M : Term)
@@ -174,14 +174,14 @@ type_right f labels M t e h l =
 -- The entry of a term's first node.
 term_right : (f : List ℕ) (e k : ℕ)
     → first_term f ≤ e → kind_at f e ≡ k
-    → is_known (term_shape k) ≡ true
+    → is_some (term_shape k) ≡ true
     → shape_allows (label_count f) (type_count f) (term_shape k) (argument_at f e) ≡ true
     → (eqb k box_kind && box_wrong f e) ≡ false
     → EntryRight f e
 unfolding kind_wrong argument_wrong
 term_right f e k h q known allowed wired =
     let s = shape_of_term f e h ∙ ap term_shape q in (
-      ap (λ x. not (is_known x)) s ∙ ap not known,
+      ap (λ x. not (is_some x)) s ∙ ap not known,
       ap (λ x. not (shape_allows (label_count f) (type_count f) x (argument_at f e))) s ∙ ap not allowed,
       wires_of_term f e h ∙ ap (λ i. eqb i box_kind && box_wrong f e) q ∙ wired,
     )
@@ -290,7 +290,7 @@ passed_by f labels M t =
       arguments_right = λ e h. (entry_right f labels M t e h).1;
       types_right = λ e h l. (type_right f labels M t e h l).1;
       wires_right = λ e h. (entry_right f labels M t e h).2;
-      one_term_lem = ap (λ k. traverse_from TermEnd f k (first_term f) (0 ∷ [])) c
+      one_term_lem = ap (λ k. traverse_from End f k (first_term f) (0 ∷ [])) c
           ∙ pass_term t.term_is_at 0 (omega arith) 0 [];
       all_bound = ap (λ k. is_stopped (traverse_from Scope f k (first_term f) (0 ∷ []))) c
           ∙ ap is_stopped (pass_scope t.term_is_at 0 (omega arith) t.closed 0 []);
@@ -299,5 +299,5 @@ passed_by f labels M t =
 -- A file in which such trees stand is accepted, with its sizes.
 pub read_complete : (f : List ℕ) (labels : List Wire) (M : Term)
     → AcceptedFile f labels M
-    → read_of f ≡ Accepted (label_count f) (type_count f) (term_count f)
+    → read_of f ≡ accepted (label_count f) (type_count f) (term_count f)
 read_complete f labels M t = of_passed f (passed_by f labels M t)

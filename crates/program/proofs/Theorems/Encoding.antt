@@ -13,10 +13,10 @@ use Rattle.rules.specs.Sizes.{nodes}
 use Rattle.rules.specs.Counting.{source}
 use Rattle.rules.proofs.Laws.Booleans.{and_left, and_right, and_both}
 use Rattle.rules.proofs.Laws.TypeCodes.{type_codes_entries}
+use Rattle.program.specs.Reading.{accepted}
 use Rattle.program.specs.Format.{label_count, type_count, term_count, first_term, entry_count, kind_at, argument_at}
 use Rattle.words.specs.Numbers.{word_at}
 use Rattle.program.specs.Reading.{read_of}
-use Rattle.program.specs.declared.ReadAnswer.TheVariants.{Accepted}
 use Rattle.program.specs.Trees.{TypeAt, bit_at, qubit_at, unit_at, tensor_at, function_at, reusable_at, circ_at}
 use Rattle.program.specs.Trees.{TypeAtPosition}
 use Rattle.program.specs.Trees.{at_position, formed, labels_below, TermAt, variable_term_at, label_at, abstraction_at}
@@ -688,13 +688,13 @@ encode_accepted labels M w = holds_accepted (encode labels M) labels M (encode_h
 -- `read` accepts that file, with the program's sizes.
 pub read_encode : (labels : List Wire) (M : Term)
     → Writable labels M
-    → read_of (encode labels M) ≡ Accepted (length labels) (entries_of (types_in M)) (nodes M)
+    → read_of (encode labels M) ≡ accepted (length labels) (entries_of (types_in M)) (nodes M)
 read_encode labels M w =
     let h = encode_holds labels M w.is_source in
     let f = encode labels M in
     read_complete f labels M (encode_accepted labels M w)
-    ∙ ap (λ l. Accepted l (type_count f) (term_count f)) h.labels_are
-    ∙ ap₂ (λ p n. Accepted (length labels) p n) h.types_are h.terms_are
+    ∙ ap (λ l. accepted l (type_count f) (term_count f)) h.labels_are
+    ∙ ap₂ (λ p n. accepted (length labels) p n) h.types_are h.terms_are
 
 -- Reading that file gives the program back: it has no other labels and no other term.
 pub encode_read : {labels labels' : List Wire} {M M' : Term}

@@ -1,6 +1,7 @@
 -- Files with the answer of `read`, by computation: c1 of 01's cases, a file for each refusal, files with unit, and a long file.
-use Rattle.std.specs.Prelude.{ℕ, ◌≡◌, refl, List, [], ◌∷◌, ◌++◌, replicate}
+use Rattle.std.specs.Prelude.{ℕ, ◌≡◌, refl, List, [], ◌∷◌, ◌++◌, replicate, Result}
 use Rattle.rules.specs.Gates.{is_gate}
+use Rattle.program.specs.Reading.{accepted}
 use Rattle.program.specs.Format.{kind_at, argument_at, label_shape, type_shape, term_shape, shape_at}
 use Rattle.words.specs.Numbers.{word_at}
 use Rattle.program.specs.Reading.{refused, sizes_right, kind_wrong, argument_wrong, type_wrong, circ_wrong, box_wrong}
@@ -8,18 +9,18 @@ use Rattle.program.specs.Reading.{wires_wrong, read_scope, read_whole, read_wire
 use Rattle.program.specs.Reading.{read_of}
 use Rattle.program.specs.Encoding.{file_of}
 use Rattle.program.specs.CaseFiles.{c1_file, sizes_file}
-use Rattle.program.specs.declared.ReadAnswer.{ReadAnswer}
-use Rattle.program.specs.declared.ReadAnswer.TheVariants.{Accepted}
+use Rattle.refusals.specs.declared.Refusal.{Refusal}
+use Rattle.program.specs.declared.format.Sizes.{Sizes}
 
 -- `read_of` with every definition of the reader open: a line `unfolding opened` opens them all.
-unfoldable pub opened : List ℕ → ReadAnswer
+unfoldable pub opened : List ℕ → Result Sizes Refusal
 unfolding is_gate
     word_at kind_at argument_at label_shape type_shape term_shape shape_at sizes_right kind_wrong argument_wrong type_wrong
     circ_wrong box_wrong wires_wrong read_scope read_whole read_wires read_types read_arguments read_kinds read_of
 opened f = read_of f
 
 -- c1: label 0 alone.
-pub c1_accepted : read_of c1_file ≡ Accepted 1 0 1
+pub c1_accepted : read_of c1_file ≡ accepted 1 0 1
 unfolding opened
 c1_accepted = refl
 
@@ -99,34 +100,34 @@ pub let_first_part : read_of (file_of 0 0 3 (21 ∷ 16 ∷ 16 ∷ []) (0 ∷ 0 �
 unfolding opened
 let_first_part = refl
 
-pub let_second_part : read_of (file_of 1 0 3 (1 ∷ 21 ∷ 17 ∷ 16 ∷ []) (0 ∷ 0 ∷ 0 ∷ 1 ∷ [])) ≡ Accepted 1 0 3
+pub let_second_part : read_of (file_of 1 0 3 (1 ∷ 21 ∷ 17 ∷ 16 ∷ []) (0 ∷ 0 ∷ 0 ∷ 1 ∷ [])) ≡ accepted 1 0 3
 unfolding opened
 let_second_part = refl
 
 -- 02, ticket 5. Unit's value alone, in a file without labels and types; gates 9 and 10. Ticket 6: gate 11.
-pub unit_alone : read_of (file_of 0 0 1 (27 ∷ []) (0 ∷ [])) ≡ Accepted 0 0 1
+pub unit_alone : read_of (file_of 0 0 1 (27 ∷ []) (0 ∷ [])) ≡ accepted 0 0 1
 unfolding opened
 unit_alone = refl
 
-pub init_alone : read_of (file_of 0 0 1 (26 ∷ []) (9 ∷ [])) ≡ Accepted 0 0 1
+pub init_alone : read_of (file_of 0 0 1 (26 ∷ []) (9 ∷ [])) ≡ accepted 0 0 1
 unfolding opened
 init_alone = refl
 
-pub discard_alone : read_of (file_of 0 0 1 (26 ∷ []) (10 ∷ [])) ≡ Accepted 0 0 1
+pub discard_alone : read_of (file_of 0 0 1 (26 ∷ []) (10 ∷ [])) ≡ accepted 0 0 1
 unfolding opened
 discard_alone = refl
 
-pub ccx_alone : read_of (file_of 0 0 1 (26 ∷ []) (11 ∷ [])) ≡ Accepted 0 0 1
+pub ccx_alone : read_of (file_of 0 0 1 (26 ∷ []) (11 ∷ [])) ≡ accepted 0 0 1
 unfolding opened
 ccx_alone = refl
 
 -- Unit is a wire type, alone and inside pairs: a box at unit; Circ from the pair of unit and Qubit to unit, and a box at that pair.
-pub box_at_unit : read_of (file_of 0 1 4 (6 ∷ 24 ∷ 22 ∷ 18 ∷ 16 ∷ []) (0 ∷ 0 ∷ 0 ∷ 0 ∷ 0 ∷ [])) ≡ Accepted 0 1 4
+pub box_at_unit : read_of (file_of 0 1 4 (6 ∷ 24 ∷ 22 ∷ 18 ∷ 16 ∷ []) (0 ∷ 0 ∷ 0 ∷ 0 ∷ 0 ∷ [])) ≡ accepted 0 1 4
 unfolding opened
 box_at_unit = refl
 
 pub circ_with_unit
-    : read_of (file_of 0 5 2 (5 ∷ 2 ∷ 6 ∷ 1 ∷ 6 ∷ 24 ∷ 27 ∷ []) (0 ∷ 0 ∷ 0 ∷ 0 ∷ 0 ∷ 1 ∷ 0 ∷ [])) ≡ Accepted 0 5 2
+    : read_of (file_of 0 5 2 (5 ∷ 2 ∷ 6 ∷ 1 ∷ 6 ∷ 24 ∷ 27 ∷ []) (0 ∷ 0 ∷ 0 ∷ 0 ∷ 0 ∷ 1 ∷ 0 ∷ [])) ≡ accepted 0 5 2
 unfolding opened
 circ_with_unit = refl
 
@@ -170,6 +171,6 @@ abbrev long_file : List ℕ
 long_file =
     (1 ∷ 0 ∷ 0 ∷ 0 ∷ 144 ∷ 1 ∷ []) ++ ((1 ∷ []) ++ (replicate 399 22 ++ ((17 ∷ []) ++ replicate 802 0)))
 
-pub long_file_lem : read_of long_file ≡ Accepted 1 0 400
+pub long_file_lem : read_of long_file ≡ accepted 1 0 400
 unfolding opened
 long_file_lem = refl

@@ -1,12 +1,13 @@
 -- `program::read` meets its contract.
-use mathlib.Core.Path.{◌≡◌, sym, ◌∙◌}
+use mathlib.Core.Path.{◌≡◌, sym, ap, ◌∙◌}
 use Rattle.std.proofs.Common.{ℕ, ◌≤◌, List, length}
+use Rattle.std.specs.Prelude.{Err}
 use Rattle.words.specs.Numbers.{word_at}
-use Rattle.program.proofs.Laws.Reading.{Start, too_short_lem, wrong_sizes, wrong_length, right_length, sizes_known}
+use Rattle.program.proofs.Laws.Reading.{Start, too_short_lem, wrong_sizes, wrong_length, right_length}
 use Rattle.program.proofs.read.Goals as goal
 
 pub returns-then-file-lt-SIZES : goal.returns-then-file-lt-SIZES
-returns-then-file-lt-SIZES c = c.form.ensures ∙ too_short_lem c.args.file.now c.if-file-lt-SIZES.true
+returns-then-file-lt-SIZES c = ap Err c.form.ensures ∙ too_short_lem c.args.file.now c.if-file-lt-SIZES.true
 
 -- The three numbers at the start of the file.
 begun
@@ -18,19 +19,13 @@ pub returns-then-not-sizes_fit : goal.returns-then-not-sizes_fit
 returns-then-not-sizes_fit c =
     let start =
     begun c.args.file.now c.word_at.ensures.value c.word_at-2.ensures.value c.word_at-3.ensures.value c.if-file-lt-SIZES.false in
-    c.form-then-not-sizes_fit.ensures ∙ wrong_sizes start (sym c.sizes_fit.ensures ∙ c.if-not-sizes_fit.true)
+    ap Err c.form-then-not-sizes_fit.ensures ∙ wrong_sizes start (sym c.sizes_fit.ensures ∙ c.if-not-sizes_fit.true)
 
 pub returns-then-file-s : goal.returns-then-file-s
 returns-then-file-s c =
     let start =
     begun c.args.file.now c.word_at.ensures.value c.word_at-2.ensures.value c.word_at-3.ensures.value c.if-file-lt-SIZES.false in
-    c.form-then-file-s.ensures ∙ wrong_length start (sym c.sizes_fit.ensures ∙ c.if-not-sizes_fit.false) c.if-file-s.true
-
-pub read_entries-requires : goal.read_entries-requires
-read_entries-requires c =
-    let start =
-    begun c.args.file.now c.word_at.ensures.value c.word_at-2.ensures.value c.word_at-3.ensures.value c.if-file-lt-SIZES.false in
-    sizes_known start (sym c.sizes_fit.ensures ∙ c.if-not-sizes_fit.false) c.if-file-s.false
+    ap Err c.form-then-file-s.ensures ∙ wrong_length start (sym c.sizes_fit.ensures ∙ c.if-not-sizes_fit.false) c.if-file-s.true
 
 pub returns : goal.returns
 returns c =

@@ -1,13 +1,20 @@
--- Laws of specs/Parts.antt and specs/PartsColumn.antt.
-use Rattle.std.specs.Prelude.{ℕ, ◌-◌, ◌≤◌, ◌<◌, ◌≡◌, refl, Bool, true, false, ◌&&◌, cond, List, [], ◌∷◌, T as Truth, eqb, leb, ltb, length, get_or}
-use Rattle.std.proofs.Common.{arith, ap, ◌∙◌, leb→le, ne_eqb}
-use Rattle.std.proofs.Math.Option.{none, some}
+-- Laws of specs/Parts.antt.
+use Rattle.std.specs.Prelude.{ℕ, ◌-◌, ◌≤◌, ◌≡◌, refl, Bool, true, false, ◌&&◌, cond, List, [], ◌∷◌, T as Truth, eqb, leb, length, map, get_or}
+use Rattle.std.proofs.Common.{arith, ap, leb→le}
+use Rattle.std.proofs.Math.Option.{some}
 use Rattle.rules.specs.Kinds.{unit_kind, variable_kind, unit_value_kind}
 use Rattle.rules.specs.Types.{Bit, Qubit, Ty, wire, unit, ◌⊗◌, ◌⊸◌, !◌, Circ, type_codes}
 use Rattle.rules.specs.Parts.{type_parts, parts_table, parts_in, or_zero, parts_of_kind}
-use Rattle.rules.specs.PartsColumn.{parts_at}
 use Rattle.rules.proofs.Laws.Booleans.{and_left, and_right}
 use Rattle.rules.proofs.Laws.Ranges.{◌and◌, no_more, in_range}
+
+-- The numbers of parts alone, without the kinds, as the code has them.
+abbrev pub parts_column : List ℕ
+parts_column = map (λ row. row.1) parts_table
+
+-- The number of parts at a place of the table; 0 past its end.
+unfoldable pub parts_at : ℕ → ℕ
+parts_at place = get_or parts_column place 0
 
 -- Where the kinds stand in the table, each of them: those of types at their own number, those of terms 9 places before.
 pub type_place : (k : ℕ) → k ≤ unit_kind → parts_in parts_table k ≡ some (parts_at k)
@@ -27,31 +34,6 @@ term_place k least most =
     k
     least
     (omega arith)
-
--- There is no kind between them, and none above.
-pub no_kind_between : (k : ℕ) → unit_kind < k → k < variable_kind → parts_of_kind k ≡ 0
-unfolding parts_of_kind
-no_kind_between k least most =
-    in_range (λ k. parts_of_kind k ≡ 0) 7 9
-    (refl and refl and refl and refl and refl and refl and refl and refl and refl and no_more)
-    k
-    least
-    (omega arith)
-
-abbrev all_below : ℕ → List (ℕ × ℕ) → Bool
-all_below m [] = true
-all_below m (row ∷ rows) = ltb row.0 m && all_below m rows
-
-none_above : (m : ℕ) (rows : List (ℕ × ℕ)) → Truth (all_below m rows) → (k : ℕ) → m ≤ k → parts_in rows k ≡ none
-none_above m [] t k least = refl
-none_above m (row ∷ rows) t k least =
-    let below : row.0 < m = leb→le _ m (and_left (ltb row.0 m) (all_below m rows) t) in
-    ap (λ b. cond b (some row.1) (parts_in rows k)) (ne_eqb k row.0 (λ e. absurd (omega (arith, e, below))))
-    ∙ none_above m rows (and_right (ltb row.0 m) (all_below m rows) t) k least
-
-pub no_kind_above : (k : ℕ) → unit_value_kind < k → parts_of_kind k ≡ 0
-unfolding parts_of_kind
-no_kind_above k least = ap or_zero (none_above 28 parts_table tt k least)
 
 -- No kind has more than two parts.
 abbrev at_most_two : List (ℕ × ℕ) → Bool

@@ -1,17 +1,11 @@
 -- `rules::wires_in` meets its contract: its table has the number of wires in of each gate, as antt computes it.
 -- Assumes nothing.
-use mathlib.Core.Path.{◌≡◌, refl, ◌∙◌}
-use lib.ListN.{length}
+use Rattle.std.proofs.Common.{◌∙◌}
+use Rattle.std.specs.Prelude.{length}
 use Rattle.rules.specs.Gates.{gate_table, input_wires, wires_in}
-use Rattle.rules.proofs.GateTable.{of_no_gate, entry_at}
+use Rattle.rules.proofs.GateTable.{entry_at}
 use Rattle.rules.proofs.wires_in.Goals as goal
 
-pub returns-then-n-lt-GATES : goal.returns-then-n-lt-GATES
+pub returns : goal.returns
 unfolding wires_in
-returns-then-n-lt-GATES c =
-    c.wide.ensures
-    ∙ entry_at (λ g. length (input_wires g)) 0 gate_table c.args.n c.if-n-lt-GATES.true
-
-pub returns-else-n-lt-GATES : goal.returns-else-n-lt-GATES
-unfolding wires_in
-returns-else-n-lt-GATES c = of_no_gate (λ g. 0 ≡ length (input_wires g)) gate_table refl c.args.n c.if-n-lt-GATES.false
+returns c = c.number_at.ensures ∙ entry_at (λ g. length (input_wires g)) gate_table c.args.n

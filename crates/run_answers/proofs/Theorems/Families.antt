@@ -21,18 +21,14 @@ use Rattle.program.specs.Reading.{refused, sizes_right, kind_wrong, argument_wro
 use Rattle.program.specs.Reading.{read_scope, whole_answer, read_whole, or_else, read_wires, read_types, read_arguments, read_kinds}
 use Rattle.program.specs.Reading.{read_of}
 use Rattle.program.proofs.Laws.Reading.{Ranges, ranges}
-use Rattle.program.specs.Traversal.{first_from, parts_at, traverse_from}
+use Rattle.program.specs.Traversal.{Subject, End, Scope, first_from, parts_at, traverse_from}
 use Rattle.program.proofs.Theorems.Accepting.{read_sound}
-use Rattle.program.specs.declared.Found.{Found}
-use Rattle.program.specs.declared.Found.TheVariants.{At, Nothing}
-use Rattle.program.specs.declared.traversal.Subject.{Subject}
-use Rattle.program.specs.declared.traversal.Subject.TheVariants.{TermEnd, Scope}
+use Rattle.std.specs.Prelude.{Option as RustOption, Some, None, Result, Ok, Err}
+use Rattle.program.specs.declared.format.Sizes.{Sizes}
 use Rattle.program.specs.declared.traversal.Parts.{Parts}
 use Rattle.program.specs.declared.traversal.Parts.TheVariants.{Leaf, One, Two, Stop}
-use Rattle.program.specs.declared.traversal.Traversed.{Traversed}
-use Rattle.program.specs.declared.traversal.Traversed.TheVariants.{To, Stopped, Out}
-use Rattle.program.specs.declared.ReadAnswer.{ReadAnswer}
-use Rattle.program.specs.declared.ReadAnswer.TheVariants.{Accepted, Refused}
+use Rattle.program.specs.declared.traversal.Halt.{Halt}
+use Rattle.program.specs.declared.traversal.Halt.TheVariants.{Stopped, Out}
 use Rattle.check_program.specs.Checking.{Checked, typed, fault, earlier, check_term, wrong_label, Verdict, has_type, refusal}
 use Rattle.check_program.specs.Checking.{lastly, secondly, decided, verdict}
 use Rattle.check_program.specs.Answers.{labels_of, term_of, Judged, accepts, refuses, judged, judged_as, check_of}
@@ -51,14 +47,14 @@ most_places = most_file_entries
 -- THE READER
 
 -- What an answer of the reader is bounded by.
-abbrev pub ReadBounds : ReadAnswer → Type 0
-ReadBounds (Accepted labels types terms) = (labels ≤ most_labels) × (types ≤ most_types) × (terms ≤ most_terms)
-ReadBounds (Refused x) = OfRead x × (refusal_place x ≤ most_places)
+abbrev pub ReadBounds : Result Sizes Refusal → Type 0
+ReadBounds (Ok s) = (s.labels ≤ most_labels) × (s.types ≤ most_types) × (s.terms ≤ most_terms)
+ReadBounds (Err x) = OfRead x × (refusal_place x ≤ most_places)
 
 -- A scan finds an entry among those that it looks at.
-abbrev FoundWithin : ℕ → Found → Type 0
-FoundWithin most (At e) = e ≤ most
-FoundWithin most Nothing = Unit {0}
+abbrev FoundWithin : ℕ → RustOption ℕ → Type 0
+FoundWithin most (Some e) = e ≤ most
+FoundWithin most None = Unit {0}
 
 found_within : (fails : ℕ → Bool) (e n most : ℕ) → e + n ≤ most → FoundWithin most (first_from fails e n)
 found_within fails e zero most h = tt
@@ -66,15 +62,15 @@ found_within fails e (suc n) most h = of (fails e) (found_within fails (suc e) n
   where
     of : (b : Bool)
         → FoundWithin most (first_from fails (suc e) n)
-        → FoundWithin most (cond b (At e) (first_from fails (suc e) n))
+        → FoundWithin most (cond b (Some e) (first_from fails (suc e) n))
     of true p = omega arith
     of false p = p
 
 -- So does a walk, or it ends behind the last of them.
-abbrev TraversedWithin : ℕ → Traversed → Type 0
-TraversedWithin most (To e) = e ≤ most
-TraversedWithin most (Stopped e) = e ≤ most
-TraversedWithin most Out = Unit {0}
+abbrev TraversedWithin : ℕ → Result ℕ Halt → Type 0
+TraversedWithin most (Ok e) = e ≤ most
+TraversedWithin most (Err (Stopped e)) = e ≤ most
+TraversedWithin most (Err Out) = Unit {0}
 
 traversed_within : (s : Subject) (f : List ℕ) (left e most : ℕ) (waiting : List ℕ)
     → e + left ≤ most
@@ -91,7 +87,7 @@ traversed_within s f (suc left) e most (b ∷ waiting) h =
           | Leaf ↦ traverse_from s f left (suc e) waiting
           | One x ↦ traverse_from s f left (suc e) (x ∷ waiting)
           | Two x y ↦ traverse_from s f left (suc e) (x ∷ y ∷ waiting)
-          | Stop ↦ Stopped e
+          | Stop ↦ Err (Stopped e)
         ])
     of Leaf later = later waiting
     of (One x) later = later (x ∷ waiting)
@@ -99,18 +95,18 @@ traversed_within s f (suc left) e most (b ∷ waiting) h =
     of Stop later = omega arith
 
 -- Two answers by a test, and a test that may find an entry.
-either_bounds : (b : Bool) (x y : ReadAnswer) → (b ≡ true → ReadBounds x) → ReadBounds y → ReadBounds (cond b x y)
+either_bounds : (b : Bool) (x y : Result Sizes Refusal) → (b ≡ true → ReadBounds x) → ReadBounds y → ReadBounds (cond b x y)
 either_bounds true x y p q = p refl
 either_bounds false x y p q = q
 
-else_bounds : (number : ℕ) (found : Found) (later : ReadAnswer)
+else_bounds : (number : ℕ) (found : RustOption ℕ) (later : Result Sizes Refusal)
     → 1 ≤ number
     → number ≤ 9
     → FoundWithin most_places found
     → ReadBounds later
     → ReadBounds (or_else number found later)
-else_bounds number (At e) later low high within p = ((low, high), within)
-else_bounds number Nothing later low high within p = p
+else_bounds number (Some e) later low high within p = ((low, high), within)
+else_bounds number None later low high within p = p
 
 -- The answers of each test of the reader whose sizes are right, from the last to the first.
 module _ (f : List ℕ) (labels_fit : label_count f ≤ most_labels) (types_fit : type_count f ≤ most_types) (terms_fit : term_count f ≤ most_terms) where
@@ -120,23 +116,23 @@ module _ (f : List ℕ) (labels_fit : label_count f ≤ most_labels) (types_fit 
       of (traverse_from Scope f (term_count f) (first_term f) (0 ∷ []))
       (traversed_within Scope f (term_count f) (first_term f) most_places (0 ∷ []) (omega arith))
     where
-      of : (w : Traversed) → TraversedWithin most_places w → ReadBounds (scope_answer f w)
-      of (To e) within = (labels_fit, types_fit, terms_fit)
-      of (Stopped e) within = ((omega arith, omega arith), within)
-      of Out within = (labels_fit, types_fit, terms_fit)
+      of : (w : Result ℕ Halt) → TraversedWithin most_places w → ReadBounds (scope_answer f w)
+      of (Ok e) within = (labels_fit, types_fit, terms_fit)
+      of (Err (Stopped e)) within = ((omega arith, omega arith), within)
+      of (Err Out) within = (labels_fit, types_fit, terms_fit)
 
   whole_bounds : ReadBounds (read_whole f)
   unfolding read_whole
   whole_bounds =
-      of (traverse_from TermEnd f (term_count f) (first_term f) (0 ∷ []))
-      (traversed_within TermEnd f (term_count f) (first_term f) most_places (0 ∷ []) (omega arith))
+      of (traverse_from End f (term_count f) (first_term f) (0 ∷ []))
+      (traversed_within End f (term_count f) (first_term f) most_places (0 ∷ []) (omega arith))
     where
-      of : (w : Traversed) → TraversedWithin most_places w → ReadBounds (whole_answer f w)
-      of (To e) within =
+      of : (w : Result ℕ Halt) → TraversedWithin most_places w → ReadBounds (whole_answer f w)
+      of (Ok e) within =
           either_bounds (eqb e (entry_count f)) (read_scope f) (refused 8 e) (λ t. scope_bounds)
           ((omega arith, omega arith), within)
-      of (Stopped e) within = ((omega arith, omega arith), within)
-      of Out within = ((omega arith, omega arith), omega arith)
+      of (Err (Stopped e)) within = ((omega arith, omega arith), within)
+      of (Err Out) within = ((omega arith, omega arith), omega arith)
 
   wires_bounds : ReadBounds (read_wires f)
   unfolding read_wires
@@ -298,9 +294,9 @@ pub check_bounds : (f : List ℕ) → CheckBounds (check_of f)
 unfolding check_of
 check_bounds f = of (read_of f) refl (read_bounds f)
   where
-    of : (r : ReadAnswer) → read_of f ≡ r → ReadBounds r → CheckBounds (judged_as f r)
-    of (Accepted L P N) h bounds =
-        let file = file_read (read_sound f L P N h).2 in
+    of : (r : Result Sizes Refusal) → read_of f ≡ r → ReadBounds r → CheckBounds (judged_as f r)
+    of (Ok s) h bounds =
+        let file = file_read (read_sound f s.labels s.types s.terms h).2 in
         let behind : length (labels_of f) ≤ first_term f = omega (arith, file.label_count_is) in
         let end : first_term f + nodes (term_of f) ≤ most_places
         = omega (arith, term_end file.term_is_at, file.labels_fit, file.types_fit, file.terms_fit) in
@@ -318,7 +314,7 @@ check_bounds f = of (read_of f) refl (read_bounds f)
         given (refusal number place) p behind end n =
             let within = verdict_place (labels_of f) (first_term f) (term_of f) behind number place n p in
             (of_typing number place n, omega arith)
-    of (Refused x) h bounds = (of_read x bounds.0, bounds.1)
+    of (Err x) h bounds = (of_read x bounds.0, bounds.1)
 
 -- A refusal of the check is of the form or the typing family.
 pub check_family : (f : List ℕ) (x : Refusal) → check_of f ≡ refuses x → OfCheck x

@@ -1,5 +1,5 @@
 -- Laws of the end of the steps: the answer and the listing.
-use Rattle.std.specs.Prelude.{ℕ, ◌≤◌, ◌≡◌, refl, true, List, [], ◌∷◌, T as Truth, length}
+use Rattle.std.specs.Prelude.{ℕ, ◌≤◌, ◌≡◌, true, List, [], ◌∷◌, T as Truth, length, Result}
 use Rattle.std.proofs.Common.{arith, sym, ◌∙◌, ap, ap₂, subst}
 use Rattle.std.proofs.Math.Option.{some}
 use Rattle.rules.specs.Types.{Wire, Ty, is_wire_type}
@@ -20,7 +20,7 @@ use Rattle.rules.specs.Demand3.{Finished as AtEnd}
 use Rattle.machine_terms.proofs.Laws.Meanings.{tuple_of_meaning}
 use Rattle.machine_terms.proofs.Laws.Walking.{stopped_move}
 use Rattle.machine_terms.proofs.Theorems.Finishing.{end_finished}
-use Rattle.refusals.specs.declared.Refusal.TheVariants.{Run}
+use Rattle.refusals.specs.declared.Refusal.{Refusal}
 use Rattle.words.specs.Regions.{Stands}
 use Rattle.machine_walk.proofs.Laws.Redexes.{at_the_end}
 use Rattle.words.specs.Quadwords.{quadword_at, word_in}
@@ -28,20 +28,19 @@ use Rattle.machine_circuits.specs.Layout.{gates_in}
 use Rattle.machine_state.specs.Memory.{Memory}
 use Rattle.machine_state.specs.Outcomes.{walk_of}
 use Rattle.machine.specs.declared.Advanced.{Advanced}
-use Rattle.machine.specs.declared.Ending.TheVariants.{Finished as AtFinish, Running, TooLarge}
+use Rattle.machine.specs.declared.Ending.TheVariants.{Finished as AtFinish}
 use Rattle.machine.specs.Advancing.{ending_of, Ready, AtTheEnd}
 use Rattle.machine.proofs.Laws.Advancing.{fits_state}
 use Rattle.machine_state.specs.declared.StateNumbers.{StateNumbers}
 use Rattle.listing.specs.Listing.{listing, most_bytes}
 use Rattle.listing.proofs.Laws.Lengths.{listing_fits, kinds_fit}
-use Rattle.run_answers.specs.declared.RunAnswer.{RunAnswer}
-use Rattle.run_answers.specs.declared.RunAnswer.TheVariants.{Finished, Refused}
-use Rattle.run_answers.specs.Answers.{Ran, ran, ran_to, answer_to, out_to}
+use Rattle.run_answers.specs.declared.Finished.{Finished}
+use Rattle.run_answers.specs.Answers.{Ran, ran, finished, ran_to, answer_to, out_to}
 use Rattle.run_answers.proofs.Laws.Finishing.{FinishedRun, typed_finish, finish_listed}
 use Rattle.run_parts.specs.Parts.{Complete, SaysEnd}
 use Rattle.run_parts.proofs.Laws.Parts.{Writes}
 
-says_ran : (e : Reached) (out out' : List ℕ) (r : RunAnswer) (x : Ran)
+says_ran : (e : Reached) (out out' : List ℕ) (r : Result Finished Refusal) (x : Ran)
     → ran_to e ≡ x
     → r ≡ answer_to x
     → out' ≡ out_to out x
@@ -117,18 +116,6 @@ module _ (types : ℕ → Ty) (positions : ℕ) (A : Ty) (allowance : ℕ) (m : 
   abbrev reached : Reached
   reached = ended (ending_of a.ending) a.steps the_end
 
-  -- 21: the limit's steps are done.
-  pub says_running : (out : List ℕ) → a.ending ≡ Running → SaysEnd reached out out (Refused (Run 21 0))
-  says_running out p =
-      let x = ap (λ z. ran_to (ended (ending_of z) a.steps the_end)) p in
-      says_ran reached out out (Refused (Run 21 0)) _ x refl refl
-
-  -- 22: the next step exceeds a size.
-  pub says_too_large : (out : List ℕ) → a.ending ≡ TooLarge → SaysEnd reached out out (Refused (Run 22 0))
-  says_too_large out p =
-      let x = ap (λ z. ran_to (ended (ending_of z) a.steps the_end)) p in
-      says_ran reached out out (Refused (Run 22 0)) _ x refl refl
-
   module _ (done : a.ending ≡ AtFinish) where
     stopped : Stopped (walk_of s) at_end
     stopped = subst (λ z. AtTheEnd z s) done end_held
@@ -149,7 +136,7 @@ module _ (types : ℕ → Ty) (positions : ℕ) (A : Ty) (allowance : ℕ) (m : 
     pub says_finished : (out out' : List ℕ) (written : ℕ)
         → most_bytes ≤ length out
         → Writes m (word_in (quadword_at m.frames 0) 2) a.numbers.counts.gates a.numbers.place.left out out' written
-        → SaysEnd reached out out' (Finished a.steps a.numbers.counts.gates written)
+        → SaysEnd reached out out' (finished a.steps a.numbers.counts.gates written)
     says_finished out out' written room writes =
         let L = outermost_inputs the_end in
         let gs = facts.gates in
@@ -168,7 +155,7 @@ module _ (types : ℕ → Ty) (positions : ℕ) (A : Ty) (allowance : ℕ) (m : 
         (omega (arith, facts.few_outputs))
         (omega (arith, fits, room)) in
         let x = ran a.steps (length gs) (listing (circuit L gs) k) in
-        says_ran reached out out' (Finished a.steps a.numbers.counts.gates written) x
+        says_ran reached out out' (finished a.steps a.numbers.counts.gates written) x
         (ap (λ z. ran_to (ended (ending_of z) a.steps the_end)) done ∙ finish_listed a.steps the_end facts)
-        (ap₂ (λ g n. Finished a.steps g n) l.count_is w.1)
+        (ap₂ (λ g n. finished a.steps g n) l.count_is w.1)
         w.0

@@ -1,5 +1,5 @@
 -- The run of a file: what `begin`, the steps and `finish` lead to.
-use Rattle.std.specs.Prelude.{ℕ, zero, suc, ◌≤◌, ◌<◌, ◌*◌, ◌≡◌, refl, Bool, true, false, List, map, length}
+use Rattle.std.specs.Prelude.{ℕ, zero, suc, ◌≤◌, ◌<◌, ◌*◌, ◌≡◌, refl, Bool, true, false, List, map, length, Result, Ok, Err}
 use Rattle.std.proofs.Common.{arith, ◌∙◌, ap, subst}
 use Rattle.std.proofs.Math.Path.{sym}
 use Rattle.std.proofs.Math.Bool.{cond}
@@ -31,14 +31,11 @@ use Rattle.machine.specs.Advancing.{ending_of, AtTheEnd, Advances}
 use Rattle.machine_load.specs.Trees.{tree_of, types_of}
 use Rattle.machine_load.specs.Start.{least_types, Loads}
 use Rattle.machine_circuits.specs.Layout.{labels_start}
-use Rattle.run_answers.specs.declared.RunAnswer.{RunAnswer}
-use Rattle.run_answers.specs.declared.RunAnswer.TheVariants.{Refused}
+use Rattle.run_answers.specs.declared.Finished.{Finished}
 use Rattle.run_answers.specs.Lengths.{run_lengths, frames_length, gates_length, circuits_length, results_length}
 use Rattle.run_answers.specs.Answers.{Ran, declines, ran_to, ran_as, run_of, answer_to, out_to, run_answer}
 use Rattle.run_answers.proofs.Laws.Finishing.{labels_few, start_typed}
-use Rattle.run_parts.specs.declared.begin.Begun.{Begun}
-use Rattle.run_parts.specs.declared.begin.Begun.TheVariants.{Loaded, NotBegun}
-use Rattle.run_parts.specs.Parts.{BegunWith, BegunAs, Complete, SaysEnd, EndsAs, out_left, refusal_of_begin}
+use Rattle.run_parts.specs.Parts.{BegunWith, BegunAs, Complete, SaysEnd, EndsAs, out_left}
 use Rattle.listing.specs.Listing.{most_bytes}
 
 -- The buffers of gates, closed circuits, frames and results have room.
@@ -142,17 +139,17 @@ gone_on types positions A allowance k m m' r s a allowed held advances same =
     }
 
 -- What `begin` found: a refusal is the run's.
-pub refused_run : (f : List ℕ) (limit : ℕ) (ns : List Node) (ws : List ℕ) (fs : List Quadword) (b : Begun) (x : Refusal)
+pub refused_run : (f : List ℕ) (limit : ℕ) (ns : List Node) (ws : List ℕ) (fs : List Quadword) (b : Result StateNumbers Refusal) (x : Refusal)
     → BegunAs f (check_of f) ns ws fs b
-    → b ≡ NotBegun x
+    → b ≡ Err x
     → run_of f limit ≡ declines x
 unfolding run_of
 refused_run f limit ns ws fs b x begun e = of (check_of f) begun
   where
-    apart : {r : StateNumbers} → NotBegun x ≡ Loaded r → ◌≡◌ {A = ℕ} 0 1
+    apart : {r : StateNumbers} → ◌≡◌ {A = Result StateNumbers Refusal} (Err x) (Ok r) → ◌≡◌ {A = ℕ} 0 1
     apart q = cc
 
-    same : {y : Refusal} → NotBegun y ≡ NotBegun x → y ≡ x
+    same : {y : Refusal} → ◌≡◌ {A = Result StateNumbers Refusal} (Err y) (Err x) → y ≡ x
     same q = cc
 
     by_type : (w : Bool) (later : Ran) → BegunWith f w ns ws fs b → cond w later (declines (Run 20 0)) ≡ declines x
@@ -171,16 +168,16 @@ pub record IsLoaded (f : List ℕ) (ns : List Node) (ws : List ℕ) (fs : List Q
   pub wire_type : is_wire_type program_type ≡ true
   pub loads : Loads f ns ws fs r
 
-pub loaded_run : (f : List ℕ) (ns : List Node) (ws : List ℕ) (fs : List Quadword) (b : Begun) (r : StateNumbers)
+pub loaded_run : (f : List ℕ) (ns : List Node) (ws : List ℕ) (fs : List Quadword) (b : Result StateNumbers Refusal) (r : StateNumbers)
     → BegunAs f (check_of f) ns ws fs b
-    → b ≡ Loaded r
+    → b ≡ Ok r
     → IsLoaded f ns ws fs r
 loaded_run f ns ws fs b r begun e = of (check_of f) refl begun
   where
-    apart : {x : Refusal} → Loaded r ≡ NotBegun x → ◌≡◌ {A = ℕ} 0 1
+    apart : {x : Refusal} → ◌≡◌ {A = Result StateNumbers Refusal} (Ok r) (Err x) → ◌≡◌ {A = ℕ} 0 1
     apart q = cc
 
-    same : {t : StateNumbers} → Loaded t ≡ Loaded r → t ≡ r
+    same : {t : StateNumbers} → ◌≡◌ {A = Result StateNumbers Refusal} (Ok t) (Ok r) → t ≡ r
     same q = cc
 
     by_type : (A : Ty) (w : Bool)
@@ -214,42 +211,41 @@ run_of_lem f limit A e w =
     w
 
 -- The answer and the output buffer, of all buffers that were lent.
-abbrev pub Says : List ℕ → ℕ → List (List ℕ) → List ℕ → List ℕ → RunAnswer → Type 0
+abbrev pub Says : List ℕ → ℕ → List (List ℕ) → List ℕ → List ℕ → Result Finished Refusal → Type 0
 Says f limit buffers out out' r = (r ≡ run_answer f limit buffers) × (out' ≡ out_left f limit buffers out)
 
 module _ (f : List ℕ) (limit : ℕ) (buffers : List (List ℕ)) (out : List ℕ) where
   -- A buffer is too short.
-  pub says_short : too_short run_lengths buffers ≡ true → Says f limit buffers out out (Refused (Run 19 0))
+  pub says_short : too_short run_lengths buffers ≡ true → Says f limit buffers out out (Err (Run 19 0))
   unfolding run_answer
   says_short short = (
-    sym (ap (λ b. cond b (Refused (Run 19 0)) (answer_to (run_of f limit))) short),
+    sym (ap (λ b. cond b (Err (Run 19 0)) (answer_to (run_of f limit))) short),
     sym (ap (λ b. cond b out (out_to out (run_of f limit))) short),
   )
 
   module _ (long : too_short run_lengths buffers ≡ false) where
-    says_long : (out' : List ℕ) (r : RunAnswer) (x : Ran)
+    says_long : (out' : List ℕ) (r : Result Finished Refusal) (x : Ran)
         → run_of f limit ≡ x
         → r ≡ answer_to x
         → out' ≡ out_to out x
         → Says f limit buffers out out' r
     unfolding run_answer
     says_long out' r x e p q = (
-      p ∙ sym (ap answer_to e) ∙ sym (ap (λ b. cond b (Refused (Run 19 0)) (answer_to (run_of f limit))) long),
+      p ∙ sym (ap answer_to e) ∙ sym (ap (λ b. cond b (Err (Run 19 0)) (answer_to (run_of f limit))) long),
       q ∙ sym (ap (out_to out) e) ∙ sym (ap (λ b. cond b out (out_to out (run_of f limit))) long),
     )
 
     -- `begin` refuses.
-    pub says_refused : (ns : List Node) (ws : List ℕ) (fs : List Quadword) (b : Begun) (x : Refusal) (r : RunAnswer)
+    pub says_refused : (ns : List Node) (ws : List ℕ) (fs : List Quadword) (b : Result StateNumbers Refusal) (x : Refusal)
         → BegunAs f (check_of f) ns ws fs b
-        → b ≡ NotBegun x
-        → r ≡ refusal_of_begin b
-        → Says f limit buffers out out r
-    says_refused ns ws fs b x r begun e p =
-        says_long out r (declines x) (refused_run f limit ns ws fs b x begun e) (p ∙ ap refusal_of_begin e) refl
+        → b ≡ Err x
+        → Says f limit buffers out out (Err x)
+    says_refused ns ws fs b x begun e =
+        says_long out (Err x) (declines x) (refused_run f limit ns ws fs b x begun e) refl refl
 
     -- The steps are taken, and their end is answered.
     pub says_ended : (ns : List Node) (rs : List Quadword) (gs cs fs : List Quadword) (ws : List ℕ) (results : ℕ → List ℕ)
-        (m' : Memory) (r : StateNumbers) (a : Advanced) (out' : List ℕ) (answer : RunAnswer)
+        (m' : Memory) (r : StateNumbers) (a : Advanced) (out' : List ℕ) (answer : Result Finished Refusal)
         → IsLoaded f ns ws fs r
         → least_nodes ≤ length ns
         → most_nodes ≤ length rs

@@ -1,7 +1,8 @@
 -- `run_parts::run_uncleared` meets its contract: 19, a refusal of `begin`, or the end of the steps. Assumes nothing.
 use native.Mathlib.Omega.{arith}
-use mathlib.Core.Path.{◌≡◌, refl, sym, ◌∙◌}
+use mathlib.Core.Path.{◌≡◌, sym, ◌∙◌, ap}
 use mathlib.Core.Bool.{false}
+use Rattle.std.proofs.Common.{rules, Err}
 use mathlib.Core.List.{[], ◌∷◌, map}
 use lib.ListN.{length}
 use Rattle.lent.specs.Lent.{too_short}
@@ -13,7 +14,7 @@ use Rattle.machine_nodes.proofs.Laws.Nodes.{length_nodes_in}
 use Rattle.words.proofs.Laws.Quadwords.{length_quadwords_in}
 use Rattle.words.specs.Quadwords.{quadwords_in}
 use Rattle.machine_circuits.specs.Layout.{four_results}
-use Rattle.machine_state.specs.Memory.{memory}
+use Rattle.machine_state.specs.Buffers.{memory_in}
 use Rattle.run_answers.specs.Lengths.{run_lengths}
 use Rattle.run_parts.proofs.Laws.Running.{roomy_lent, loaded_run, says_short, says_refused, says_ended}
 use Rattle.run_parts.proofs.run_uncleared.Goals as goal
@@ -24,36 +25,20 @@ returns-then-too_short c =
     let said = says_short s.file.now s.limit (s.out.now ∷ s.nodes.now ∷ s.stack.now ∷ s.types.now ∷ s.frames.now ∷ s.gates.now ∷ s.circuits.now ∷ s.results0.now ∷ s.results1.now ∷ s.results2.now ∷ s.results3.now ∷ []) s.out.now (sym c.too_short.ensures ∙ c.if-too_short.true) in
     record { answer = said.0; bytes = said.1 }
 
-pub returns-in_default : goal.returns-in_default
-returns-in_default c =
+pub returns-in_err-numbers : goal.returns-in_err-numbers
+returns-in_err-numbers c =
     let s = c.args in
-    let b = c.begin-begun in
+    let b = c.begin in
     let long : too_short run_lengths (s.out.now ∷ s.nodes.now ∷ s.stack.now ∷ s.types.now ∷ s.frames.now ∷ s.gates.now ∷ s.circuits.now ∷ s.results0.now ∷ s.results1.now ∷ s.results2.now ∷ s.results3.now ∷ []) ≡ false = sym c.too_short.ensures ∙ c.if-too_short.false in
     let L = all_least run_lengths (map length (s.out.now ∷ s.nodes.now ∷ s.stack.now ∷ s.types.now ∷ s.frames.now ∷ s.gates.now ∷ s.circuits.now ∷ s.results0.now ∷ s.results1.now ∷ s.results2.now ∷ s.results3.now ∷ [])) long in
-    let said = says_refused s.file.now s.limit (s.out.now ∷ s.nodes.now ∷ s.stack.now ∷ s.types.now ∷ s.frames.now ∷ s.gates.now ∷ s.circuits.now ∷ s.results0.now ∷ s.results1.now ∷ s.results2.now ∷ s.results3.now ∷ []) s.out.now long (nodes_in b.new.nodes) (words b.new.types) (quadwords_in b.new.frames) b.result c.in_default.field-0 c.refusal_of_begin.result (b.ensures L.1.0) c.in_default.is c.refusal_of_begin.ensures in
-    record { answer = said.0; bytes = said.1 }
-
-pub shape_of-nodes : goal.shape_of-nodes
-shape_of-nodes c =
-    let a = c.advance-advanced in
-    let b = c.begin-begun in
-    a.auto.nodes ∙ b.auto.nodes
-
-pub shape_of-types : goal.shape_of-types
-shape_of-types c =
-    let b = c.begin-begun in
-    b.auto.types
-
-pub shape_of-frames : goal.shape_of-frames
-shape_of-frames c =
-    let a = c.advance-advanced in
-    let b = c.begin-begun in
-    a.auto.frames ∙ b.auto.frames
+    let said = says_refused s.file.now s.limit (s.out.now ∷ s.nodes.now ∷ s.stack.now ∷ s.types.now ∷ s.frames.now ∷ s.gates.now ∷ s.circuits.now ∷ s.results0.now ∷ s.results1.now ∷ s.results2.now ∷ s.results3.now ∷ []) s.out.now long (nodes_in b.new.nodes) (words b.new.types) (quadwords_in b.new.frames) b.result c.in_err-numbers.field-0.0 (b.ensures L.1.0) c.in_err-numbers.was in
+    let handed_up : c.from_residual.result ≡ Err c.in_err-numbers.field-0.0 = search rules in
+    record { answer = handed_up ∙ said.0; bytes = said.1 }
 
 pub returns : goal.returns
 returns c =
     let s = c.args in
-    let b = c.begin-begun in
+    let b = c.begin in
     let long : too_short run_lengths (s.out.now ∷ s.nodes.now ∷ s.stack.now ∷ s.types.now ∷ s.frames.now ∷ s.gates.now ∷ s.circuits.now ∷ s.results0.now ∷ s.results1.now ∷ s.results2.now ∷ s.results3.now ∷ []) ≡ false = sym c.too_short.ensures ∙ c.if-too_short.false in
     let L = all_least run_lengths (map length (s.out.now ∷ s.nodes.now ∷ s.stack.now ∷ s.types.now ∷ s.frames.now ∷ s.gates.now ∷ s.circuits.now ∷ s.results0.now ∷ s.results1.now ∷ s.results2.now ∷ s.results3.now ∷ [])) long in
     let a = c.advance-advanced in
@@ -65,12 +50,12 @@ returns c =
     let fs = quadwords_in b.new.frames in
     let ws = words b.new.types in
     let results = four_results (words s.results0.now) (words s.results1.now) (words s.results2.now) (words s.results3.now) in
-    let results₂ = four_results (words a.new.results0) (words a.new.results1) (words a.new.results2) (words a.new.results3) in
+    let b₂ = a.new.buffers in
+    let results₂ = four_results (words b₂.results0.now) (words b₂.results1.now) (words b₂.results2.now) (words b₂.results3.now) in
     let said = says_ended s.file.now s.limit (s.out.now ∷ s.nodes.now ∷ s.stack.now ∷ s.types.now ∷ s.frames.now ∷ s.gates.now ∷ s.circuits.now ∷ s.results0.now ∷ s.results1.now ∷ s.results2.now ∷ s.results3.now ∷ []) s.out.now long ns rs gs cs fs ws results
-    (memory (nodes_in a.new.nodes) (quadwords_in a.new.stack) (quadwords_in a.new.gates) (quadwords_in a.new.circuits) (quadwords_in a.new.frames) (words b.new.types)
-    (four_results (words a.new.results0) (words a.new.results1) (words a.new.results2) (words a.new.results3)))
-    c.in-Loaded.numbers a.result e.new.out e.result
-    (loaded_run s.file.now ns ws fs b.result c.in-Loaded.numbers (b.ensures L.1.0) c.in-Loaded.is)
+    (memory_in b₂)
+    c.in_ok-numbers.numbers a.result e.new.out e.result
+    (loaded_run s.file.now ns ws fs b.result c.in_ok-numbers.numbers (b.ensures L.1.0) c.in_ok-numbers.was)
     (omega (arith, L.1.0, length_nodes_in b.new.nodes, b.auto.nodes))
     (omega (arith, L.1.1.0, length_quadwords_in s.stack.now))
     (omega (arith, L.1.1.1.0, length_words b.new.types, b.auto.types))
@@ -82,8 +67,8 @@ returns c =
     L.1.1.1.1.1.1.1.1.0
     L.1.1.1.1.1.1.1.1.1.0
     L.1.1.1.1.1.1.1.1.1.1.0)
-    a.ensures
-    refl
+    a.ensures.advances
+    (ap (λ t. words t.now) a.ensures.same_buffers.2)
     L.0
-    (e.ensures (quadwords_in a.new.stack) (quadwords_in a.new.circuits) results₂) in
+    (e.ensures (quadwords_in b₂.stack.now) (quadwords_in b₂.circuits.now) results₂) in
     record { answer = said.0; bytes = said.1 }

@@ -1,7 +1,7 @@
 -- Apply of a closed circuit meets the contract of a step at an apply whose first part is no gate. 01: "Apply copies the
 -- constant's gates in order, its inputs matched to the argument tuple left to right, new outputs numbered on".
-use Rattle.std.specs.Prelude.{ℕ, ◌+◌, ◌-◌, ◌≤◌, ◌<◌, ◌≡◌, refl, ◌⊎◌, List, ◌∷◌, length}
-use Rattle.std.proofs.Common.{arith, ◌∙◌, ap, inl, inr}
+use Rattle.std.specs.Prelude.{ℕ, ◌+◌, ◌-◌, ◌≤◌, ◌<◌, ◌≡◌, refl, List, ◌∷◌, length, Option, Some, None}
+use Rattle.std.proofs.Common.{arith, ◌∙◌, ap}
 use Rattle.std.proofs.Math.Option.{some}
 use Rattle.rules.specs.Kinds.{gate_term_kind}
 use Rattle.rules.specs.Types.{Ty}
@@ -12,7 +12,7 @@ use Rattle.rules.specs.Demand3.{ProgramHas}
 use Rattle.machine_terms.specs.Trees.{Node, kind, argument, Tree, leaf, tuple_of_tree, tuple_tree, LeafKind, a_variable}
 use Rattle.machine_terms.specs.Trees.{a_label, a_gate, a_constant, leaf_kind, an_apply, two_kind, ConstantFits, a_unit_value}
 use Rattle.machine_terms.specs.Holes.{Hole, second}
-use Rattle.machine_terms.specs.Walks.{Walk, evaluating, returning, at_apply, Stopped, stopped_apply}
+use Rattle.machine_terms.specs.Walks.{evaluating, returning, at_apply}
 use Rattle.machine_terms.specs.States.{state, decode, StateFits}
 use Rattle.machine_terms.specs.Meaning.{circuit_at}
 use Rattle.machine_terms.proofs.Laws.Kinds.{leaf_number, leaf_number_lem}
@@ -25,9 +25,7 @@ use Rattle.machine_walk.specs.Stack.{stack_node}
 use Rattle.machine_walk.proofs.Laws.Redexes.{kind_of_apply, first_leaf}
 use Rattle.machine_circuits.proofs.Laws.Typed.{constant_below}
 use Rattle.machine_state.specs.declared.StateNumbers.{StateNumbers}
-use Rattle.machine_state.specs.declared.Stepped.{Stepped}
-use Rattle.machine_state.specs.declared.Stepped.TheVariants.{Taken, TooLarge}
-use Rattle.machine_state.specs.Memory.{Memory, memory, HoldsParts}
+use Rattle.machine_state.specs.Memory.{Memory, memory}
 use Rattle.machine_state.specs.Outcomes.{AtStop, Outcome, Steps}
 use Rattle.step_apply_circuit.specs.declared.Redex.{Redex}
 use Rattle.step_apply_circuit.specs.Redexes.{RedexRead, Room, numbers_after, Applied}
@@ -63,7 +61,7 @@ number_below a_gate closed a f e = let z : ◌≡◌ {A = ℕ} 0 1 = cc in absur
 number_below a_unit_value closed a f e = let z : ◌≡◌ {A = ℕ} 0 1 = cc in absurd (omega arith)
 number_below a_constant closed a f e = f
 
-module _ (allowance : ℕ) (m m' : Memory) (r : StateNumbers) (answer : Stepped) where
+module _ (allowance : ℕ) (m m' : Memory) (r : StateNumbers) (answer : Option StateNumbers) where
   -- The closed circuit by its parts.
   by_circuit : Leaves allowance m m' r answer
       → (types : ℕ → Ty) (positions : ℕ) (A : Ty) (n l : Node) (v : Tree) (hs : List Hole) (C : Circuit) (Cs : List Circuit)
@@ -117,7 +115,7 @@ pub constant_taken : (ns ns' : List Node) (wide : ℕ) (gs gs' fs fs' : List Qua
     → ConstantWritten ns ns' wide gs gs' fs fs' results x r ls found
     → Applied ns ns' wide gs gs' fs fs' results x r (numbers_after x r)
 constant_taken ns ns' wide gs gs' fs fs' results x r ls found w rs cs ws allowance read room enough other =
-    by_form allowance m m' r (Taken (numbers_after x r)) leaves other
+    by_form allowance m m' r (Some (numbers_after x r)) leaves other
   where
     m : Memory
     m = memory ns rs gs cs fs ws results
@@ -125,7 +123,7 @@ constant_taken ns ns' wide gs gs' fs fs' results x r ls found w rs cs ws allowan
     m' : Memory
     m' = memory ns' rs gs' cs fs' ws results
 
-    leaves : Leaves allowance m m' r (Taken (numbers_after x r))
+    leaves : Leaves allowance m m' r (Some (numbers_after x r))
     leaves types positions n l v hs I hs' Cs K T copied y k small h below boxes e s typed =
         let d = constant_known types positions m x r n l v hs I hs' Cs K T copied y h below boxes e read in (
           room_fits types positions m x r n l v hs I hs' Cs K T copied y h k d.0 d.1 allowance room h.built.few_boxes,
@@ -147,31 +145,16 @@ pub constant_refused : (ns : List Node) (rs : List Quadword) (gs cs fs : List Qu
     → RedexRead ns rs gs cs fs (r.place.depth - 1) (r.counts.frames - 1) x
     → (Room x r (length ns) allowance → ⊥)
     → (kind (node_at ns (stack_node (quadword_at rs (r.place.depth - 1)) + 1)) ≡ gate_term_kind → ⊥)
-    → Steps at_apply allowance (memory ns rs gs cs fs ws results) (memory ns rs gs cs fs ws results) r TooLarge
+    → Steps at_apply allowance (memory ns rs gs cs fs ws results) (memory ns rs gs cs fs ws results) r None
 constant_refused ns rs gs cs fs ws results x r allowance read full other =
-    by_form allowance m m r TooLarge leaves other
+    by_form allowance m m r None leaves other
   where
     m : Memory
     m = memory ns rs gs cs fs ws results
 
-    leaves : Leaves allowance m m r TooLarge
+    leaves : Leaves allowance m m r None
     leaves types positions n l v hs I hs' Cs K T copied y k small h below boxes e s typed =
         let d = constant_known types positions m x r n l v hs I hs' Cs K T copied y h below boxes e read in (
           λ fit. full (room_needed types positions m x r n l v hs I hs' Cs K T copied y h k d.0 d.1 allowance fit),
           λ _ held. held,
         )
-
--- At the stop of an apply the stack has a quadword, and there is a frame.
-pub never_empty : (m : Memory) (r : StateNumbers) (allowance : ℕ)
-    → ((r.place.depth ≡ 0) ⊎ (r.counts.frames ≡ 0))
-    → Steps at_apply allowance m m r TooLarge
-never_empty m r allowance none types positions A (state w C Cs K) s' small at_stop sizes form =
-    absurd (of w at_stop.stopped at_stop.held none)
-  where
-    of : (w : Walk)
-        → Stopped w at_apply
-        → HoldsParts types positions m r w (C ∷ Cs) K
-        → (r.place.depth ≡ 0) ⊎ (r.counts.frames ≡ 0)
-        → ⊥
-    of w (stopped_apply p) h (inl e) = omega (arith, h.walk_held.stacked.deep)
-    of w (stopped_apply p) h (inr e) = omega (arith, h.built.counted.frames_are)

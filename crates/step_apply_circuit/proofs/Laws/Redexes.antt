@@ -1,5 +1,5 @@
 -- Laws of specs/Redexes.antt.
-use Rattle.std.specs.Prelude.{ℕ, ◌+◌, ◌-◌, ◌*◌, ◌/◌, ◌%◌, ◌≤◌, ◌<◌, ◌≡◌, List, ◌∷◌, ◌++◌, length, set, take}
+use Rattle.std.specs.Prelude.{ℕ, ◌+◌, ◌-◌, ◌*◌, ◌/◌, ◌%◌, ◌≤◌, ◌<◌, ◌≡◌, List, ◌∷◌, ◌++◌, length, set, take, Option}
 use Rattle.std.proofs.Math.Option.{some}
 use Rattle.rules.specs.Types.{Wire, Ty, wires, entries, most_entries}
 use Rattle.rules.specs.Terms.{Tuple, labels, Gate, Boxed, boxed}
@@ -18,7 +18,6 @@ use Rattle.rules.specs.Slots.{gate_slot_count}
 use Rattle.machine_circuits.specs.Copies.{AllBelow, CopyFits, GatesCopied}
 use Rattle.machine_circuits.specs.Results.{LabelsCollected, ResultFits, result_nodes}
 use Rattle.machine_state.specs.declared.StateNumbers.{StateNumbers}
-use Rattle.machine_state.specs.declared.Stepped.{Stepped}
 use Rattle.machine_state.specs.Memory.{Memory, most_inputs, HoldsParts}
 use Rattle.machine_state.specs.Outcomes.{Outcome}
 use Rattle.step_apply_circuit.specs.declared.Redex.{Redex}
@@ -72,7 +71,7 @@ pub record ConstantWritten (ns ns' : List Node) (wide : ℕ) (gs gs' fs fs' : Li
   pub quadwords_kept : length gs' ≡ length gs
 
 -- What a step with this answer is to leave at every apply of a closed circuit.
-abbrev pub Leaves : ℕ → Memory → Memory → StateNumbers → Stepped → Type 0
+abbrev pub Leaves : ℕ → Memory → Memory → StateNumbers → Option StateNumbers → Type 0
 Leaves allowance m m' r answer =
     (types : ℕ → Ty) (positions : ℕ) (n l : Node) (v : Tree) (hs : List Hole) (I : List Wire) (gs : List Gate)
     (Cs : List Circuit) (K : List Boxed) (T : Ty) (copied : List Gate) (y k : Tuple)

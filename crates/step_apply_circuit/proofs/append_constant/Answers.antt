@@ -1,5 +1,4 @@
 -- `step_apply_circuit::append_constant` meets its contract. Assumes nothing.
-use native.Mathlib.Omega.{arith}
 use mathlib.Core.Path.{sym, subst}
 use lib.ListN.{length}
 use Rattle.words.specs.Words.{words}
@@ -11,33 +10,6 @@ use Rattle.words.proofs.Laws.Quadwords.{same_quadwords, quadword_put}
 use Rattle.step_apply_circuit.specs.Redexes.{Applied}
 use Rattle.step_apply_circuit.proofs.Laws.Outcomes.{constant_taken}
 use Rattle.step_apply_circuit.proofs.append_constant.Goals as goal
-
-pub overflow_sub-place : goal.overflow_sub-place
-overflow_sub-place c = c.requires.argument_before
-
-pub overflow_sub-place-2 : goal.overflow_sub-place-2
-overflow_sub-place-2 c = c.requires.gap
-
-pub overflow_sub-counts : goal.overflow_sub-counts
-overflow_sub-counts c = c.requires.framed
-
-pub overflow_add-redex : goal.overflow_add-redex
-overflow_add-redex c = omega (arith, c.requires.wires_within)
-
-pub numbers_after-requires : goal.numbers_after-requires
-numbers_after-requires c = c.requires
-
-pub shape_of-nodes : goal.shape_of-nodes
-shape_of-nodes c = c.load_constant.auto.nodes
-
-pub shape_of-labels : goal.shape_of-labels
-shape_of-labels c = c.collect_labels-found.auto.labels
-
-pub shape_of-gates : goal.shape_of-gates
-shape_of-gates c = c.copy_gates.auto.gates
-
-pub shape_of-frames : goal.shape_of-frames
-shape_of-frames c = c.put_quadword.auto.buffer
 
 pub returns : goal.returns
 returns c =

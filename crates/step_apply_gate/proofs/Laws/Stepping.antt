@@ -1,5 +1,5 @@
 -- The contract of a step, met by apply of a gate: at each of the three ends of the code.
-use Rattle.std.specs.Prelude.{ℕ, ◌+◌, ◌-◌, ◌%◌, ◌≤◌, ◌<◌, refl, false, List, ◌∷◌, ◌++◌, set, take, drop}
+use Rattle.std.specs.Prelude.{ℕ, ◌+◌, ◌-◌, ◌%◌, ◌≤◌, ◌<◌, refl, false, List, ◌∷◌, ◌++◌, set, take, drop, Option, Some, None}
 use native.Mathlib.Omega.{arith}
 use Rattle.std.proofs.Math.Path.{◌≡◌, sym, ap}
 use Rattle.std.proofs.Common.{◌∙◌, subst, length-append, length-drop, length-set}
@@ -33,8 +33,6 @@ use Rattle.machine_circuits.proofs.Laws.Outputs.{output_wires_lem}
 use Rattle.machine_circuits.specs.Applying.{HoldsCircuits}
 use Rattle.machine_circuits.proofs.Laws.Applying.{gate_applied, gate_appended, gate_returned, next_after_gate}
 use Rattle.machine_state.specs.declared.StateNumbers.{StateNumbers}
-use Rattle.machine_state.specs.declared.Stepped.{Stepped}
-use Rattle.machine_state.specs.declared.Stepped.TheVariants.{Taken, TooLarge}
 use Rattle.machine_state.specs.Memory.{Memory, memory, HoldsFrames, Roomy}
 use Rattle.machine_state.specs.Outcomes.{size, SizesFit, AtStop, Outcome, Steps}
 use Rattle.machine_state.proofs.Laws.Frames.{frames_grown, next_held, wires_few, frames_few}
@@ -68,7 +66,7 @@ module _ (m : Memory) (r : StateNumbers) (n g : Node) (v : Tree) (hs : List Hole
   function_part h = first_leaf m.nodes m.stack r.place hs n g v (redex_at m r) h refl
 
 -- Where that node is a gate, so is what is applied.
-module _ (m m' : Memory) (r : StateNumbers) (allowance : ℕ) (answer : Stepped)
+module _ (m m' : Memory) (r : StateNumbers) (allowance : ℕ) (answer : Option StateNumbers)
     (e : kind (node_at m.nodes (redex_at m r + 1)) ≡ gate_term_kind)
     (f : (types : ℕ → Ty) (positions : ℕ) (n g : Node) (v : Tree) (hs : List Hole) (I : List Wire) (gs : List Gate)
     (Cs : List Circuit) (K : List Boxed) (T U : Ty) (k : Tuple)
@@ -363,7 +361,7 @@ module _ {types : ℕ → Ty} {positions allowance : ℕ} {m : Memory} {r : Stat
 
     -- The sizes fit, and the memory holds the next state.
     gate_outcome : Outcome types positions allowance r m afterwards (after_gate g hs (circuit I gs) Cs K T U k)
-        (Taken (numbers_after r at from depth))
+        (Some (numbers_after r at from depth))
     gate_outcome =
         let built = a.held.built in (
           record {
@@ -399,17 +397,17 @@ pub nodes_refused : (m : Memory) (r : StateNumbers) (allowance at number wide : 
     → number ≡ argument (node_at m.nodes (at + 1))
     → SizeOf number wide
     → most_nodes < at + wide + (length m.nodes - r.place.right)
-    → Steps at_apply allowance m m r TooLarge
+    → Steps at_apply allowance m m r None
 nodes_refused m r allowance at number wide e e' e'' w h =
-    steps_of_gate m m r allowance TooLarge e
+    steps_of_gate m m r allowance None e
     (λ types positions n g v hs I gs Cs K T U k a. (nodes_exceed a at number wide e' e'' w h, λ _ held. held))
 
 pub gates_refused : (m : Memory) (r : StateNumbers) (allowance : ℕ)
     → kind (node_at m.nodes (redex_at m r + 1)) ≡ gate_term_kind
     → allowance < r.counts.gates + r.counts.kept + 1
-    → Steps at_apply allowance m m r TooLarge
+    → Steps at_apply allowance m m r None
 gates_refused m r allowance e h =
-    steps_of_gate m m r allowance TooLarge e
+    steps_of_gate m m r allowance None e
     (λ types positions n g v hs I gs Cs K T U k a. (gates_exceed a h, λ _ held. held))
 
 -- The contract where the step is taken.
@@ -423,10 +421,10 @@ pub gate_taken : (m : Memory) (r : StateNumbers) (allowance : ℕ) (ns' : List N
     → GatePut m.nodes ls m.gates gs' start count r.counts.gates number
     → OutputsPut m.nodes ns' m.frames fs' from number frame
     → Steps at_apply allowance m (memory ns' m.stack gs' m.circuits fs' m.types m.results) r
-    (Taken (numbers_after r at from depth))
+    (Some (numbers_after r at from depth))
 gate_taken m r allowance ns' gs' fs' ls at start number wide from count depth frame e read room few below put written =
     steps_of_gate m (memory ns' m.stack gs' m.circuits fs' m.types m.results) r allowance
-    (Taken (numbers_after r at from depth))
+    (Some (numbers_after r at from depth))
     e
     (λ types positions n g v hs I gs Cs K T U k a.
     gate_outcome a ns' gs' fs' ls at start number wide from count depth frame read room few below put written)

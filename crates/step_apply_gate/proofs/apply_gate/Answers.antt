@@ -11,13 +11,11 @@ use Rattle.words.specs.Quadwords.{quadword_at, quadwords_in}
 use Rattle.machine_walk.specs.Stack.{stack_node, stack_start}
 use Rattle.machine_state.specs.Memory.{memory}
 use Rattle.step_apply_gate.proofs.Laws.Stepping.{nodes_refused, gates_refused, gate_taken}
+use Rattle.step_apply_gate.proofs.apply_gate.Goals.{then-exceed-via-then-exceed, then-exceed-via-else-exceed+then-exceed-2}
 use Rattle.step_apply_gate.proofs.apply_gate.Goals as goal
 
-pub overflow_add-at : goal.overflow_add-at
-overflow_add-at c = omega (arith, c.stack_node-at.ensures.upper_bound)
-
-pub returns-then-too_many_nodes : goal.returns-then-too_many_nodes
-returns-then-too_many_nodes c = λ room cs ws results e.
+pub returns-then-exceed : goal.returns-then-exceed
+returns-then-exceed c = λ room cs ws results e.
     let a = c.args in
     let r = a.numbers in
     let ns = nodes_in a.nodes.now in
@@ -26,34 +24,19 @@ returns-then-too_many_nodes c = λ room cs ws results e.
     let at = c.stack_node-at in
     let size = c.output_size-size in
     let rest = c.saturating_sub-rest in
-    let many : most_nodes < at.result + size.result + rest.result
-    = ltb-true most_nodes (at.result + size.result + rest.result)
-    (sym c.too_many_nodes.ensures ∙ c.if-too_many_nodes.true) in
-    nodes_refused m r a.allowance at.result c.argument_at-number.result size.result e
-    (at.ensures.value ∙ ap (λ d. stack_node (quadword_at rs d)) c.saturating_sub-depth.ensures)
-    c.argument_at-number.ensures.value
-    size.ensures
-    (omega (arith, many, rest.ensures, length_nodes_in a.nodes.now))
-
-pub returns-then-too_many_gates : goal.returns-then-too_many_gates
-returns-then-too_many_gates c = λ room cs ws results e.
-    let a = c.args in
-    let r = a.numbers in
-    let ns = nodes_in a.nodes.now in
-    let rs = quadwords_in a.stack.now in
-    let m = memory ns rs (quadwords_in a.gates.now) cs (quadwords_in a.frames.now) ws results in
-    gates_refused m r a.allowance e
-    (ltb-true a.allowance (r.counts.gates + r.counts.kept + 1)
-    (sym c.too_many_gates.ensures ∙ c.if-too_many_gates.true))
-
-pub overflow_add-result : goal.overflow_add-result
-overflow_add-result c =
-    let a = c.args in
-    let r = a.numbers in
-    let below : r.counts.gates + r.counts.kept + 1 ≤ a.allowance
-    = ltb-false a.allowance (r.counts.gates + r.counts.kept + 1)
-    (sym c.too_many_gates.ensures ∙ c.if-too_many_gates.false) in
-    omega (arith, below, c.ranges)
+    elim c.then-exceed.branch [
+      | then-exceed-via-then-exceed w ↦
+          let many : most_nodes < at.result + size.result + rest.result
+          = ltb-true most_nodes (at.result + size.result + rest.result) (sym c.exceed.ensures ∙ w.if-exceed.true) in
+          nodes_refused m r a.allowance at.result c.argument_at-number.result size.result e
+          (at.ensures.value ∙ ap (λ d. stack_node (quadword_at rs d)) c.saturating_sub-depth.ensures)
+          c.argument_at-number.ensures.value
+          size.ensures
+          (omega (arith, many, rest.ensures, length_nodes_in a.nodes.now))
+      | then-exceed-via-else-exceed+then-exceed-2 w ↦
+          gates_refused m r a.allowance e
+          (ltb-true a.allowance (r.counts.gates + r.counts.kept + 1) (sym w.exceed-else-exceed.ensures ∙ w.if-exceed-2.true))
+    ]
 
 pub returns : goal.returns
 returns c = λ room cs ws results e.
@@ -73,10 +56,10 @@ returns c = λ room cs ws results e.
     let frame = c.saturating_sub-frame in
     let few : at.result + size.result + rest.result ≤ most_nodes
     = ltb-false most_nodes (at.result + size.result + rest.result)
-    (sym c.too_many_nodes.ensures ∙ c.if-too_many_nodes.false) in
+    (sym c.exceed.ensures ∙ c.if-exceed.false) in
     let below : r.counts.gates + r.counts.kept + 1 ≤ a.allowance
     = ltb-false a.allowance (r.counts.gates + r.counts.kept + 1)
-    (sym c.too_many_gates.ensures ∙ c.if-too_many_gates.false) in
+    (sym c.exceed-else-exceed.ensures ∙ c.if-exceed-2.false) in
     gate_taken m r a.allowance (nodes_in c.put_outputs.new.nodes) (quadwords_in c.put_gate.new.gates)
     (quadwords_in c.put_outputs.new.frames)
     (words a.labels.now)

@@ -1,6 +1,6 @@
 -- What box entry measures and writes, and that the memory then holds the next configuration.
-use Rattle.std.specs.Prelude.{ℕ, ◌+◌, ◌-◌, ◌%◌, ◌≤◌, ◌<◌, ◌≡◌, refl, Bool, true, false, List, [], ◌∷◌, ◌++◌, T as Truth, leb, length, set, take, drop}
-use Rattle.std.proofs.Common.{arith, sym, ◌∙◌, ap, ap₂, subst, inr, length-append, leb-true, leb-false}
+use Rattle.std.specs.Prelude.{ℕ, ◌+◌, ◌-◌, ◌%◌, ◌≤◌, ◌<◌, ◌≡◌, refl, true, false, List, [], ◌∷◌, ◌++◌, T as Truth, length, set, take, drop}
+use Rattle.std.proofs.Common.{arith, sym, ◌∙◌, ap, ap₂, subst, inr, length-append}
 use Rattle.rules.specs.Kinds.{application_kind}
 use Rattle.rules.specs.Types.{Ty, is_wire_type, wires, entries, most_entries, type_codes}
 use Rattle.rules.specs.Terms.{tuple_from, Boxed}
@@ -15,7 +15,7 @@ use Rattle.words.proofs.Laws.Regions.{over_one, over_in_front, length_over, take
 use Rattle.machine_nodes.proofs.Laws.Copies.{Clear}
 use Rattle.words.specs.Quadwords.{quadword_at, Quadword}
 use Rattle.machine_walk.specs.Stack.{stack_entry, stack_node}
-use Rattle.machine_walk.specs.Places.{least_nodes, Holds}
+use Rattle.machine_walk.specs.Places.{Holds}
 use Rattle.machine_walk.proofs.Laws.Places.{front_length, back_length, holes_few}
 use Rattle.machine_walk.proofs.Laws.Redexes.{OnlyRedex, only_redex, entered as entered_held}
 use Rattle.machine_walk.specs.declared.Place.{Place}
@@ -28,58 +28,22 @@ use Rattle.machine_state.proofs.Laws.Frames.{boxes_few}
 use Rattle.machine_state.specs.Outcomes.{size, PartsFit}
 use Rattle.machine_state.specs.declared.StateNumbers.{StateNumbers}
 use Rattle.step_box_entry.specs.declared.Entry.{Entry}
-use Rattle.step_box_entry.specs.declared.Measured.{Measured}
-use Rattle.step_box_entry.specs.declared.Measured.TheVariants.{Fits, Exceeds}
-use Rattle.step_box_entry.specs.Opening.{applied, RoomFor, new_nodes, EntryFits, EntryExceeds, Measures, Writes}
+use Rattle.step_box_entry.specs.Opening.{applied, RoomFor, new_nodes, EntryFits, EntryExceeds, Writes}
 use Rattle.step_box_entry.specs.Opening.{entered}
 
--- The test whether there is room is right.
-pub room_tested : (n left right new : ℕ) (b : Bool)
-    → leb (left + new + (n - right)) most_nodes ≡ b
-    → least_nodes ≤ n
-    → right ≤ n
-    → RoomFor n left right new b
-room_tested n left right new true e wide inside =
-    let few : left + new + (n - right) ≤ most_nodes = leb-true (left + new + (n - right)) most_nodes e in
-    (omega arith, inside, few)
-room_tested n left right new false e wide inside = λ w i. leb-false (left + new + (n - right)) most_nodes e
-
--- Where it answers that there is room.
-pub room_there : (n left right new : ℕ) (b : Bool)
-    → RoomFor n left right new b
-    → b ≡ true
-    → (left + new ≤ right) × (right ≤ n) × (left + new + (n - right) ≤ most_nodes)
-room_there n left right new b h e = subst (RoomFor n left right new) e h
-
--- Where it answers that there is none.
-pub no_room : (n left right new : ℕ) (b : Bool)
-    → RoomFor n left right new b
-    → b ≡ false
-    → least_nodes ≤ n
-    → right ≤ n
-    → most_nodes < left + new + (n - right)
-no_room n left right new b h e = subst (RoomFor n left right new) e h
-
 -- What is measured, by the answer whether there is room.
-module _ (ns : List Node) (rs : List Quadword) (ws : List ℕ) (p : Place) (n at position span : ℕ) (b : Bool)
+module _ (ns : List Node) (rs : List Quadword) (ws : List ℕ) (p : Place) (n at position span count : ℕ)
     (n_is : n ≡ length ns)
+    (deep : 0 < p.depth)
     (at_is : at ≡ stack_node (quadword_at rs (p.depth - 1)))
     (position_is : position ≡ argument (node_at ns at))
     (span_is : span ≡ code_span (drop position ws) 1)
-    (room : RoomFor n p.left p.right (1 + (p.left - (at + 2)) + span) b) where
-  pub measured_fits : 0 < p.depth
-      → at + 2 ≤ p.left
-      → b ≡ true
+    (behind : at + 2 ≤ p.left)
+    (count_is : count ≡ p.left - (at + 2)) where
+  pub measured_fits : RoomFor n p.left p.right (1 + count + span) true
       → EntryFits ns rs ws p
-      (record {
-        at = at;
-        position = position;
-        size = span;
-        count = p.left - (at + 2);
-        to = p.right - (1 + (p.left - (at + 2)) + span);
-      })
-  measured_fits deep behind e =
-      let h = room_there n p.left p.right (1 + (p.left - (at + 2)) + span) b room e in
+      (record { at = at; position = position; size = span; count = count; to = p.right - (1 + count + span) })
+  measured_fits h =
       record {
         deep = deep;
         at_is = at_is;
@@ -92,29 +56,14 @@ module _ (ns : List Node) (rs : List Quadword) (ws : List ℕ) (p : Place) (n at
         few = omega (arith, h.0, h.1, h.2);
       }
 
-  pub measured_exceeds : b ≡ false → EntryExceeds ns rs ws p
-  measured_exceeds e = λ deep behind wide inside.
+  pub measured_exceeds : RoomFor n p.left p.right (1 + count + span) false → EntryExceeds ns rs ws p
+  measured_exceeds h = λ _ _ wide inside.
       let i = stack_node (quadword_at rs (p.depth - 1)) in
       let there : position ≡ argument (node_at ns i) = position_is ∙ ap (λ j. argument (node_at ns j)) at_is in
       let counted : span ≡ code_span (drop (argument (node_at ns i)) ws) 1
       = span_is ∙ ap (λ j. code_span (drop j ws) 1) there in
-      let more : most_nodes < p.left + (1 + (p.left - (at + 2)) + span) + (n - p.right)
-      = no_room n p.left p.right (1 + (p.left - (at + 2)) + span) b room e (omega arith) (omega arith) in
+      let more : most_nodes < p.left + (1 + count + span) + (n - p.right) = h (omega arith) (omega arith) in
       omega arith
-
--- Where the measure answers that the new nodes fit.
-pub fits_known : (ns : List Node) (rs : List Quadword) (ws : List ℕ) (p : Place) (x : Measured) (e : Entry)
-    → Measures ns rs ws p x
-    → x ≡ Fits e
-    → EntryFits ns rs ws p e
-fits_known ns rs ws p x e h q = subst (Measures ns rs ws p) q h
-
--- Where it answers that they do not.
-pub exceeds_known : (ns : List Node) (rs : List Quadword) (ws : List ℕ) (p : Place) (x : Measured)
-    → Measures ns rs ws p x
-    → x ≡ Exceeds
-    → EntryExceeds ns rs ws p
-exceeds_known ns rs ws p x h q = subst (Measures ns rs ws p) q h
 
 -- The nodes of the application.
 pub applied_nodes : (T : Ty) (t : Tree)

@@ -1,5 +1,5 @@
 -- The step at a box, by what the code has measured and written.
-use Rattle.std.specs.Prelude.{ℕ, ◌-◌, ◌%◌, ◌≤◌, ◌<◌, ◌≡◌, List, [], ◌∷◌, ◌++◌, length, set}
+use Rattle.std.specs.Prelude.{ℕ, ◌-◌, ◌%◌, ◌≤◌, ◌<◌, ◌≡◌, List, [], ◌∷◌, ◌++◌, length, set, Option, Some, None}
 use Rattle.std.proofs.Common.{arith, sym, ◌∙◌, ap, ap₂, subst, length-append, length-set, get_or-set_same, get_or-set_other}
 use Rattle.rules.specs.Types.{Ty, wires, most_entries}
 use Rattle.rules.specs.Terms.{Boxed}
@@ -21,8 +21,6 @@ use Rattle.machine_state.specs.Memory.{Memory, memory, HoldsFrames, HoldsBuilt}
 use Rattle.machine_state.proofs.Laws.Frames.{frames_kept}
 use Rattle.machine_state.specs.Outcomes.{SizesFit, AtStop, Outcome, Steps}
 use Rattle.machine_state.specs.declared.StateNumbers.{StateNumbers}
-use Rattle.machine_state.specs.declared.Stepped.{Stepped}
-use Rattle.machine_state.specs.declared.Stepped.TheVariants.{Taken, TooLarge}
 use Rattle.step_box_entry.specs.declared.Entry.{Entry}
 use Rattle.step_box_entry.specs.Opening.{applied, EntryFits, EntryExceeds, Writes, entered}
 use Rattle.step_box_entry.proofs.Laws.Opening.{StoppedAtBox, after_entry}
@@ -43,7 +41,7 @@ no_force : {n : Node} {v : Tree} {hs : List Hole}
 no_force p (stopped_box q) = let z : ◌≡◌ {A = ℕ} 0 1 = cc in omega arith
 
 -- A step at a box is box entry.
-pub box_steps : (allowance : ℕ) (m m' : Memory) (r : StateNumbers) (answer : Stepped)
+pub box_steps : (allowance : ℕ) (m m' : Memory) (r : StateNumbers) (answer : Option StateNumbers)
     → ((types : ℕ → Ty) (positions : ℕ) (n k : Node) (t : Tree) (hs : List Hole) (C : Circuit) (Cs : List Circuit)
     (K : List Boxed)
     → StoppedAtBox types positions allowance m r n k t hs C Cs K
@@ -75,7 +73,7 @@ box_steps allowance m m' r answer f types positions A s s' few at sizes c = of c
     of (contracts_exit k e) at sizes = elim at.stopped [ ]
 
 -- No quadword for the new frame: there is no such box.
-pub no_frame : (allowance : ℕ) (m : Memory) (r : StateNumbers) (answer : Stepped)
+pub no_frame : (allowance : ℕ) (m : Memory) (r : StateNumbers) (answer : Option StateNumbers)
     → length m.frames ≤ r.counts.frames
     → Steps at_box allowance m m r answer
 no_frame allowance m r answer past =
@@ -92,10 +90,10 @@ no_frame allowance m r answer past =
 pub exceeded : (allowance : ℕ) (ns : List Node) (rs : List Quadword) (gs cs fs : List Quadword) (ws : List ℕ)
     (results : ℕ → List ℕ) (r : StateNumbers)
     → EntryExceeds ns rs ws r.place
-    → Steps at_box allowance (memory ns rs gs cs fs ws results) (memory ns rs gs cs fs ws results) r TooLarge
+    → Steps at_box allowance (memory ns rs gs cs fs ws results) (memory ns rs gs cs fs ws results) r None
 exceeded allowance ns rs gs cs fs ws results r exceeds =
     let m = memory ns rs gs cs fs ws results in
-    box_steps allowance m m r TooLarge
+    box_steps allowance m m r None
     (λ types positions n k t hs C Cs K b. (
       exceeding types positions ns rs gs cs fs ws results r n k t hs C Cs K b.held b.position b.wire_type allowance
           (circuit (wires (types (argument n))) [] ∷ C ∷ Cs)
@@ -185,10 +183,10 @@ pub taken : (allowance : ℕ) (ns ns' : List Node) (rs rs' : List Quadword) (gs 
     → fs'
     ≡ set fs r.counts.frames (quadword (r.counts.gates % 65536) (wide % 65536) (wide % 65536) 0)
     → Steps at_box allowance (memory ns rs gs cs fs ws results) (memory ns' rs' gs cs fs' ws results) r
-    (Taken (entered r.place r.counts e))
+    (Some (entered r.place r.counts e))
 taken allowance ns ns' rs rs' gs cs fs fs' ws results r e wide fits writes stack_put frame_put_there =
     box_steps allowance (memory ns rs gs cs fs ws results) (memory ns' rs' gs cs fs' ws results) r
-    (Taken (entered r.place r.counts e))
+    (Some (entered r.place r.counts e))
     (λ types positions n k t hs C Cs K b.
     let T = types (argument n) in
     let done =

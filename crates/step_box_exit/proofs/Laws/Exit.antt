@@ -1,5 +1,5 @@
 -- After box exit the memory holds the next configuration, and the 257th box exit does not fit.
-use Rattle.std.specs.Prelude.{ℕ, ◌+◌, ◌-◌, ◌*◌, ◌/◌, ◌%◌, ◌≤◌, ◌<◌, ◌≡◌, false, List, ◌∷◌, length, set, drop}
+use Rattle.std.specs.Prelude.{ℕ, ◌+◌, ◌-◌, ◌*◌, ◌/◌, ◌%◌, ◌≤◌, ◌<◌, ◌≡◌, false, List, ◌∷◌, length, set, drop, Some, None}
 use Rattle.std.proofs.Common.{arith, sym, ◌∙◌, ap, subst, length-set, length-append}
 use Rattle.std.proofs.Math.Decide.{ℕ_discrete}
 use Rattle.std.proofs.Math.Option.{some}
@@ -33,7 +33,6 @@ use Rattle.machine_state.specs.Memory.{Memory, memory, Counted, HoldsBuilt}
 use Rattle.machine_state.specs.Outcomes.{SizesFit, walk_of, AtStop, Outcome, Steps}
 use Rattle.machine_state.specs.declared.Counts.{Counts}
 use Rattle.machine_state.specs.declared.StateNumbers.{StateNumbers}
-use Rattle.machine_state.specs.declared.Stepped.TheVariants.{Taken, TooLarge}
 use Rattle.step_box_exit.specs.declared.Exit.{Exit}
 use Rattle.step_box_exit.specs.Closing.{ExitAt, ResultSaved, Saves, CircuitPut, ConstantPut, after_exit}
 use Rattle.step_box_exit.proofs.Laws.Closing.{Innermost, InResults}
@@ -272,7 +271,7 @@ module _ (ns ns' : List Node) (rs : List Quadword) (gs gs' cs cs' fs : List Quad
       → tuple_of_tree v ≡ some k
       → Outcome types positions allowance r (memory ns rs gs cs fs ws results) (memory ns' rs gs' cs' fs ws results')
       (state (evaluating (leaf (node constant_kind (length K))) hs) C Cs (boxed (types (argument n)) gates k ∷ K))
-      (Taken (after_exit r e))
+      (Some (after_exit r e))
   exit_taken types positions allowance A n b v hs I gates C Cs K k stop sizes q =
       let held = stop.held.walk_held in
       let redex = exit_redex ns rs r.place hs n b v e.at e.start held exit_at.at_is exit_at.start_is in
@@ -302,11 +301,11 @@ module _ (ns ns' : List Node) (rs : List Quadword) (gs gs' cs cs' fs : List Quad
   -- The contract of box exit where one more circuit may be closed.
   pub exit_steps : (r' : StateNumbers) (allowance : ℕ)
       → r' ≡ after_exit r e
-      → Steps at_exit allowance (memory ns rs gs cs fs ws results) (memory ns' rs gs' cs' fs ws results') r (Taken r')
+      → Steps at_exit allowance (memory ns rs gs cs fs ws results) (memory ns' rs gs' cs' fs ws results') r (Some r')
   exit_steps r' allowance after_is types positions A s s' most stop sizes contracts =
       subst
       (λ t. Outcome types positions allowance r (memory ns rs gs cs fs ws results) (memory ns' rs gs' cs' fs ws results') s'
-      (Taken t))
+      (Some t))
       (sym after_is)
       (of s s' contracts stop sizes stop.stopped)
     where
@@ -316,7 +315,7 @@ module _ (ns ns' : List Node) (rs : List Quadword) (gs gs' cs cs' fs : List Quad
           → SizesFit allowance s
           → Stopped (walk_of s) at_exit
           → Outcome types positions allowance r (memory ns rs gs cs fs ws results) (memory ns' rs gs' cs' fs ws results') s'
-          (Taken (after_exit r e))
+          (Some (after_exit r e))
       of s s' (contracts_application p q) stop sizes w = elim w [ ]
       of s s' (contracts_let p q) stop sizes w = elim w [ ]
       of s s' (contracts_force p q) stop sizes w = elim w [ ]
@@ -329,7 +328,7 @@ module _ (ns ns' : List Node) (rs : List Quadword) (gs gs' cs cs' fs : List Quad
 -- Where as many circuits are closed as may be, one more does not fit, and nothing is changed.
 pub exit_refused : (m : Memory) (r : StateNumbers) (allowance : ℕ)
     → (r.counts.gates ≤ most_gates → r.counts.kept ≤ most_gates → most_boxes ≤ r.counts.boxes)
-    → Steps at_exit allowance m m r TooLarge
+    → Steps at_exit allowance m m r None
 exit_refused m r allowance full types positions A s s' most stop sizes contracts =
     (of s s' contracts stop stop.stopped, λ _ held. held)
   where

@@ -1,5 +1,5 @@
 -- The form of a step at a force, at an application and at a let.
-use Rattle.std.specs.Prelude.{ℕ, ◌≡◌, List, [], ◌∷◌}
+use Rattle.std.specs.Prelude.{ℕ, ◌≡◌, List, [], ◌∷◌, Option}
 use Rattle.std.proofs.Common.{arith}
 use Rattle.rules.specs.Types.{Ty}
 use Rattle.rules.specs.Terms.{Boxed}
@@ -14,7 +14,6 @@ use Rattle.machine_terms.specs.Forms.{contracts_constant, contracts_box, contrac
 use Rattle.machine_state.specs.Memory.{Memory}
 use Rattle.machine_state.specs.Outcomes.{SizesFit, walk_of, AtStop, Outcome, Steps}
 use Rattle.machine_state.specs.declared.StateNumbers.{StateNumbers}
-use Rattle.machine_state.specs.declared.Stepped.{Stepped}
 
 -- What holds of every step of a form holds of each step at its stop.
 module _ (types : ℕ → Ty) (P : State → State → Type 0) where
@@ -69,12 +68,12 @@ module _ (types : ℕ → Ty) (P : State → State → Type 0) where
   every_let f s s' (contracts_exit k p) stopped = elim stopped [ ]
 
 -- The contract of the step from s to s'.
-abbrev pub StepsTo : Stop → ℕ → Memory → Memory → StateNumbers → Stepped → (ℕ → Ty) → ℕ → Ty → State → State → Type 0
+abbrev pub StepsTo : Stop → ℕ → Memory → Memory → StateNumbers → Option StateNumbers → (ℕ → Ty) → ℕ → Ty → State → State → Type 0
 StepsTo stop allowance m m' r answer types positions A s s' =
     AtStop types positions A m r s stop → SizesFit allowance s → Outcome types positions allowance r m m' s' answer
 
 -- An answer meets the contract at a stop where it does for every step of the form that steps have there.
-module _ (allowance : ℕ) (m m' : Memory) (r : StateNumbers) (answer : Stepped) where
+module _ (allowance : ℕ) (m m' : Memory) (r : StateNumbers) (answer : Option StateNumbers) where
   -- What is forced is a lift.
   pub force_form : ((types : ℕ → Ty) (positions : ℕ) (A : Ty) (n k : Node) (t : Tree) (hs : List Hole) (C : Circuit)
       (Cs : List Circuit) (K : List Boxed)

@@ -1,5 +1,5 @@
 -- Laws of specs/Reductions.antt.
-use Rattle.std.specs.Prelude.{ℕ, suc, ◌+◌, ◌-◌, ◌≤◌, ◌<◌, ◌≡◌, List, [], ◌∷◌, ◌++◌, length, take, drop}
+use Rattle.std.specs.Prelude.{ℕ, suc, ◌+◌, ◌-◌, ◌≤◌, ◌<◌, ◌≡◌, List, [], ◌∷◌, ◌++◌, length, take, drop, Option, Some, None}
 use Rattle.std.proofs.Common.{arith, sym, ◌∙◌, ap, subst, inr, length-append, length-drop}
 use Rattle.rules.specs.Types.{Ty}
 use Rattle.rules.specs.Terms.{Boxed}
@@ -27,30 +27,19 @@ use Rattle.machine_substitution.proofs.Laws.Contractions.{let_reduct}
 use Rattle.machine_substitution.specs.Contractions.{application_value, let_values}
 use Rattle.machine_substitution.specs.declared.Region.{Region}
 use Rattle.machine_substitution.specs.declared.Values.{Values}
-use Rattle.machine_substitution.specs.declared.Size.{Size}
-use Rattle.machine_substitution.specs.declared.Size.TheVariants.{Nodes, TooMany}
 use Rattle.machine_state.specs.Memory.{memory, HoldsParts}
 use Rattle.machine_state.specs.Outcomes.{PartsFit, Outcome, Steps}
 use Rattle.machine_state.specs.declared.StateNumbers.{StateNumbers}
-use Rattle.machine_state.specs.declared.Stepped.{Stepped}
-use Rattle.machine_state.specs.declared.Stepped.TheVariants.{TooLarge}
 use Rattle.step_reductions.specs.Taking.{place_after, taken_to}
 use Rattle.step_reductions.proofs.Laws.Taking.{step_taken, step_refused}
 use Rattle.step_reductions.proofs.Laws.Forms.{force_form, application_form, let_form}
 use Rattle.step_reductions.specs.Reductions.{most_between}
 
 -- What a step at a stop has to do, where only the nodes change.
-abbrev pub StepsNodes : Stop → List Node → List Node → List Quadword → StateNumbers → Stepped → Type 0
+abbrev pub StepsNodes : Stop → List Node → List Node → List Quadword → StateNumbers → Option StateNumbers → Type 0
 StepsNodes stop ns ns' rs r answer =
     (gs cs fs : List Quadword) (ws : List ℕ) (results : ℕ → List ℕ) (allowance : ℕ)
     → Steps stop allowance (memory ns rs gs cs fs ws results) (memory ns' rs gs cs fs ws results) r answer
-
--- An answer that is equal to one that meets the contract meets it.
-pub steps_answered : (stop : Stop) (ns ns' : List Node) (rs : List Quadword) (r : StateNumbers) (answer answer' : Stepped)
-    → answer ≡ answer'
-    → StepsNodes stop ns ns' rs r answer'
-    → StepsNodes stop ns ns' rs r answer
-steps_answered stop ns ns' rs r answer answer' e h = subst (StepsNodes stop ns ns' rs r) (sym e) h
 
 -- What `copy_nodes` ensures, from the nodes ns to the nodes ns'.
 abbrev pub Copies : List Node → List Node → ℕ → ℕ → ℕ → Type 0
@@ -97,21 +86,21 @@ module _ (ns ns' : List Node) (rs : List Quadword) (r : StateNumbers) (at count 
       (omega arith))
 
   -- The step is taken. It always fits, since there are fewer nodes than before.
-  pub force_steps : StepsNodes at_force ns ns' rs r (taken_to r at to)
+  pub force_steps : StepsNodes at_force ns ns' rs r (Some (taken_to r at to))
   force_steps gs cs fs ws results allowance =
-      force_form allowance (memory ns rs gs cs fs ws results) (memory ns' rs gs cs fs ws results) r (taken_to r at to)
+      force_form allowance (memory ns rs gs cs fs ws results) (memory ns' rs gs cs fs ws results) r (Some (taken_to r at to))
       λ types positions A n m t hs C Cs K stop fits.
       step_taken ns ns' rs gs cs fs ws results types positions allowance r (returning (one m t) (only n ∷ hs))
       (evaluating t hs) C Cs K at to stop.held fits (force_held n m t hs stop.held.walk_held)
 
 -- What `write_reduct` ensures, from the nodes ns to the nodes ns₁.
-abbrev pub WritesReduct : List Node → List Node → ℕ → Region → Values → ℕ → ℕ → Size → Type 0
+abbrev pub WritesReduct : List Node → List Node → ℕ → Region → Values → ℕ → ℕ → Option ℕ → Type 0
 WritesReduct ns ns₁ words source values to most answer =
     Ready ns words to most source values → Wrote ns ns₁ source values to most answer
 
 -- What the steps at an application and at a let come to: the redex, in the hole h of its quadword, starts at place `at`, what is
 -- behind it at place `next`, and the reduct's code has answered for the reduct of the tree t.
-pub record Contracted (ns ns₁ : List Node) (rs : List Quadword) (p : Place) (at next most : ℕ) (answer : Size) (v : Tree)
+pub record Contracted (ns ns₁ : List Node) (rs : List Quadword) (p : Place) (at next most : ℕ) (answer : Option ℕ) (v : Tree)
     (h : Hole) (hs : List Hole) (t : Tree) : Type 0 where
   pub source : Region
   pub values : Values
@@ -128,17 +117,17 @@ module _ (ns ns₁ : List Node) (rs : List Quadword) (r : StateNumbers) (at next
     (at_is : at ≡ stack_node (quadword_at rs (r.place.depth - 1)))
     (most_is : most ≡ most_between ns at next)
     (gs cs fs : List Quadword) (ws : List ℕ) (results : ℕ → List ℕ) (types : ℕ → Ty) (positions allowance : ℕ)
-    (v : Tree) (h : Hole) (hs : List Hole) (t : Tree) (C : Circuit) (Cs : List Circuit) (K : List Boxed) (answer : Size)
+    (v : Tree) (h : Hole) (hs : List Hole) (t : Tree) (C : Circuit) (Cs : List Circuit) (K : List Boxed) (answer : Option ℕ)
   where
     most_few : most ≤ most_nodes
     most_few = omega (arith, most_is)
 
     -- The step is refused where the reduct is too large: the next state would have too many nodes.
-    contraction_refused : answer ≡ TooMany
+    contraction_refused : answer ≡ None
         → Contracted ns ns₁ rs r.place at next most answer v h hs t
         → Outcome types positions allowance r (memory ns rs gs cs fs ws results) (memory ns₁ rs gs cs fs ws results)
         (state (evaluating t hs) C Cs K)
-        TooLarge
+        None
     contraction_refused e c =
         let many : most < length (preorder t)
         = size_refused most (length (preorder t))
@@ -157,7 +146,7 @@ module _ (ns ns₁ : List Node) (rs : List Quadword) (r : StateNumbers) (at next
 
     -- It is taken where the reduct is not: it is copied before place `next`, and is evaluated.
     contraction_taken : (ns' : List Node) (count to : ℕ)
-        → answer ≡ Nodes count
+        → answer ≡ Some count
         → Contracted ns ns₁ rs r.place at next most answer v h hs t
         → to ≡ next - count
         → Copies ns₁ ns' r.place.left to count
@@ -165,7 +154,7 @@ module _ (ns ns₁ : List Node) (rs : List Quadword) (r : StateNumbers) (at next
         → PartsFit allowance (returning v (h ∷ hs)) (C ∷ Cs) K
         → Outcome types positions allowance r (memory ns rs gs cs fs ws results) (memory ns' rs gs cs fs ws results)
         (state (evaluating t hs) C Cs K)
-        (taken_to r at to)
+        (Some (taken_to r at to))
     contraction_taken ns' count to e c to_is copied state_held fits =
         let few = c.held.few in
         let under = c.under_left in
@@ -191,7 +180,7 @@ module _ (ns ns₁ : List Node) (rs : List Quadword) (r : StateNumbers) (at star
     (most_is : most ≡ most_between ns at r.place.right)
     (words : ℕ)
     (enough : most_nodes < words)
-    (answer : Size)
+    (answer : Option ℕ)
     (writes : WritesReduct ns ns₁ words source values r.place.left most answer) where
   application_contracted : (n m : Node) (t v : Tree) (hs : List Hole) (positions closed : ℕ)
       → Holds ns rs r.place (returning v (second n (one m t) ∷ hs))
@@ -217,21 +206,21 @@ module _ (ns ns₁ : List Node) (rs : List Quadword) (r : StateNumbers) (at star
             application_reduct ns rs r.place n m t v hs held at start at_is start_is positions closed words kinded enough;
       }
 
-  pub application_refused : answer ≡ TooMany → StepsNodes at_application ns ns₁ rs r TooLarge
+  pub application_refused : answer ≡ None → StepsNodes at_application ns ns₁ rs r None
   application_refused e gs cs fs ws results allowance =
-      application_form allowance (memory ns rs gs cs fs ws results) (memory ns₁ rs gs cs fs ws results) r TooLarge
+      application_form allowance (memory ns rs gs cs fs ws results) (memory ns₁ rs gs cs fs ws results) r None
       λ types positions A n m t v hs C Cs K stop fits.
       contraction_refused ns ns₁ rs r at r.place.right most at_is most_is gs cs fs ws results types positions allowance v
       (second n (one m t)) hs (substitute_tree (v ∷ []) t) C Cs K answer e
       (application_contracted n m t v hs positions (length K) stop.held.walk_held stop.fits.0.2.0.2.1)
 
   pub application_taken : (ns' : List Node) (count to : ℕ)
-      → answer ≡ Nodes count
+      → answer ≡ Some count
       → to ≡ r.place.right - count
       → Copies ns₁ ns' r.place.left to count
-      → StepsNodes at_application ns ns' rs r (taken_to r at to)
+      → StepsNodes at_application ns ns' rs r (Some (taken_to r at to))
   application_taken ns' count to e to_is copied gs cs fs ws results allowance =
-      application_form allowance (memory ns rs gs cs fs ws results) (memory ns' rs gs cs fs ws results) r (taken_to r at to)
+      application_form allowance (memory ns rs gs cs fs ws results) (memory ns' rs gs cs fs ws results) r (Some (taken_to r at to))
       λ types positions A n m t v hs C Cs K stop fits.
       contraction_taken ns ns₁ rs r at r.place.right most at_is most_is gs cs fs ws results types positions allowance v
       (second n (one m t)) hs (substitute_tree (v ∷ []) t) C Cs K answer ns' count to e
@@ -254,7 +243,7 @@ module _ (ns ns₁ : List Node) (rs : List Quadword) (r : StateNumbers) (at midd
     (most_is : most ≡ most_between ns at next)
     (words : ℕ)
     (enough : most_nodes < words)
-    (answer : Size)
+    (answer : Option ℕ)
     (writes : WritesReduct ns ns₁ words source values r.place.left most answer) where
   let_contracted : (n m : Node) (t t' u : Tree) (hs : List Hole) (positions closed : ℕ)
       → Holds ns rs r.place (returning (two m t t') (first n u ∷ hs))
@@ -288,9 +277,9 @@ module _ (ns ns₁ : List Node) (rs : List Quadword) (r : StateNumbers) (at midd
             kinded_body enough;
       }
 
-  pub let_refused : answer ≡ TooMany → StepsNodes at_let ns ns₁ rs r TooLarge
+  pub let_refused : answer ≡ None → StepsNodes at_let ns ns₁ rs r None
   let_refused e gs cs fs ws results allowance =
-      let_form allowance (memory ns rs gs cs fs ws results) (memory ns₁ rs gs cs fs ws results) r TooLarge
+      let_form allowance (memory ns rs gs cs fs ws results) (memory ns₁ rs gs cs fs ws results) r None
       λ types positions A n m t t' u hs C Cs K stop fits.
       let w = stop.fits.0 in
       contraction_refused ns ns₁ rs r at next most at_is most_is gs cs fs ws results types positions allowance (two m t t')
@@ -298,12 +287,12 @@ module _ (ns ns₁ : List Node) (rs : List Quadword) (r : StateNumbers) (at midd
       (let_contracted n m t t' u hs positions (length K) stop.held.walk_held w.0.1 w.2.0.1)
 
   pub let_taken : (ns' : List Node) (count to : ℕ)
-      → answer ≡ Nodes count
+      → answer ≡ Some count
       → to ≡ next - count
       → Copies ns₁ ns' r.place.left to count
-      → StepsNodes at_let ns ns' rs r (taken_to r at to)
+      → StepsNodes at_let ns ns' rs r (Some (taken_to r at to))
   let_taken ns' count to e to_is copied gs cs fs ws results allowance =
-      let_form allowance (memory ns rs gs cs fs ws results) (memory ns' rs gs cs fs ws results) r (taken_to r at to)
+      let_form allowance (memory ns rs gs cs fs ws results) (memory ns' rs gs cs fs ws results) r (Some (taken_to r at to))
       λ types positions A n m t t' u hs C Cs K stop fits.
       let w = stop.fits.0 in
       contraction_taken ns ns₁ rs r at next most at_is most_is gs cs fs ws results types positions allowance (two m t t')

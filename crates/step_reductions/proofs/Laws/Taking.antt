@@ -1,5 +1,5 @@
 -- Laws of specs/Taking.antt.
-use Rattle.std.specs.Prelude.{ℕ, ◌+◌, ◌<◌, List, ◌∷◌, length}
+use Rattle.std.specs.Prelude.{ℕ, ◌+◌, ◌<◌, List, ◌∷◌, length, Some, None}
 use Rattle.std.proofs.Common.{arith, length-append}
 use Rattle.rules.specs.Types.{Ty}
 use Rattle.rules.specs.Terms.{Boxed}
@@ -14,7 +14,6 @@ use Rattle.machine_state.specs.Memory.{memory, HoldsBuilt, HoldsParts, HoldsStat
 use Rattle.machine_state.specs.Outcomes.{PartsFit, Outcome}
 use Rattle.machine_state.specs.declared.Counts.{Counts}
 use Rattle.machine_state.specs.declared.StateNumbers.{StateNumbers}
-use Rattle.machine_state.specs.declared.Stepped.TheVariants.{TooLarge}
 use Rattle.step_reductions.specs.Taking.{place_after, taken_to}
 
 module _ (ns ns' : List Node) (rs : List Quadword) (gs cs fs : List Quadword) (ws : List ℕ) (results : ℕ → List ℕ)
@@ -46,7 +45,7 @@ module _ (ns ns' : List Node) (rs : List Quadword) (gs cs fs : List Quadword) (w
       → Holds ns' rs (place_after r.place at to) w'
       → Outcome types positions allowance r (memory ns rs gs cs fs ws results) (memory ns' rs gs cs fs ws results)
       (state w' C Cs K)
-      (taken_to r at to)
+      (Some (taken_to r at to))
   step_taken r w w' C Cs K at to h f held = (
     record {
       nodes_fit = omega (arith, held.few, length-append (left w') (right w'));
@@ -66,7 +65,7 @@ module _ (ns ns' : List Node) (rs : List Quadword) (gs cs fs : List Quadword) (w
       → ((w : Walk) → Holds ns rs r.place w → Holds ns' rs r.place w)
       → Outcome types positions allowance r (memory ns rs gs cs fs ws results) (memory ns' rs gs cs fs ws results)
       (state w' C Cs K)
-      TooLarge
+      None
   step_refused r w' C Cs K many kept = (
     λ f. omega (arith, f.nodes_fit, length-append (left w') (right w')),
     λ s held. of s held,

@@ -1,12 +1,10 @@
 -- `step_reductions::force` meets its contract. Assumes nothing.
 use mathlib.Core.Path.{◌∙◌, ap}
-use Rattle.machine_terms.specs.Walks.{at_force}
 use Rattle.machine_nodes.specs.Nodes.{nodes_in}
 use Rattle.machine_nodes.proofs.Laws.Bytes.{nodes_copied}
 use Rattle.words.specs.Quadwords.{quadwords_in, quadword_at}
 use Rattle.machine_walk.specs.Stack.{stack_node}
-use Rattle.step_reductions.specs.Taking.{taken_to}
-use Rattle.step_reductions.proofs.Laws.Reductions.{steps_answered, force_steps}
+use Rattle.step_reductions.proofs.Laws.Reductions.{force_steps}
 use Rattle.step_reductions.proofs.force.Goals as goal
 
 pub returns : goal.returns
@@ -18,7 +16,7 @@ returns c =
     let ns' = nodes_in c.copy_nodes.new.nodes in
     let at = c.stack_node-at.result in
     let to = c.saturating_sub-to.result in
-    steps_answered at_force ns ns' rs r c.taken.result (taken_to r at to) c.taken.ensures
+    rw c.taken.ensures
     (force_steps ns ns' rs r at c.saturating_sub-count.result to
     (c.stack_node-at.ensures.value ∙ ap (λ i. stack_node (quadword_at rs i)) c.saturating_sub.ensures)
     c.saturating_sub-count.ensures

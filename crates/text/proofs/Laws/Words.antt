@@ -1,6 +1,6 @@
 -- Laws of words and numbers that are written one behind the other.
 use Rattle.std.specs.Prelude.{ℕ, ◌+◌, ◌/◌, ◌%◌, ◌≤◌, ◌<◌, ◌≡◌, refl, List, [], ◌∷◌, ◌++◌, map, length, get_or, take}
-use Rattle.std.proofs.Common.{add-one, sym, ◌∙◌, ap, append_assoc, append-nil, take-suc, take_all}
+use Rattle.std.proofs.Common.{add-one, sym, ◌∙◌, ap, append_assoc, take-suc, take_all}
 use Rattle.text.specs.Text.{digit, decimal, spaced, joined}
 use Rattle.text.proofs.Laws.Decimals.{one_digit, more_digits}
 use Rattle.text.specs.Writing.{Puts}
@@ -35,13 +35,6 @@ pub puts_digit : (n : ℕ) {text text' : List ℕ} {at at' : ℕ}
     → Puts text at (digit n ∷ []) text' at'
     → Puts text at (decimal n) text' at'
 puts_digit n small p = puts_same (sym (one_digit n small)) p
-
--- A word behind a space.
-pub puts_word : (w : List ℕ) {text text' text'' : List ℕ} {at at' at'' : ℕ}
-    → Puts text at (32 ∷ []) text' at'
-    → Puts text' at' w text'' at''
-    → Puts text at (spaced (w ∷ [])) text'' at''
-puts_word w p q = puts_same (ap (λ ys. 32 ∷ ys) (sym (append-nil w))) (puts_both p q)
 
 -- Words behind others.
 pub spaced_append : (vs ws : List (List ℕ)) → spaced (vs ++ ws) ≡ spaced vs ++ spaced ws

@@ -1,10 +1,9 @@
 -- Laws of the table of wires: a wire is taken, a wire is made, and what is left.
 use Rattle.std.specs.Prelude.{ℕ, zero, suc, ◌+◌, ◌-◌, ◌*◌, ◌/◌, ◌%◌, ◌≤◌, ◌<◌, ◌≡◌, refl, Bool, true, false, ◌&&◌, cond, List, [], ◌∷◌, ◌++◌, eqb, ltb, length, get_or, set}
-use Rattle.std.proofs.Common.{arith, sym, ◌∙◌, ap, ap₂, subst, append_assoc, append-nil, length-append, length-set, get_or-set_same, get_or-set_other, eq-eqb, ne_eqb}
+use Rattle.std.proofs.Common.{arith, sym, ◌∙◌, ap, ap₂, subst, append_assoc, append-nil, length-append, length-set, get_or-set_same, get_or-set_other}
 use Rattle.std.proofs.Math.Decide.{dec_lt}
 use Rattle.std.proofs.Math.Option.{Option, none, some}
 use Rattle.std.proofs.Math.ListN.{get_or-eq_default}
-use Rattle.std.proofs.Math.Seq.{set_out}
 use Rattle.rules.specs.Types.{Wire, Bit, Qubit, wire_code}
 use Rattle.rules.specs.Gates.{nth}
 use Rattle.rules.specs.GateCodes.{wires_code}
@@ -375,16 +374,3 @@ lowest_read {m} {types} {gone} many h t =
     past : (w : ℕ) → 0 + length types ≤ w → ltb 0 (get_or m w 0) ≡ false
     past w l =
         same w ∙ ap (λ o. is_there (if_none (count w gone) o)) (nth_beyond types w (omega arith)) ∙ nothing (count w gone)
-
--- Past the end nothing changes.
-pub past_same : (m : List ℕ) (w : ℕ) → length m ≤ w → (b : Bool) → m ≡ cond b (set m w 0) m
-past_same m w past true = sym (set_out m w 0 past)
-past_same m w past false = refl
-
--- The test for equal numbers may be turned round.
-pub eqb_swap : (m n : ℕ) → eqb m n ≡ eqb n m
-eqb_swap m n = of (eqb m n) (compared m n)
-  where
-    of : (b : Bool) → Compared m n b → b ≡ eqb n m
-    of _ (equal p) = sym (eq-eqb n m (sym p))
-    of _ (unequal f) = sym (ne_eqb n m (λ e. f (sym e)))

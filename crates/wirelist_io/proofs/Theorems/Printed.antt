@@ -1,5 +1,5 @@
 -- What is printed for each answer of a run, and how long it is.
-use Rattle.std.specs.Prelude.{ℕ, ◌≤◌, ◌≡◌, refl, false, cond, List, [], ◌∷◌, ◌++◌, map, length, drop, get_or, replicate}
+use Rattle.std.specs.Prelude.{ℕ, ◌≤◌, ◌≡◌, refl, false, cond, List, [], ◌∷◌, ◌++◌, map, length, drop, get_or, replicate, Result, Err}
 use Rattle.std.proofs.Common.{arith, sym, ◌∙◌, ap, ap₂, subst}
 use Rattle.std.proofs.Math.Option.{some}
 use Rattle.rules.specs.Terms.{Gate, Term, tuple}
@@ -11,20 +11,19 @@ use Rattle.rules.specs.Next.{tuple_of}
 use Rattle.rules.proofs.Theorems.Deterministic.{tuple_value, tuple_of_tuple}
 use Rattle.rules.proofs.Theorems.Runs.{finish_means}
 use Rattle.refusals.specs.declared.Refusal.{Refusal}
-use Rattle.refusals.specs.Refusals.{refusal_number, refusal_place}
 use Rattle.check_program.specs.Answers.{labels_of, term_of}
-use Rattle.wirelist_lines.specs.Lines.{refused_line, lines}
-use Rattle.wirelist_lines.specs.Least.{refusal_bytes, least_text}
-use Rattle.text.specs.Written.{Written}
+use Rattle.refusals.specs.Refusals.{refusal_number, refusal_place}
+use Rattle.wirelist_lines.specs.Lines.{lines, refused_line}
+use Rattle.wirelist_lines.specs.Least.{least_text, refusal_bytes}
 use Rattle.wirelist_lines.specs.LinesAt.{text_at}
+use Rattle.text.specs.Written.{Written}
 use Rattle.wirelist_lines.proofs.Theorems.Lines.{in_order}
 use Rattle.wirelist_lines.proofs.Laws.Fitting.{Printable, printable, lines_fit}
-use Rattle.run_answers.specs.declared.RunAnswer.{RunAnswer}
+use Rattle.run_answers.specs.declared.Finished.{Finished}
 use Rattle.refusals.specs.declared.Refusal.TheVariants.{Run}
-use Rattle.run_answers.specs.declared.RunAnswer.TheVariants.{Finished, Refused}
 use Rattle.lent.specs.Lent.{any_below, too_short, answered, bytes_left}
 use Rattle.run_answers.specs.Lengths.{run_lengths}
-use Rattle.run_answers.specs.Answers.{Ran, ran, declines, run_of, answer_to, out_to, run_answer, run_bytes}
+use Rattle.run_answers.specs.Answers.{Ran, ran, declines, run_of, answer_to, out_to, run_answer, run_bytes, finished}
 use Rattle.run_answers.specs.Demand2.{Finishes}
 use Rattle.run_answers.proofs.Laws.Finishing.{FinishedRun, start_typed, finished_facts}
 use Rattle.run_answers.proofs.Theorems.Running.{run_finishes}
@@ -78,17 +77,17 @@ listed_printable {f} {steps = steps} h =
     (subst (λ gs. Printable (labels_of f) gs F.outputs) (sym same)
     (printable F.takes_earlier F.outputs_typed F.few_inputs F.few_gates F.few_outputs))
 
--- The text for each kind of answer.
-module _ (b : List ℕ) {answer : RunAnswer} {l text : List ℕ} {at : ℕ} where
+-- What is printed for an answer, by its two kinds.
+module _ (b : List ℕ) {answer : Result Finished Refusal} {l text : List ℕ} {at : ℕ} where
   pub answer_finished : {steps gates size : ℕ}
-      → answer ≡ Finished steps gates size
+      → answer ≡ finished steps gates size
       → Written l (text_at b steps) text at
       → Written l (answer_text answer b) text at × RefusalFits answer
   answer_finished kind written =
       (subst (λ a. Written l (answer_text a b) text at) (sym kind) written, subst RefusalFits (sym kind) tt)
 
   pub answer_refused : {x : Refusal} {number place : ℕ}
-      → answer ≡ Refused x
+      → answer ≡ Err x
       → number ≡ refusal_number x
       → place ≡ refusal_place x
       → Written l (refused_line number place) text at
@@ -101,20 +100,20 @@ module _ (b : List ℕ) {answer : RunAnswer} {l text : List ℕ} {at : ℕ} wher
       )
 
 -- What a run answers and leaves in its output buffer where no buffer is too short.
-pub run_answers_lem : (f : List ℕ) (limit : ℕ) (out : List ℕ) (work work' : List (List ℕ)) {answer : RunAnswer} {b : List ℕ}
+pub run_answers_lem : (f : List ℕ) (limit : ℕ) (out : List ℕ) (work work' : List (List ℕ)) {answer : Result Finished Refusal} {b : List ℕ}
     → too_short run_lengths (out ∷ work) ≡ false
     → answer ≡ run_answer f limit (out ∷ work)
     → (b ∷ work') ≡ run_bytes f limit (out ∷ work)
     → (answer ≡ answer_to (run_of f limit)) × (b ≡ out_to out (run_of f limit))
 unfolding run_answer bytes_left
 run_answers_lem f limit out work work' long is held = (
-  is ∙ ap (λ t. cond t (Refused (Run 19 0)) (answer_to (run_of f limit))) long,
+  is ∙ ap (λ t. cond t (Err (Run 19 0)) (answer_to (run_of f limit))) long,
   ap (λ l. get_or l 0 [])
       (held ∙ ap (λ t. cond t (out ∷ work) (answered (λ o. out_to o (run_of f limit)) (out ∷ work))) long),
 )
 
 -- The text of that is what is printed, and a buffer of the least length holds it.
-module _ (f out : List ℕ) {answer : RunAnswer} {b : List ℕ}
+module _ (f out : List ℕ) {answer : Result Finished Refusal} {b : List ℕ}
     (answers : (answer ≡ answer_to (run_of f step_limit)) × (b ≡ out_to out (run_of f step_limit))) where
   text_of : (x : Ran) → run_of f step_limit ≡ x → answer_text (answer_to x) (out_to out x) ≡ printed f
   text_of (ran steps gates bytes) e =
@@ -142,7 +141,7 @@ module _ (f out : List ℕ) {answer : RunAnswer} {b : List ℕ}
   printed_fits fits = fits_of (run_of f step_limit) refl (subst RefusalFits answers.0 fits)
 
 -- The text that was written of a run's answer, by the contract of the run.
-pub answered_text : (f out : List ℕ) (work work' : List (List ℕ)) {answer : RunAnswer} {b l text : List ℕ} {at : ℕ}
+pub answered_text : (f out : List ℕ) (work work' : List (List ℕ)) {answer : Result Finished Refusal} {b l text : List ℕ} {at : ℕ}
     → answer ≡ run_answer f step_limit (out ∷ work)
     → (b ∷ work') ≡ run_bytes f step_limit (out ∷ work)
     → Written l (answer_text answer b) text at × RefusalFits answer

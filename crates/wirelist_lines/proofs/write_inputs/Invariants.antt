@@ -1,14 +1,8 @@
-use Prim.Native.Nat.{◌-◌, ◌≤◌}
-use mathlib.Core.Path.{◌≡◌}
-use lib.ListN.{length}
 use Rattle.listing.specs.Pieces.{pieces}
+use Rattle.text.specs.Writer.{Writes}
 use Rattle.wirelist_lines.specs.LinesAt.{input_line_at}
-use Rattle.text.specs.Writing.{Puts}
 use Rattle.wirelist_lines.proofs.write_inputs.Given as goal
 
+-- The lines of the inputs passed are written.
 abbrev pub invariant-loop-i : goal.invariant-loop-i
-invariant-loop-i l =
-    (l.i ≤ l.count) × (length l.text ≡ length l.initial.text) × Puts l.initial.text l.at (pieces (input_line_at l.listing) l.i) l.text l.here
-
-abbrev pub decreases-loop-i : goal.decreases-loop-i
-decreases-loop-i l = l.count - l.i
+invariant-loop-i l = Writes l.initial.out (pieces (input_line_at l.listing) l.i) l.out

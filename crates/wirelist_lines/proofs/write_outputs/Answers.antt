@@ -1,4 +1,5 @@
 -- `wirelist_lines::write_outputs` meets its contract. Assumes nothing.
+use borrow.Author.Rules.{rules}
 use mathlib.Core.Path.{ap₂}
 use mathlib.Core.List.{map}
 use Rattle.text.specs.Text.{ascii, decimal, spaced}
@@ -12,9 +13,12 @@ use Rattle.wirelist_lines.proofs.write_outputs.Goals as goal
 pub returns : goal.returns
 unfolding out_line_at
 returns c =
-    let b = c.args.listing.now in
-    puts_line (ascii "out") (map decimal (words_at b (outputs_from b) (output_count b))) c.put_bytes-named.ensures
-    (puts_same
-    (ap₂ (λ from k. spaced (map decimal (words_at b from k))) c.outputs_from.ensures.value c.output_count.ensures.value)
-    c.put_words-listed.ensures)
-    c.put_byte.ensures
+    let b = c.args.listing.now in (
+      search rules,
+      puts_line (ascii "out") (map decimal (words_at b (outputs_from b) (output_count b))) c.put_bytes.ensures.1
+          (puts_same
+          (ap₂ (λ from k. spaced (map decimal (words_at b from k))) c.outputs_from.ensures.value c.output_count.ensures.value)
+          c.put_words.ensures.1)
+          c.put_byte.ensures.1,
+      search rules,
+    )

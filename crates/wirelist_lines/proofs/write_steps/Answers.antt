@@ -1,4 +1,5 @@
 -- `wirelist_lines::write_steps` meets its contract. Assumes nothing.
+use borrow.Author.Rules.{rules}
 use mathlib.Core.List.{[], ◌∷◌}
 use Rattle.text.specs.Text.{ascii, decimal}
 use Rattle.wirelist_lines.proofs.Laws.Lines.{puts_line}
@@ -6,4 +7,4 @@ use Rattle.wirelist_lines.proofs.write_steps.Goals as goal
 
 pub returns : goal.returns
 returns c =
-    puts_line (ascii "steps") (decimal c.args.steps ∷ []) c.put_bytes-named.ensures c.put_number-numbered.ensures c.put_byte.ensures
+    (search rules, puts_line (ascii "steps") (decimal c.args.steps ∷ []) c.put_bytes.ensures.1 c.put_number.ensures.1 c.put_byte.ensures.1, search rules)

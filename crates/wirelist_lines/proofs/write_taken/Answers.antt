@@ -1,5 +1,6 @@
 -- `wirelist_lines::write_taken` meets its contract. Assumes nothing.
 use native.Mathlib.Omega.{arith}
+use borrow.Author.Rules.{rules}
 use mathlib.Core.Path.{ap₂}
 use mathlib.Core.List.{map}
 use Rattle.rules.specs.Gates.{wires_in}
@@ -17,8 +18,11 @@ put_words-requires c = record { from_bound = c.slots_from.ensures.upper_bound; c
 pub returns : goal.returns
 returns c =
     let a = c.args in
-    let b = a.listing.now in
-    puts_taken a.number (words_at b (slots_from b a.i) (wires_in a.number)) c.put_bytes-opened.ensures c.put_name-named.ensures
-    (puts_same
-    (ap₂ (λ from k. spaced (map decimal (words_at b from k))) (c.slots_from.ensures.value (omega arith)) c.wires_in.ensures)
-    c.put_words.ensures)
+    let b = a.listing.now in (
+      search rules,
+      puts_taken a.number (words_at b (slots_from b a.i) (wires_in a.number)) c.put_bytes.ensures.1 (puts_same c.name_of.ensures c.put_bytes-2.ensures.1)
+          (puts_same
+          (ap₂ (λ from k. spaced (map decimal (words_at b from k))) (c.slots_from.ensures.value (omega arith)) c.wires_in.ensures)
+          c.put_words.ensures.1),
+      search rules,
+    )

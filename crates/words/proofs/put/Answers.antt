@@ -3,12 +3,9 @@ use Prim.Native.Nat.{suc, ◌+◌, ◌*◌, ◌%◌, ◌/◌}
 use native.Mathlib.Omega.{arith}
 use mathlib.Core.Path.{◌≡◌, sym, ap, ◌∙◌}
 use mathlib.Core.List.{[], ◌∷◌}
-use lib.ListN.{set, length-set}
+use lib.ListN.{set}
 use Rattle.words.proofs.Laws.Words.{put_within, put_past}
 use Rattle.words.proofs.put.Goals as goal
-
-pub bounds-memory-i-then-i-n : goal.bounds-memory-i-then-i-n
-bounds-memory-i-then-i-n c = simp length-set (omega arith)
 
 pub returns-then-i-n : goal.returns-then-i-n
 returns-then-i-n c =

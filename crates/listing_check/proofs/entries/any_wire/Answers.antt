@@ -1,41 +1,17 @@
--- `listing_check::entries::any_wire` meets its contract. The loop's invariant: a wire is in a slot from k on exactly if it is in one
--- from this slot on.
-use native.Mathlib.Omega.{arith}
-use mathlib.Core.Path.{refl, sym, ◌∙◌}
+-- `listing_check::entries::any_wire` meets its contract: one of the slots from k on is tested true.
+use Rattle.std.specs.Prelude.{◌+◌, ◌-◌, ◌*◌, not, eqb}
+use Rattle.std.proofs.Common.{refl, ◌∙◌, rules, tests}
+use Rattle.std.proofs.lemmas.Iterator.{YieldsList-from_range}
+use Rattle.std.proofs.lemmas.Iterator.Search.{any_from_yields_List}
+use Rattle.rules.specs.Slots.{no_wire}
+use Rattle.words.specs.Numbers.{word_at}
 use Rattle.listing.specs.Listing.{entry_slots}
-use Rattle.listing_check.proofs.Laws.Entries.{wire_here, wire_later, wire_nowhere}
-use borrow.Author.Rules.{rules}
+use Rattle.listing_check.proofs.Laws.Entries.{any_slot}
 use Rattle.listing_check.proofs.entries.any_wire.Goals as goal
-
-pub loop-slot-init : goal.loop-slot-init
-loop-slot-init c = (c.requires.1, refl)
-
-pub overflow_mul-slot : goal.overflow_mul-slot
-overflow_mul-slot c = search (rules, c.loop-slot-test.true)
-
-pub overflow_add-from : goal.overflow_add-from
-overflow_add-from c = search (rules, c.loop-slot-test.true, c.requires.0)
-
-pub returns-then-word_at-ne-NO_WIRE : goal.returns-then-word_at-ne-NO_WIRE
-returns-then-word_at-ne-NO_WIRE c =
-    let a = c.args in
-    let s = c.loop-slot in
-    sym (s.invariant.1 ∙ wire_here a.listing.now a.from entry_slots s.slot c.loop-slot-test.true (λ e. c.if-word_at-ne-NO_WIRE.true (c.word_at.ensures.value ∙ e)))
-
-pub overflow_add-slot : goal.overflow_add-slot
-overflow_add-slot c = search (rules, c.loop-slot-test.true)
-
-pub loop-slot-smaller : goal.loop-slot-smaller
-loop-slot-smaller c = omega (arith, c.loop-slot-test.true)
-
-pub loop-slot-preserved : goal.loop-slot-preserved
-loop-slot-preserved c =
-    let a = c.args in
-    let s = c.loop-slot in
-    (omega (arith, c.loop-slot-test.true), s.invariant.1 ∙ wire_later a.listing.now a.from entry_slots s.slot c.loop-slot-test.true (sym c.word_at.ensures.value ∙ c.if-word_at-ne-NO_WIRE.false))
 
 pub returns : goal.returns
 returns c =
     let a = c.args in
-    let s = c.loop-slot in
-    sym (s.invariant.1 ∙ wire_nowhere a.listing.now a.from entry_slots s.slot c.loop-slot-test.false)
+    any_from_yields_List (λ s. not (eqb (word_at a.listing.now (a.from + 2 * s)) no_wire)) _ _ c.any.result c.any.ensures.ran
+    (YieldsList-from_range a.k entry_slots _ refl refl) (λ x b q k. search (rules, tests))
+    ∙ any_slot a.listing.now a.from a.k (entry_slots - a.k)

@@ -1,16 +1,9 @@
-use Prim.Native.Nat.{◌-◌, ◌≤◌}
-use mathlib.Core.Path.{◌≡◌}
+use Prim.Native.Nat.{◌-◌}
 use mathlib.Core.List.{[]}
-use lib.ListN.{length}
 use Rattle.listing.specs.Reading.{input_count, inputs_from, inputs_of}
 use Rattle.wire_table.proofs.Laws.Table.{Making}
 use Rattle.listing_check.proofs.wires.make_inputs.Given as goal
 
 abbrev pub invariant-loop-i : goal.invariant-loop-i
 invariant-loop-i l =
-    (l.i ≤ l.count)
-    × (length l.table ≡ length l.initial.table)
-    × Making [] [] (inputs_of l.listing) l.table l.i (inputs_from l.listing l.i (input_count l.listing - l.i))
-
-abbrev pub decreases-loop-i : goal.decreases-loop-i
-decreases-loop-i l = l.count - l.i
+    Making [] [] (inputs_of l.listing) l.table l.i (inputs_from l.listing l.i (input_count l.listing - l.i))

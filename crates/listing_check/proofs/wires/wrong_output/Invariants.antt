@@ -1,7 +1,5 @@
-use Prim.Native.Nat.{ℕ, ◌+◌, ◌-◌, ◌*◌, ◌≤◌}
-use mathlib.Core.Path.{◌≡◌}
+use Prim.Native.Nat.{ℕ, ◌+◌, ◌-◌, ◌*◌}
 use mathlib.Core.List.{List}
-use lib.ListN.{length}
 use Rattle.rules.specs.Types.{Wire}
 use Rattle.words.specs.Numbers.{words_at}
 use Rattle.listing.specs.Reading.{output_count, outputs_from, outputs_of}
@@ -11,11 +9,6 @@ use Rattle.listing_check.proofs.wires.wrong_output.Given as goal
 
 abbrev pub invariant-loop-j : goal.invariant-loop-j
 invariant-loop-j l =
-    (l.j ≤ l.count)
-    × (length l.table ≡ length l.initial.table)
-    × ((types : List Wire) (gone : List ℕ)
+    (types : List Wire) (gone : List ℕ)
     → Holds l.initial.table types gone
-    → Leaving types gone (outputs_of l.listing) l.table l.j (words_at l.listing (outputs_from l.listing + 2 * l.j) (output_count l.listing - l.j)))
-
-abbrev pub decreases-loop-j : goal.decreases-loop-j
-decreases-loop-j l = l.count - l.j
+    → Leaving types gone (outputs_of l.listing) l.table l.j (words_at l.listing (outputs_from l.listing + 2 * l.j) (output_count l.listing - l.j))

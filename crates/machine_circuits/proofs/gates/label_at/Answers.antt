@@ -3,13 +3,8 @@ use native.Mathlib.Omega.{arith}
 use mathlib.Core.Path.{sym, ◌∙◌}
 use Rattle.words.specs.Words.{words}
 use Rattle.words.proofs.Laws.Words.{length_words, word_below}
-use Rattle.machine_circuits.proofs.Laws.Gates.{label_within, label_past, label_ended}
+use Rattle.machine_circuits.proofs.Laws.Gates.{label_within, label_ended}
 use Rattle.machine_circuits.proofs.gates.label_at.Goals as goal
-
-pub returns-then-n-k : goal.returns-then-n-k
-returns-then-n-k c =
-    let a = c.args in
-    record { value = sym (label_past (words a.labels.now) a.n a.k c.if-n-k.true); upper_bound = omega arith }
 
 pub returns-then-labels-k : goal.returns-then-labels-k
 returns-then-labels-k c =

@@ -1,8 +1,7 @@
--- `machine_circuits::gates::wires_made` meets its contract. The invariant: so many wires are made by the gates passed; the measure
--- is what is left of the quadwords. Assumes nothing.
+-- `machine_circuits::gates::wires_made` meets its contract. The invariant: so many wires are made by the gates passed. Assumes nothing.
 use Prim.Native.Nat.{◌+◌, ◌/◌}
 use native.Mathlib.Omega.{arith}
-use mathlib.Core.Path.{◌≡◌, refl, ◌∙◌, ap}
+use mathlib.Core.Path.{◌≡◌, ◌∙◌, ap}
 use lib.ListN.{length}
 use Rattle.rules.specs.Gates.{wires_out}
 use Rattle.rules.specs.Circuits.{outputs}
@@ -22,28 +21,17 @@ returns-then-runs_past c = λ inside.
       length_quadwords_in a.gates.now,
     ))
 
-pub loop-i-init : goal.loop-i-init
-loop-i-init c =
-    let a = c.args in (
-      not_past c.runs_past.result (length a.gates.now / 8) a.from a.count c.runs_past.ensures c.if-runs_past.false,
-      omega arith,
-      omega arith,
-      refl,
-    )
-
-pub overflow_add-from : goal.overflow_add-from
-overflow_add-from c = let s = c.loop-i.invariant in omega (arith, s.0, c.loop-i-test.true)
-
 pub overflow_add-made : goal.overflow_add-made
 overflow_add-made c =
-    let s = c.loop-i.invariant in
-    omega (arith, s.0, s.2, c.loop-i-test.true, c.wires_out-made.ensures, few_out c.word_in.result)
-
-pub overflow_add-i : goal.overflow_add-i
-overflow_add-i c = let s = c.loop-i.invariant in omega (arith, s.0, c.loop-i-test.true)
-
-pub loop-i-smaller : goal.loop-i-smaller
-loop-i-smaller c = omega (arith, c.loop-i-test.true)
+    let a = c.args in
+    omega (
+      arith,
+      not_past c.runs_past.result (length a.gates.now / 8) a.from a.count c.runs_past.ensures c.if-runs_past.false,
+      c.loop-i.invariant.0,
+      c.loop-i-test.true,
+      c.wires_out-made.ensures,
+      few_out c.word_in.result,
+    )
 
 pub loop-i-preserved : goal.loop-i-preserved
 loop-i-preserved c =
@@ -55,15 +43,10 @@ loop-i-preserved c =
     let more : length (outputs (gates_in rs a.from (s.i + 1)))
     ≡ length (outputs (gates_in rs a.from s.i)) + wires_out (word_in r 0)
     = ap (λ gs. length (outputs gs)) (gates_next rs a.from s.i) ∙ outputs_next r (gates_in rs a.from s.i) in (
-      s.invariant.0,
-      omega (arith, c.loop-i-test.true),
-      omega (arith, s.invariant.2, e, few_out (word_in r 0)),
-      omega (arith, s.invariant.3, e, more),
+      omega (arith, s.invariant.0, e, few_out (word_in r 0)),
+      omega (arith, s.invariant.1, e, more),
     )
 
 pub returns : goal.returns
 returns c = λ inside.
-    let a = c.args in
-    let s = c.loop-i in
-    let done : s.i ≡ a.count = omega (arith, s.invariant.1, c.loop-i-test.false) in
-    s.invariant.3 ∙ ap (λ k. length (outputs (gates_in (quadwords_in a.gates.now) a.from k))) done
+    let done : c.loop-i.i ≡ c.args.count = omega arith in rw done at c.loop-i.invariant.1

@@ -1,4 +1,4 @@
-use Prim.Native.Nat.{◌+◌, ◌-◌, ◌*◌, ◌/◌, ◌≤◌}
+use Prim.Native.Nat.{◌*◌, ◌≤◌}
 use mathlib.Core.Path.{◌≡◌}
 use lib.ListN.{length}
 use Rattle.rules.specs.Circuits.{outputs}
@@ -8,10 +8,4 @@ use Rattle.machine_circuits.proofs.gates.wires_made.Given as goal
 
 abbrev pub invariant-loop-i : goal.invariant-loop-i
 invariant-loop-i l =
-    (l.from + l.count ≤ length l.gates / 8)
-    × (l.i ≤ l.count)
-    × (l.made ≤ 3 * l.i)
-    × (l.made ≡ length (outputs (gates_in (quadwords_in l.gates) l.from l.i)))
-
-abbrev pub decreases-loop-i : goal.decreases-loop-i
-decreases-loop-i l = l.count - l.i
+    (l.made ≤ 3 * l.i) × (l.made ≡ length (outputs (gates_in (quadwords_in l.gates) l.from l.i)))

@@ -1,4 +1,4 @@
-use Prim.Native.Nat.{◌+◌, ◌-◌, ◌/◌, ◌≤◌}
+use Prim.Native.Nat.{◌≤◌}
 use mathlib.Core.Path.{◌≡◌}
 use lib.ListN.{length, take}
 use Rattle.words.specs.Words.{words}
@@ -8,12 +8,6 @@ use Rattle.machine_circuits.proofs.tuples.collect_labels.Given as goal
 
 abbrev pub invariant-loop-i : goal.invariant-loop-i
 invariant-loop-i l =
-    (l.at + l.count ≤ length l.nodes / 4)
-    × (l.i ≤ l.count)
-    × (l.found ≤ l.i)
-    × (length l.labels ≡ length l.initial.labels)
+    (l.found ≤ l.i)
     × (l.found ≡ length (labels_passed (nodes_in l.nodes) l.at l.i))
     × (l.count ≤ length (words l.initial.labels) → take l.found (words l.labels) ≡ labels_passed (nodes_in l.nodes) l.at l.i)
-
-abbrev pub decreases-loop-i : goal.decreases-loop-i
-decreases-loop-i l = l.count - l.i

@@ -5,9 +5,8 @@ use mathlib.Core.Path.{◌∙◌, ap}
 use Rattle.machine_circuits.proofs.Laws.Outputs.{entries_of_lem, output_wires_lem, input_span, output_stands, output_count_is}
 use Rattle.machine_circuits.proofs.tuples.write_outputs.Goals as goal
 
-pub write_type-requires : goal.write_type-requires
-write_type-requires c =
-    let n = c.args.number in record { count_in_bounds = omega (arith, c.saturating_sub-count.ensures, c.type_entries.ensures, entries_of_lem n); count_bound = omega (arith, c.saturating_sub-count.ensures, c.type_entries.type_inv, c.output_start-start.type_inv) }
+pub write_type-requires-clause-count_in_bounds : goal.write_type-requires-clause-count_in_bounds
+write_type-requires-clause-count_in_bounds c = omega (arith, entries_of_lem c.args.number)
 
 pub returns : goal.returns
 returns c = λ T U e room few.

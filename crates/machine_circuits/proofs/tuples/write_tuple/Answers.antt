@@ -24,5 +24,5 @@ returns-then-saturating_sub-count c = λ T wire_type stands whole room few.
       length_words a.types.now,
     ))
 
-pub write_type-requires : goal.write_type-requires
-write_type-requires c = record { count_in_bounds = omega (arith, c.if-saturating_sub-count.false, c.saturating_sub.ensures, length_words c.args.types.now); count_bound = omega (arith, c.if-saturating_sub-count.false, c.saturating_sub.ensures) }
+pub write_type-requires-clause-count_in_bounds : goal.write_type-requires-clause-count_in_bounds
+write_type-requires-clause-count_in_bounds c = omega (arith, length_words c.args.types.now)

@@ -10,12 +10,6 @@ use Rattle.openqasm_export.specs.Places.{place_bytes}
 use Rattle.openqasm_export.proofs.Laws.Places.{begins_same, quarter, kept_all, all_made, length_kept}
 use Rattle.openqasm_export.proofs.places.keep_places.Goals as goal
 
-pub keep_place-two-requires : goal.keep_place-two-requires
-keep_place-two-requires c = (omega (arith, c.requires), omega (arith, c.requires.3, c.keep_place-one.ensures.upper_bound.1))
-
-pub keep_place-requires : goal.keep_place-requires
-keep_place-requires c = (omega (arith, c.requires), omega (arith, c.requires.3, c.keep_place-one.ensures.upper_bound.1, c.keep_place-two.ensures.upper_bound.1))
-
 pub returns : goal.returns
 unfolding made_code
 returns c =

@@ -7,7 +7,7 @@ pub returns-then-count-lt2 : goal.returns-then-count-lt2
 returns-then-count-lt2 c =
     let a = c.args in
     let r =
-    holds_one a.count a.held.now a.first a.second a.third a.made c.put.new.memory (omega (arith, c.requires.2))
+    holds_one a.count a.held.now a.first a.second a.third a.made c.put.new.held
     c.put.ensures c.requires.0 (omega (arith, c.if-count-lt2.true)) in
     record { value = r.0; held_after = r.1 }
 
@@ -15,14 +15,14 @@ pub returns-then-count-lt3 : goal.returns-then-count-lt3
 returns-then-count-lt3 c =
     let a = c.args in
     let r =
-    holds_two a.count a.held.now a.first a.second a.third a.made c.put.new.memory (omega (arith, c.requires.2))
-    c.put.ensures c.put-2.new.memory c.put-2.ensures (omega (arith, c.if-count-lt2.false)) (omega (arith, c.if-count-lt3.true)) in
+    holds_two a.count a.held.now a.first a.second a.third a.made c.put.new.held
+    c.put.ensures c.put-2.new.held c.put-2.ensures (omega (arith, c.if-count-lt2.false)) (omega (arith, c.if-count-lt3.true)) in
     record { value = r.0; held_after = r.1 }
 
 pub returns : goal.returns
 returns c =
     let a = c.args in
     let r =
-    holds_three a.count a.held.now a.first a.second a.third a.made c.put.new.memory (omega (arith, c.requires.2))
-    c.put.ensures c.put-2.new.memory c.put-2.ensures c.put-3.new.memory c.put-3.ensures (omega (arith, c.if-count-lt3.false)) c.requires.1 in
+    holds_three a.count a.held.now a.first a.second a.third a.made c.put.new.held
+    c.put.ensures c.put-2.new.held c.put-2.ensures c.put-3.new.held c.put-3.ensures (omega (arith, c.if-count-lt3.false)) c.requires.1 in
     record { value = r.0; held_after = r.1 }

@@ -3,4 +3,4 @@ use Prim.Native.Nat.{◌-◌}
 use Rattle.program.proofs.traversal.+traverse.Given as goal
 
 abbrev pub decreases-traverse : goal.decreases-traverse
-decreases-traverse l = l.end - l.e
+decreases-traverse g l = l.end - l.e

@@ -1,11 +1,11 @@
--- `run_parts::finish::finish` meets its contract: the listing, 21 or 22. Assumes nothing.
+-- `run_parts::finish::finish` meets its contract: the listing at the finish. Assumes nothing.
 use mathlib.Core.Path.{subst}
 use Rattle.words.specs.Words.{words}
 use Rattle.machine_nodes.specs.Nodes.{nodes_in}
 use Rattle.words.specs.Quadwords.{quadwords_in}
 use Rattle.machine_state.specs.Memory.{memory}
 use Rattle.run_parts.proofs.Laws.Parts.{Writes}
-use Rattle.run_parts.proofs.Laws.Finish.{says_finished, says_running, says_too_large}
+use Rattle.run_parts.proofs.Laws.Finish.{says_finished}
 use Rattle.run_parts.proofs.finish.finish.Goals as goal
 
 pub returns-in-Finished : goal.returns-in-Finished
@@ -17,13 +17,3 @@ returns-in-Finished c = λ rs cs results types positions A allowance z wires all
     (subst (λ i. Writes m i s.advanced.numbers.counts.gates s.advanced.numbers.place.left s.out.now w.new.out w.result)
     c.word_in-inputs.ensures.value
     w.ensures.out_after)
-
-pub returns-in-Running : goal.returns-in-Running
-returns-in-Running c = λ rs cs results types positions A allowance z wires allowed held end room.
-    let s = c.args in
-    says_running types positions A allowance (memory (nodes_in s.nodes.now) rs (quadwords_in s.gates.now) cs (quadwords_in s.frames.now) (words s.types.now) results) s.advanced z wires allowed held end s.out.now c.in-Running.is
-
-pub returns-in-TooLarge : goal.returns-in-TooLarge
-returns-in-TooLarge c = λ rs cs results types positions A allowance z wires allowed held end room.
-    let s = c.args in
-    says_too_large types positions A allowance (memory (nodes_in s.nodes.now) rs (quadwords_in s.gates.now) cs (quadwords_in s.frames.now) (words s.types.now) results) s.advanced z wires allowed held end s.out.now c.in-TooLarge.is

@@ -1,17 +1,9 @@
-use Prim.Native.Nat.{◌-◌, ◌≤◌}
-use mathlib.Core.Path.{◌≡◌}
 use mathlib.Core.List.{map}
-use lib.ListN.{length}
 use Rattle.rules.specs.Circuits.{numbers}
 use Rattle.text.specs.Text.{decimal, spaced}
-use Rattle.text.specs.Writing.{Puts}
+use Rattle.text.specs.Writer.{Writes}
 use Rattle.wirelist_lines.proofs.numbers.put_numbers.Given as goal
 
+-- The numbers passed are written.
 abbrev pub invariant-loop-i : goal.invariant-loop-i
-invariant-loop-i l =
-    (l.i ≤ l.count)
-    × (length l.text ≡ length l.initial.text)
-    × Puts l.initial.text l.at (spaced (map decimal (numbers l.first l.i))) l.text l.here
-
-abbrev pub decreases-loop-i : goal.decreases-loop-i
-decreases-loop-i l = l.count - l.i
+invariant-loop-i l = Writes l.initial.out (spaced (map decimal (numbers l.first l.i))) l.out

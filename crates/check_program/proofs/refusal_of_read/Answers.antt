@@ -1,6 +1,0 @@
--- `check_program::refusal_of_read` meets its contract. Assumes nothing.
-use Rattle.check_program.proofs.Laws.ProgramTypes.{refusal_of_read_is}
-use Rattle.check_program.proofs.refusal_of_read.Goals as goal
-
-pub returns-in-Refused : goal.returns-in-Refused
-returns-in-Refused c = refusal_of_read_is c.args.answer c.in-Refused.refusal c.in-Refused.is
