@@ -25,7 +25,7 @@ const MOST_READ: usize = MOST_BYTES + 1;
 // The line for an accepted listing.
 const ACCEPTED: &[u8] = b"accepted\n";
 
-// The line for an answer.
+// The line for an answer. Why this stands in three crates: write_answer of wirelist_io.
 fn write_answer(answer: Result<ListingSizes, Refusal>, text: &mut [u8]) -> usize
     ensures written { Written text.old (answer_line answer) text.new result }
     ensures answer_len_bound { length (answer_line answer) ≤ refusal_bytes }

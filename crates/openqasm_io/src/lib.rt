@@ -29,7 +29,7 @@ const MOST_LISTING_READ: usize = MOST_BYTES + 1;
 const MOST_TEXT_READ: usize = MOST_TEXT + 1;
 
 // All that is printed for an answer is put at the start of the output buffer: what was converted stands there, and the line of a
-// refusal is written; answers how many bytes.
+// refusal is written; answers how many bytes. Why this stands in three crates: write_answer of wirelist_io.
 fn write_answer(answer: Result<usize, Refusal>, out: &mut [u8]) -> usize
     ensures { Ends answer out.old out.new result }
 {

@@ -29,7 +29,8 @@ const LIMIT: u32 = 1000000;
 // No buffer of a run has a greater least length.
 const LARGE: usize = 65536;
 
-// The text for an answer of a run and its output buffer.
+// The text for an answer of a run and its output buffer. listcheck_io and openqasm_io each have a write_answer too: a refusal gives the same
+// line in all three, and that is the one call of write_refusal; what is accepted gives another text by another definition.
 fn write_answer(answer: Result<Finished, Refusal>, out: &[u8], text: &mut [u8]) -> usize
     ensures written { Written text.old (answer_text answer out.now) text.new result }
     ensures refusal_fits { RefusalFits answer }
