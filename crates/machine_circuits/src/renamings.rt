@@ -18,8 +18,21 @@ pub struct Renaming<'a> {
     ghost bytes: { (k : ℕ) → get_or labels.now k 0 < 256 },
 }
 
-impl Renaming<'_> {
+impl<'a> Renaming<'a> {
     ghost use Rattle.machine_circuits.specs.Renamings.{labels_of, renamed_gate, Usable};
+
+    // By these labels. They are a parameter here, so a caller has nothing to prove of the bytes.
+    pub fn new(labels: &'a [u8], inputs: usize, next: usize) -> Renaming<'a>
+        ensures same_labels { result.labels ≡ labels.entry }
+        ensures same_inputs { result.inputs ≡ inputs }
+        ensures same_next { result.next ≡ next }
+    {
+        Renaming {
+            labels,
+            inputs,
+            next,
+        }
+    }
 
     // The number that a wire gets. The sum saturates only where the next number has more than 16 bits: so no caller has to test it.
     pub(crate) fn number_of(self, wire: usize) -> usize

@@ -165,11 +165,7 @@ fn append_constant(
 {
     let StateNumbers { place, counts } = numbers;
     let found = collect_labels(nodes, redex.start, place.left - redex.start, labels);
-    let renaming = Renaming {
-        labels,
-        inputs: found,
-        next: redex.next,
-    };
+    let renaming = Renaming::new(labels, found, redex.next);
     copy_gates(gates, redex.first, redex.gates, counts.gates, renaming);
     load_constant(
         results0,

@@ -18,6 +18,7 @@ returns c =
     let ns' = nodes_in c.load_constant.new.nodes in
     let wide = length (words a.labels.now) in
     let ls = c.collect_labels-found.new.labels in
+    let renaming = c.new-renaming.ensures in
     let gs = a.gates.now in
     let gs' = c.copy_gates.new.gates in
     let fs = quadwords_in a.frames.now in
@@ -32,8 +33,8 @@ returns c =
     record {
       labels_room = same_words a.labels.now ls c.collect_labels-found.auto.labels;
       collected = c.collect_labels-found.ensures;
-      copied = c.copy_gates.ensures;
-      loaded = c.load_constant.ensures;
+      copied = simp (renaming.same_labels, renaming.same_inputs, renaming.same_next) at c.copy_gates.ensures;
+      loaded = simp (renaming.same_labels, renaming.same_inputs, renaming.same_next) at c.load_constant.ensures;
       framed = quadword_put _ _ _ _ _ _ _ c.put_quadword.ensures;
       quadwords_kept = same_quadwords gs gs' c.copy_gates.auto.gates;
     })
