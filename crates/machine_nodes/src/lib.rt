@@ -15,34 +15,39 @@ use rules::kinds::{CONSTANT, UNIT_VALUE, VARIABLE};
 use rules::parts::parts_of_kind;
 use words::runs_past;
 
-// Word k of node i; 0 past the end. No other test of the length is left to the compiled code, which reads a node at each move of
-// the walk.
+// Word k of node i: no test of its place is left to the compiled code, which reads a node at each move of the walk.
 fn word_of(nodes: &[u8], i: usize, k: usize) -> usize
-    requires { k < 2 }
+    requires in_bounds { i < length nodes.now / 4 }
+    requires one_of_two { k < 2 }
     ensures of_kind { k ≡ 0 → result ≡ kind (node_at (nodes_in nodes.now) i) }
     ensures of_argument { k ≡ 1 → result ≡ argument (node_at (nodes_in nodes.now) i) }
     ensures upper_bound { result < 65536 }
 {
-    if nodes.len() / 4 <= i {
-        return 0;
-    }
     let at = 4 * i + 2 * k;
     nodes[at] as usize + 256 * (nodes[at + 1] as usize)
 }
 
 // The kind of node i; 0 past the end.
+#[tactic(auto, using(crate::proofs::Laws::Nodes::past_in))]
 pub fn kind_at(nodes: &[u8], i: usize) -> usize
     ensures value { result ≡ kind (node_at (nodes_in nodes.now) i) }
     ensures upper_bound { result < 65536 }
 {
+    if nodes.len() / 4 <= i {
+        return 0;
+    }
     word_of(nodes, i, 0)
 }
 
 // The argument of node i; 0 past the end.
+#[tactic(auto, using(crate::proofs::Laws::Nodes::past_in))]
 pub fn argument_at(nodes: &[u8], i: usize) -> usize
     ensures value { result ≡ argument (node_at (nodes_in nodes.now) i) }
     ensures upper_bound { result < 65536 }
 {
+    if nodes.len() / 4 <= i {
+        return 0;
+    }
     word_of(nodes, i, 1)
 }
 

@@ -1,16 +1,10 @@
 -- `machine_nodes::word_of` meets its contract: the kind of node i is the number at its first byte, the argument the number behind it.
 -- Assumes nothing.
 use Rattle.std.specs.Prelude.{◌+◌, ◌*◌, ◌≡◌}
-use Rattle.std.proofs.Common.{arith, sym, ap, ◌∙◌}
+use Rattle.std.proofs.Common.{arith, ap, ◌∙◌}
 use Rattle.words.specs.Numbers.{word_at}
-use Rattle.machine_terms.specs.Trees.{kind, argument}
-use Rattle.machine_nodes.proofs.Laws.Nodes.{past_in, kind_number, argument_number}
+use Rattle.machine_nodes.proofs.Laws.Nodes.{kind_number, argument_number}
 use Rattle.machine_nodes.proofs.word_of.Goals as goal
-
-pub returns-then-nodes-i : goal.returns-then-nodes-i
-returns-then-nodes-i c =
-    let past = past_in c.args.nodes.now c.args.i c.if-nodes-i.true in
-    record { of_kind = λ e. sym (ap kind past); of_argument = λ e. sym (ap argument past); upper_bound = omega arith }
 
 pub returns : goal.returns
 unfolding word_at
@@ -18,7 +12,7 @@ returns c =
     let s = c.args in
     let m = s.nodes.now in
     let at = 4 * s.i + 2 * s.k in
-    let inside = c.if-nodes-i.false in
+    let inside = c.requires.in_bounds in
     let first : (s.k ≡ 0) → at ≡ 4 * s.i = λ e. omega (arith, e) in
     let second : (s.k ≡ 1) → at ≡ 4 * s.i + 2 = λ e. omega (arith, e) in
     record {
