@@ -4,13 +4,13 @@
 // Called by the machine.
 #![tactic(auto)]
 
-ghost use Rattle.std.specs.Prelude.{◌≤◌, ◌<◌, length};
+ghost use Rattle.std.specs.Prelude.{ℕ, ◌≤◌, ◌<◌, ◌≡◌, List, length};
 ghost use Rattle.rules.specs.Types.{most_entries};
 ghost use Rattle.rules.specs.Sizes.{most_nodes};
 ghost use Rattle.words.specs.Words.{words};
-ghost use Rattle.machine_terms.specs.Walks.{at_apply};
+ghost use Rattle.machine_terms.specs.Walks.{at_apply, at_exit};
 ghost use Rattle.machine_walk.specs.Places.{stop_of};
-ghost use Rattle.machine_state.specs.Buffers.{memory_in, SameBuffers};
+ghost use Rattle.machine_state.specs.Buffers.{memory_with, memory_in, SameBuffers};
 ghost use Rattle.machine_state.specs.Outcomes.{Steps};
 
 use machine_nodes::kind_at;
@@ -32,20 +32,54 @@ fn apply(
     labels: &mut [u8],
 ) -> Option<StateNumbers>
     ensures same_buffers { SameBuffers buffers.old buffers.new }
-    ensures steps { most_entries ≤ length (words labels.old)
-        → Steps at_apply allowance (memory_in buffers.old) (memory_in buffers.new) numbers result }
+    ensures kept { (buffers.new.stack.now ≡ buffers.old.stack.now)
+        × (buffers.new.circuits.now ≡ buffers.old.circuits.now)
+        × (buffers.new.results0.now ≡ buffers.old.results0.now)
+        × (buffers.new.results1.now ≡ buffers.old.results1.now)
+        × (buffers.new.results2.now ≡ buffers.old.results2.now)
+        × (buffers.new.results3.now ≡ buffers.old.results3.now) }
+    ensures steps { most_entries ≤ length (words labels.old) → (ws : List ℕ)
+        → Steps at_apply allowance (memory_with ws buffers.old) (memory_with ws buffers.new) numbers result }
 {
     let top = numbers.place.depth.checked_sub(1)?;
     let nodes = &mut *buffers.nodes;
     let stack = &mut *buffers.stack;
+    let frames = &mut *buffers.frames;
+    let gates = &mut *buffers.gates;
+    let circuits = &mut *buffers.circuits;
+    let results0 = &mut *buffers.results0;
+    let results1 = &mut *buffers.results1;
+    let results2 = &mut *buffers.results2;
+    let results3 = &mut *buffers.results3;
     let at = stack_node(stack, top);
     if kind_at(nodes, at + 1) == GATE {
-        let gates = &mut *buffers.gates;
-        let frames = &mut *buffers.frames;
         apply_gate(nodes, stack, labels, gates, frames, numbers, allowance)
     } else {
-        apply_constant(buffers, labels, numbers, allowance)
+        apply_constant(
+            nodes, stack, labels, gates, circuits, frames, results0, results1, results2, results3,
+            numbers, allowance,
+        )
     }
+}
+
+// Box exit: its buffers are lent one by one.
+fn exit_box(buffers: &mut Buffers, numbers: StateNumbers) -> Option<StateNumbers>
+    ensures same_buffers { SameBuffers buffers.old buffers.new }
+    ensures kept { (buffers.new.stack.now ≡ buffers.old.stack.now) × (buffers.new.frames.now ≡ buffers.old.frames.now) }
+    ensures steps { (ws : List ℕ) (allowance : ℕ) → Steps at_exit allowance (memory_with ws buffers.old) (memory_with ws buffers.new) numbers result }
+{
+    let nodes = &mut *buffers.nodes;
+    let stack = &mut *buffers.stack;
+    let frames = &mut *buffers.frames;
+    let gates = &mut *buffers.gates;
+    let circuits = &mut *buffers.circuits;
+    let results0 = &mut *buffers.results0;
+    let results1 = &mut *buffers.results1;
+    let results2 = &mut *buffers.results2;
+    let results3 = &mut *buffers.results3;
+    close_box(
+        nodes, stack, gates, circuits, frames, results0, results1, results2, results3, numbers,
+    )
 }
 
 // The step at a stop. There is none at the end, and none at a variable, where no typed program stops. It is a match, since the stops are
@@ -73,7 +107,7 @@ pub fn step(
             open_box(nodes, stack, buffers.types, frames, numbers)
         }
         Stop::AtApply => apply(allowance, numbers, buffers, labels),
-        Stop::AtExit => close_box(buffers, numbers),
+        Stop::AtExit => exit_box(buffers, numbers),
         Stop::AtEnd | Stop::AtVariable => None,
     }
 }

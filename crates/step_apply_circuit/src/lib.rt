@@ -19,7 +19,7 @@ ghost use Rattle.machine_walk.specs.Stack.{stack_node};
 ghost use Rattle.machine_circuits.specs.Layout.{four_results, most_result, results_each};
 ghost use Rattle.machine_circuits.specs.Renamings.{labels_of};
 ghost use Rattle.machine_circuits.specs.Results.{ResultFits, result_nodes};
-ghost use Rattle.machine_state.specs.Buffers.{memory_with, SameBuffers};
+ghost use Rattle.machine_state.specs.Memory.{memory as memory_of};
 ghost use Rattle.machine_state.specs.Outcomes.{Steps};
 ghost use Rattle.step_apply_circuit.specs.Redexes.{RedexRead, Room, Writable, numbers_after, Applied};
 
@@ -28,7 +28,7 @@ use machine_circuits::gates::{copy_gates, wires_made};
 use machine_circuits::renamings::Renaming;
 use machine_circuits::tuples::{collect_labels, load_result};
 use machine_nodes::argument_at;
-use machine_state::{Buffers, Counts, StateNumbers, exceed};
+use machine_state::{Counts, StateNumbers, exceed};
 use machine_walk::Place;
 use machine_walk::stack::{stack_node, stack_start};
 use rules::sizes::MOST_NODES;
@@ -192,35 +192,34 @@ fn append_constant(
 // Apply of a closed circuit, at the stop of the walk at an apply whose first part is no gate. `labels` is room for the labels
 // of the argument, at least 512 words.
 pub fn apply_constant(
-    buffers: &mut Buffers,
+    nodes: &mut [u8],
+    stack: &[u8],
     labels: &mut [u8],
+    gates: &mut [u8],
+    circuits: &[u8],
+    frames: &mut [u8],
+    results0: &[u8],
+    results1: &[u8],
+    results2: &[u8],
+    results3: &[u8],
     numbers: StateNumbers,
     allowance: usize,
 ) -> Option<StateNumbers>
-    ensures same_buffers { SameBuffers buffers.old buffers.new }
-    ensures kept { (buffers.new.stack.now ≡ buffers.old.stack.now)
-        × (buffers.new.circuits.now ≡ buffers.old.circuits.now)
-        × (buffers.new.results0.now ≡ buffers.old.results0.now)
-        × (buffers.new.results1.now ≡ buffers.old.results1.now)
-        × (buffers.new.results2.now ≡ buffers.old.results2.now)
-        × (buffers.new.results3.now ≡ buffers.old.results3.now) }
-    ensures steps { most_entries ≤ length (words labels.old) → (ws : List ℕ)
-        → (kind (node_at (nodes_in buffers.old.nodes.now) (stack_node (quadword_at (quadwords_in buffers.old.stack.now) (numbers.place.depth - 1)) + 1)) ≡ gate_term_kind → ⊥)
-        → Steps at_apply allowance (memory_with ws buffers.old) (memory_with ws buffers.new) numbers result }
+    ensures { most_entries ≤ length (words labels.old) → (ws : List ℕ)
+        → (kind (node_at (nodes_in nodes.old) (stack_node (quadword_at (quadwords_in stack.now) (numbers.place.depth - 1)) + 1)) ≡ gate_term_kind → ⊥)
+        → Steps at_apply allowance
+        (memory_of (nodes_in nodes.old) (quadwords_in stack.now) (quadwords_in gates.old) (quadwords_in circuits.now)
+        (quadwords_in frames.old) ws
+        (four_results (words results0.now) (words results1.now) (words results2.now) (words results3.now)))
+        (memory_of (nodes_in nodes.new) (quadwords_in stack.now) (quadwords_in gates.new) (quadwords_in circuits.now)
+        (quadwords_in frames.new) ws
+        (four_results (words results0.now) (words results1.now) (words results2.now) (words results3.now)))
+        numbers result }
 {
     let StateNumbers { place, counts } = numbers;
     if place.depth == 0 || counts.frames == 0 {
         return None;
     }
-    let nodes = &mut *buffers.nodes;
-    let stack = &mut *buffers.stack;
-    let frames = &mut *buffers.frames;
-    let gates = &mut *buffers.gates;
-    let circuits = &mut *buffers.circuits;
-    let results0 = &mut *buffers.results0;
-    let results1 = &mut *buffers.results1;
-    let results2 = &mut *buffers.results2;
-    let results3 = &mut *buffers.results3;
     let redex = read_redex(
         nodes,
         stack,

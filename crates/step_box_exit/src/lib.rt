@@ -13,7 +13,7 @@ ghost use Rattle.words.specs.Words.{words};
 ghost use Rattle.machine_nodes.specs.Nodes.{nodes_in, node_at};
 ghost use Rattle.words.specs.Quadwords.{quadwords_in};
 ghost use Rattle.machine_circuits.specs.Layout.{four_results};
-ghost use Rattle.machine_state.specs.Buffers.{memory_with, SameBuffers};
+ghost use Rattle.machine_state.specs.Memory.{memory};
 ghost use Rattle.machine_state.specs.Outcomes.{Steps};
 ghost use Rattle.step_box_exit.specs.Closing.{ExitAt, Saves, CircuitPut, ConstantPut, after_exit};
 
@@ -21,7 +21,7 @@ use machine_circuits::closed::{result_buffer, result_start};
 use machine_circuits::gates::{CLOSED_FROM, move_gates};
 use machine_circuits::tuples::save_result;
 use machine_nodes::{argument_at, put_node};
-use machine_state::{Buffers, Counts, StateNumbers};
+use machine_state::{Counts, StateNumbers};
 use machine_walk::Place;
 use machine_walk::stack::{stack_node, stack_start};
 use rules::kinds::CONSTANT;
@@ -124,24 +124,29 @@ fn put_constant(nodes: &mut [u8], exit: Exit, numbers: StateNumbers) -> StateNum
 }
 
 // Box exit where one more circuit may be closed.
-fn leave(buffers: &mut Buffers, numbers: StateNumbers) -> StateNumbers
+fn leave(
+    nodes: &mut [u8],
+    stack: &[u8],
+    gates: &mut [u8],
+    circuits: &mut [u8],
+    frames: &[u8],
+    results0: &mut [u8],
+    results1: &mut [u8],
+    results2: &mut [u8],
+    results3: &mut [u8],
+    numbers: StateNumbers,
+) -> StateNumbers
     requires boxes_lt_most_boxes { numbers.counts.boxes < most_boxes }
     requires gates_le_most_gates { numbers.counts.gates ≤ most_gates }
     requires kept_le_most_gates { numbers.counts.kept ≤ most_gates }
-    ensures same_buffers { SameBuffers buffers.old buffers.new }
-    ensures kept { (buffers.new.stack.now ≡ buffers.old.stack.now) × (buffers.new.frames.now ≡ buffers.old.frames.now) }
-    ensures steps { (ws : List ℕ) (allowance : ℕ) → Steps at_exit allowance (memory_with ws buffers.old) (memory_with ws buffers.new) numbers (Some result) }
+    ensures { (ws : List ℕ) (allowance : ℕ) → Steps at_exit allowance
+        (memory (nodes_in nodes.old) (quadwords_in stack.now) (quadwords_in gates.old) (quadwords_in circuits.old) (quadwords_in frames.now) ws
+        (four_results (words results0.old) (words results1.old) (words results2.old) (words results3.old)))
+        (memory (nodes_in nodes.new) (quadwords_in stack.now) (quadwords_in gates.new) (quadwords_in circuits.new) (quadwords_in frames.now) ws
+        (four_results (words results0.new) (words results1.new) (words results2.new) (words results3.new)))
+        numbers (Some result) }
 {
     let counts = numbers.counts;
-    let nodes = &mut *buffers.nodes;
-    let stack = &mut *buffers.stack;
-    let frames = &mut *buffers.frames;
-    let gates = &mut *buffers.gates;
-    let circuits = &mut *buffers.circuits;
-    let results0 = &mut *buffers.results0;
-    let results1 = &mut *buffers.results1;
-    let results2 = &mut *buffers.results2;
-    let results3 = &mut *buffers.results3;
     let exit = exit_at(stack, frames, numbers);
     save_among(
         nodes,
@@ -158,14 +163,30 @@ fn leave(buffers: &mut Buffers, numbers: StateNumbers) -> StateNumbers
 
 // Box exit. The 257th does not fit (01: "at most 256 boxes closed"). Nodes and gates always do: there are fewer nodes than
 // before, and as many gates. More gates than may be are in no configuration; without these tests a sum could wrap.
-pub fn close_box(buffers: &mut Buffers, numbers: StateNumbers) -> Option<StateNumbers>
-    ensures same_buffers { SameBuffers buffers.old buffers.new }
-    ensures kept { (buffers.new.stack.now ≡ buffers.old.stack.now) × (buffers.new.frames.now ≡ buffers.old.frames.now) }
-    ensures steps { (ws : List ℕ) (allowance : ℕ) → Steps at_exit allowance (memory_with ws buffers.old) (memory_with ws buffers.new) numbers result }
+pub fn close_box(
+    nodes: &mut [u8],
+    stack: &[u8],
+    gates: &mut [u8],
+    circuits: &mut [u8],
+    frames: &[u8],
+    results0: &mut [u8],
+    results1: &mut [u8],
+    results2: &mut [u8],
+    results3: &mut [u8],
+    numbers: StateNumbers,
+) -> Option<StateNumbers>
+    ensures { (ws : List ℕ) (allowance : ℕ) → Steps at_exit allowance
+        (memory (nodes_in nodes.old) (quadwords_in stack.now) (quadwords_in gates.old) (quadwords_in circuits.old) (quadwords_in frames.now) ws
+        (four_results (words results0.old) (words results1.old) (words results2.old) (words results3.old)))
+        (memory (nodes_in nodes.new) (quadwords_in stack.now) (quadwords_in gates.new) (quadwords_in circuits.new) (quadwords_in frames.now) ws
+        (four_results (words results0.new) (words results1.new) (words results2.new) (words results3.new)))
+        numbers result }
 {
     let counts = numbers.counts;
     if MOST_BOXES <= counts.boxes || MOST_GATES < counts.gates || MOST_GATES < counts.kept {
         return None;
     }
-    Some(leave(buffers, numbers))
+    Some(leave(
+        nodes, stack, gates, circuits, frames, results0, results1, results2, results3, numbers,
+    ))
 }

@@ -25,17 +25,16 @@ append_constant-requires c =
       gates_within = omega (arith, room.gates_fit, c.ranges.allowance);
     }
 
-pub returns-then-not-has_room-clause-steps : goal.returns-then-not-has_room-clause-steps
-returns-then-not-has_room-clause-steps c = λ wide ws other.
+pub returns-then-not-has_room : goal.returns-then-not-has_room
+returns-then-not-has_room c = λ wide ws other.
     let a = c.args in
-    let b = a.buffers.now in
     let x = c.read_redex-redex.result in
-    let full : Room x a.numbers (length (nodes_in b.nodes.now)) a.allowance → ⊥
-    = rw (length_nodes_in b.nodes.now) (c.if-not-has_room.ensures.no_room refl) in
-    constant_refused (nodes_in b.nodes.now) (quadwords_in b.stack.now) (quadwords_in b.gates.now) (quadwords_in b.circuits.now)
-    (quadwords_in b.frames.now)
+    let full : Room x a.numbers (length (nodes_in a.nodes.now)) a.allowance → ⊥
+    = rw (length_nodes_in a.nodes.now) (c.if-not-has_room.ensures.no_room refl) in
+    constant_refused (nodes_in a.nodes.now) (quadwords_in a.stack.now) (quadwords_in a.gates.now) (quadwords_in a.circuits.now)
+    (quadwords_in a.frames.now)
     ws
-    (four_results (words b.results0.now) (words b.results1.now) (words b.results2.now) (words b.results3.now))
+    (four_results (words a.results0.now) (words a.results1.now) (words a.results2.now) (words a.results3.now))
     x
     a.numbers
     a.allowance
@@ -43,14 +42,13 @@ returns-then-not-has_room-clause-steps c = λ wide ws other.
     full
     other
 
-pub returns-clause-steps : goal.returns-clause-steps
-returns-clause-steps c = λ wide ws other.
+pub returns : goal.returns
+returns c = λ wide ws other.
     let a = c.args in
-    let b = a.buffers.now in
     let x = c.read_redex-redex.result in
-    let room : Room x a.numbers (length (nodes_in b.nodes.now)) a.allowance
-    = rw (length_nodes_in b.nodes.now) (c.if-not-has_room.ensures.room refl) in
-    c.append_constant.ensures (quadwords_in b.stack.now) (quadwords_in b.circuits.now) ws a.allowance c.read_redex-redex.ensures
+    let room : Room x a.numbers (length (nodes_in a.nodes.now)) a.allowance
+    = rw (length_nodes_in a.nodes.now) (c.if-not-has_room.ensures.room refl) in
+    c.append_constant.ensures (quadwords_in a.stack.now) (quadwords_in a.circuits.now) ws a.allowance c.read_redex-redex.ensures
     room
     wide
     other
