@@ -41,13 +41,17 @@ pub struct Typed {
 
 // The check without its output: the cell of the program's type in the working memory, or a refusal. The memory is not
 // cleared; too short, it is refused and not touched.
+#[tactic(auto, using(crate::proofs::Laws::ProgramTypes::program_type_refused))]
 pub fn program_type(file: &[u8], work: &mut [u8]) -> Result<usize, Refusal>
     ensures { SaysProgramType (ltb (length work.old) least_work) (check_of file.now) work.old work.new result }
 {
     if work.len() < LEAST_WORK {
         return Err(TOO_SHORT);
     }
-    let Sizes { labels, types, .. } = read(file)?;
+    let answer = read(file);
+    let Ok(Sizes { labels, types, .. }) = answer else {
+        return Err(answer.unwrap_err());
+    };
     check_file(file, work, labels, types)
 }
 

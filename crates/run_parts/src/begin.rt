@@ -23,7 +23,10 @@ pub fn begin(
     ensures { 65536 ≤ length nodes.old
         → BegunAs file.now (check_of file.now) (nodes_in nodes.new) (words types.new) (quadwords_in frames.new) result }
 {
-    let cell = program_type(file, nodes)?;
+    let found = program_type(file, nodes);
+    let Ok(cell) = found else {
+        return Err(found.unwrap_err());
+    };
     if !is_wire_type(nodes, cell) {
         return Err(Refusal::Run {
             number: 20,

@@ -57,7 +57,10 @@ pub fn run_uncleared(
     ) {
         return Err(TOO_SHORT);
     }
-    let numbers = begin(file, nodes, types, frames)?;
+    let begun = begin(file, nodes, types, frames);
+    let Ok(numbers) = begun else {
+        return Err(begun.unwrap_err());
+    };
     let mut buffers = Buffers {
         nodes,
         stack,

@@ -2,7 +2,6 @@
 use native.Mathlib.Omega.{arith}
 use mathlib.Core.Path.{◌≡◌, sym, ◌∙◌, ap}
 use mathlib.Core.Bool.{false}
-use Rattle.std.proofs.Common.{rules, Err}
 use mathlib.Core.List.{[], ◌∷◌, map}
 use lib.ListN.{length}
 use Rattle.lent.specs.Lent.{too_short}
@@ -25,20 +24,19 @@ returns-then-too_short c =
     let said = says_short s.file.now s.limit (s.out.now ∷ s.nodes.now ∷ s.stack.now ∷ s.types.now ∷ s.frames.now ∷ s.gates.now ∷ s.circuits.now ∷ s.results0.now ∷ s.results1.now ∷ s.results2.now ∷ s.results3.now ∷ []) s.out.now (sym c.too_short.ensures ∙ c.if-too_short.true) in
     record { answer = said.0; bytes = said.1 }
 
-pub returns-in_err-numbers : goal.returns-in_err-numbers
-returns-in_err-numbers c =
+pub returns-in_default : goal.returns-in_default
+returns-in_default c =
     let s = c.args in
-    let b = c.begin in
+    let b = c.begin-begun in
     let long : too_short run_lengths (s.out.now ∷ s.nodes.now ∷ s.stack.now ∷ s.types.now ∷ s.frames.now ∷ s.gates.now ∷ s.circuits.now ∷ s.results0.now ∷ s.results1.now ∷ s.results2.now ∷ s.results3.now ∷ []) ≡ false = sym c.too_short.ensures ∙ c.if-too_short.false in
     let L = all_least run_lengths (map length (s.out.now ∷ s.nodes.now ∷ s.stack.now ∷ s.types.now ∷ s.frames.now ∷ s.gates.now ∷ s.circuits.now ∷ s.results0.now ∷ s.results1.now ∷ s.results2.now ∷ s.results3.now ∷ [])) long in
-    let said = says_refused s.file.now s.limit (s.out.now ∷ s.nodes.now ∷ s.stack.now ∷ s.types.now ∷ s.frames.now ∷ s.gates.now ∷ s.circuits.now ∷ s.results0.now ∷ s.results1.now ∷ s.results2.now ∷ s.results3.now ∷ []) s.out.now long (nodes_in b.new.nodes) (words b.new.types) (quadwords_in b.new.frames) b.result c.in_err-numbers.field-0.0 (b.ensures L.1.0) c.in_err-numbers.was in
-    let handed_up : c.from_residual.result ≡ Err c.in_err-numbers.field-0.0 = search rules in
-    record { answer = handed_up ∙ said.0; bytes = said.1 }
+    let said = says_refused s.file.now s.limit (s.out.now ∷ s.nodes.now ∷ s.stack.now ∷ s.types.now ∷ s.frames.now ∷ s.gates.now ∷ s.circuits.now ∷ s.results0.now ∷ s.results1.now ∷ s.results2.now ∷ s.results3.now ∷ []) s.out.now long (nodes_in b.new.nodes) (words b.new.types) (quadwords_in b.new.frames) b.result c.unwrap_err.result (b.ensures L.1.0) c.unwrap_err.ensures in
+    record { answer = said.0; bytes = said.1 }
 
 pub returns : goal.returns
 returns c =
     let s = c.args in
-    let b = c.begin in
+    let b = c.begin-begun in
     let long : too_short run_lengths (s.out.now ∷ s.nodes.now ∷ s.stack.now ∷ s.types.now ∷ s.frames.now ∷ s.gates.now ∷ s.circuits.now ∷ s.results0.now ∷ s.results1.now ∷ s.results2.now ∷ s.results3.now ∷ []) ≡ false = sym c.too_short.ensures ∙ c.if-too_short.false in
     let L = all_least run_lengths (map length (s.out.now ∷ s.nodes.now ∷ s.stack.now ∷ s.types.now ∷ s.frames.now ∷ s.gates.now ∷ s.circuits.now ∷ s.results0.now ∷ s.results1.now ∷ s.results2.now ∷ s.results3.now ∷ [])) long in
     let a = c.advance-advanced in
@@ -54,8 +52,8 @@ returns c =
     let results₂ = four_results (words b₂.results0.now) (words b₂.results1.now) (words b₂.results2.now) (words b₂.results3.now) in
     let said = says_ended s.file.now s.limit (s.out.now ∷ s.nodes.now ∷ s.stack.now ∷ s.types.now ∷ s.frames.now ∷ s.gates.now ∷ s.circuits.now ∷ s.results0.now ∷ s.results1.now ∷ s.results2.now ∷ s.results3.now ∷ []) s.out.now long ns rs gs cs fs ws results
     (memory_in b₂)
-    c.in_ok-numbers.numbers a.result e.new.out e.result
-    (loaded_run s.file.now ns ws fs b.result c.in_ok-numbers.numbers (b.ensures L.1.0) c.in_ok-numbers.was)
+    c.in-Ok.numbers a.result e.new.out e.result
+    (loaded_run s.file.now ns ws fs b.result c.in-Ok.numbers (b.ensures L.1.0) c.in-Ok.is)
     (omega (arith, L.1.0, length_nodes_in b.new.nodes, b.auto.nodes))
     (omega (arith, L.1.1.0, length_quadwords_in s.stack.now))
     (omega (arith, L.1.1.1.0, length_words b.new.types, b.auto.types))
