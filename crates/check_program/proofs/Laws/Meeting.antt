@@ -1,5 +1,5 @@
 -- What the inference owes at each of its calls and returns, from what its callees ensure.
-use Rattle.std.specs.Prelude.{ℕ, zero, suc, ◌+◌, ◌≤◌, ◌<◌, ◌≡◌, refl, Bool, true, false, List, length, Ok, Err}
+use Rattle.std.specs.Prelude.{ℕ, zero, suc, ◌+◌, ◌*◌, ◌≤◌, ◌<◌, ◌≡◌, refl, Bool, true, false, List, length, Ok, Err}
 use Rattle.std.proofs.Common.{add-one, arith, sym, ◌∙◌, ap, subst}
 use Rattle.std.proofs.Math.Option.{Option, none, some}
 use Rattle.rules.specs.Parts.{parts_of_kind}
@@ -8,7 +8,8 @@ use Rattle.rules.specs.Types.{Wire, Ty}
 use Rattle.rules.specs.Terms.{Term}
 use Rattle.rules.specs.Sizes.{nodes}
 use Rattle.rules.specs.Inference.{uses}
-use Rattle.program.specs.Format.{kind_at}
+use Rattle.program.specs.Format.{entry_count, kind_at}
+use Rattle.program.specs.Sized.{most_file_entries}
 use Rattle.program.specs.Trees.{TermAt}
 use Rattle.program.proofs.Laws.TreeTraversal.{term_end}
 use Rattle.check_types.specs.Cells.{Denotes}
@@ -28,9 +29,15 @@ use Rattle.check_program.proofs.Laws.Arms.{inside_binders, inside_lifts, entered
 use Rattle.check_program.proofs.Laws.Arms.{one_answers, EndsFirst, typed_is}
 use Rattle.check_program.proofs.Laws.ArmsTwo.{EndsSecond, first_ready, stopped, second_opened, second_ready, both_typed}
 
+-- The length of a file is right, and it has at most as many entries as an accepted one.
+pub record RightLength (f : List ℕ) : Type 0 where
+  pub length_is : length f ≡ 6 + 3 * entry_count f
+  pub entries_fit : entry_count f ≤ most_file_entries
+
 -- The numbers of an entry that is there to be checked are small.
 pub record Small (f : List ℕ) (e binders lifts : ℕ) : Type 0 where
-  pub entry : e + 1 < 65536
+  pub whole : RightLength f
+  pub entry : e < most_file_entries
   pub inside : e < length f
   pub binders_few : binders + 2 ≤ most_binders
   pub lifts_few : lifts < most_binders
@@ -48,6 +55,7 @@ small f w e binders lifts cells p =
     let at = term_end r.term_is_at in
     let one = some_node M in
     record {
+      whole = record { length_is = r.length_is; entries_fit = r.entries_fit };
       entry = omega arith;
       inside = omega (arith, r.length_is);
       binders_few = omega arith;

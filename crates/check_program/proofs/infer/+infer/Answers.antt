@@ -45,7 +45,8 @@ behind c first goes =
 pub inside-requires-clause-entry_fits : goal.inside-requires-clause-entry_fits
 inside-requires-clause-entry_fits t c =
     let s = c.args in
-    (small s.file.now (words s.work.now) s.at.entry s.at.binders s.at.lifts s.cells c.requires).entry
+    let few = small s.file.now (words s.work.now) s.at.entry s.at.binders s.at.lifts s.cells c.requires in
+    omega arith
 
 pub inside-requires-clause-binders_fit : goal.inside-requires-clause-binders_fit
 inside-requires-clause-binders_fit t c =
