@@ -42,7 +42,7 @@ pub(crate) fn leaf(file: &[u8], work: &mut [u8], at: TermPlace, cells: usize) ->
 }
 
 // The term at a place, where there are so many cells. It calls itself for the parts: as deep as the term is, at most 2,048
-// levels, of about 240 bytes of stack each as measured.
+// levels, of 288 bytes of stack each as measured.
 pub(crate) fn infer(
     file: &[u8],
     work: &mut [u8],
