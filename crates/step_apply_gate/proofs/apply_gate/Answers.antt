@@ -35,7 +35,7 @@ returns-then-exceed c = λ room cs ws results e.
           (omega (arith, many, rest.ensures, length_nodes_in a.nodes.now))
       | then-exceed-via-else-exceed+then-exceed-2 w ↦
           gates_refused m r a.allowance e
-          (ltb-true a.allowance (r.counts.gates + r.counts.kept + 1) (sym w.exceed-else-exceed.ensures ∙ w.if-exceed-2.true))
+          (omega (arith, ltb-true _ _ (sym w.exceed-else-exceed.ensures ∙ w.if-exceed-2.true)))
     ]
 
 pub returns : goal.returns
@@ -58,8 +58,7 @@ returns c = λ room cs ws results e.
     = ltb-false most_nodes (at.result + size.result + rest.result)
     (sym c.exceed.ensures ∙ c.if-exceed.false) in
     let below : r.counts.gates + r.counts.kept + 1 ≤ a.allowance
-    = ltb-false a.allowance (r.counts.gates + r.counts.kept + 1)
-    (sym c.exceed-else-exceed.ensures ∙ c.if-exceed-2.false) in
+    = omega (arith, ltb-false _ _ (sym c.exceed-else-exceed.ensures ∙ c.if-exceed-2.false)) in
     gate_taken m r a.allowance (nodes_in c.put_outputs.new.nodes) (quadwords_in c.put_gate.new.gates)
     (quadwords_in c.put_outputs.new.frames)
     (words a.labels.now)
