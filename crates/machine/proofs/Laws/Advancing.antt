@@ -385,37 +385,38 @@ module _ (ns ns' : List Node) (rs rs' : List Quadword) (gs cs fs : List Quadword
       few
       steps
 
-  -- All steps are done: after the walk it is at the finish, or there is a next step.
-  pub all_finished : (k : ℕ) (m₀ : Memory) (r₀ : StateNumbers)
-      → AllUnderway allowance k k m₀ r₀ (memory ns rs gs cs fs ws results) r
+  -- After the last walk it is at the finish, or, where all steps are done, there is a next one.
+  pub all_finished : (k n : ℕ) (m₀ : Memory) (r₀ : StateNumbers)
+      → AllUnderway allowance k n m₀ r₀ (memory ns rs gs cs fs ws results) r
       → is_end (stop_of p.stop) ≡ true
       → Advances allowance k m₀ (memory ns' rs' gs cs fs ws results) r₀
-      (record { ending = Finished; steps = k; numbers = moved_to r p })
-  all_finished k m₀ r₀ all e = λ types positions A s₀ few ready.
+      (record { ending = Finished; steps = n; numbers = moved_to r p })
+  all_finished k n m₀ r₀ all e = λ types positions A s₀ few ready.
       let u = all types positions A s₀ few ready in
-      progress_finished types positions A allowance k k (memory ns' rs' gs cs fs ws results) (moved_to r p) s₀
+      progress_finished types positions A allowance k n (memory ns' rs' gs cs fs ws results) (moved_to r p) s₀
       (walk_state u.state_now)
       (stop_of p.stop)
-      (now_ready types positions A s₀ k k u)
-      (now_stopped types positions A s₀ k k u)
-      (now_rest types positions A s₀ k k u)
+      (now_ready types positions A s₀ k n u)
+      (now_stopped types positions A s₀ k n u)
+      (now_rest types positions A s₀ k n u)
       (end_is (stop_of p.stop) e)
 
-  pub all_running : (k : ℕ) (m₀ : Memory) (r₀ : StateNumbers)
-      → AllUnderway allowance k k m₀ r₀ (memory ns rs gs cs fs ws results) r
+  pub all_running : (k n : ℕ) (m₀ : Memory) (r₀ : StateNumbers)
+      → AllUnderway allowance k n m₀ r₀ (memory ns rs gs cs fs ws results) r
       → (is_end (stop_of p.stop) ≡ false)
+      → n ≡ k
       → Advances allowance k m₀ (memory ns' rs' gs cs fs ws results) r₀
-      (record { ending = Running; steps = k; numbers = moved_to r p })
-  all_running k m₀ r₀ all other = λ types positions A s₀ few ready.
+      (record { ending = Running; steps = n; numbers = moved_to r p })
+  all_running k n m₀ r₀ all other done = λ types positions A s₀ few ready.
       let u = all types positions A s₀ few ready in
-      progress_running types positions A allowance k k (memory ns' rs' gs cs fs ws results) (moved_to r p) s₀
+      progress_running types positions A allowance k n (memory ns' rs' gs cs fs ws results) (moved_to r p) s₀
       (walk_state u.state_now)
       (stop_of p.stop)
-      (now_ready types positions A s₀ k k u)
-      (now_stopped types positions A s₀ k k u)
-      (now_rest types positions A s₀ k k u)
+      (now_ready types positions A s₀ k n u)
+      (now_stopped types positions A s₀ k n u)
+      (now_rest types positions A s₀ k n u)
       (not_end (stop_of p.stop) other)
-      refl
+      done
 
 pub none_underway : (allowance k : ℕ) (m : Memory) (r : StateNumbers) → AllUnderway allowance k 0 m r m r
 none_underway allowance k m r = λ types positions A s₀ few ready. nothing_done types positions A allowance k m r s₀ ready
