@@ -25,7 +25,8 @@ pub fn write_header(out: &mut Writer)
     out.put_bytes(b"include \"qelib1.inc\";\n");
 }
 
-// A word and a number.
+// A word and a number. Inlined, as the lines below are, so that each word is a constant where it is written.
+#[inline(always)]
 fn put_named(out: &mut Writer, word: &[u8], n: usize)
     ensures { Writes out.old (word.now ++ decimal n) out.new }
 {
@@ -35,6 +36,7 @@ fn put_named(out: &mut Writer, word: &[u8], n: usize)
 
 // A line with one number: the bytes before it and behind it.
 #[tactic(auto, using(crate::proofs::Laws::Lines::puts_behind))]
+#[inline(always)]
 fn write_one(out: &mut Writer, before: &[u8], n: usize, behind: &[u8])
     ensures { Writes out.old (before.now ++ (decimal n ++ behind.now)) out.new }
 {
@@ -62,6 +64,7 @@ pub fn write_declaration(out: &mut Writer, k: usize, kind: usize)
 }
 
 // A statement on one register.
+#[inline(always)]
 fn write_on_one(out: &mut Writer, before: &[u8], r: usize)
     ensures { Writes out.old (one_line before.now r) out.new }
 {
@@ -70,6 +73,7 @@ fn write_on_one(out: &mut Writer, before: &[u8], r: usize)
 
 // A statement on two: the bytes before the number of each.
 #[tactic(auto, using(crate::proofs::Laws::Lines::puts_behind))]
+#[inline(always)]
 fn write_on_two(out: &mut Writer, before: &[u8], r: usize, between: &[u8], s: usize)
     ensures { Writes out.old (two_line before.now r between.now s) out.new }
 {
@@ -79,6 +83,7 @@ fn write_on_two(out: &mut Writer, before: &[u8], r: usize, between: &[u8], s: us
 
 // The line of a CCX.
 #[tactic(auto, using(crate::proofs::Laws::Lines::puts_behind), unfolding(crate::specs::Layout::gate_line))]
+#[inline(always)]
 fn write_ccx(out: &mut Writer, r: usize, s: usize, t: usize)
     ensures { Writes out.old (gate_line CCX (r ∷ s ∷ t ∷ [])) out.new }
 {

@@ -53,7 +53,9 @@ impl<'a> Writer<'a> {
         }
     }
 
-    // The bytes of a slice. Whether there is room for all of them is asked once.
+    // The bytes of a slice. Whether there is room for all of them is asked once. A loop, and inlined: most words are short constants, and
+    // `copy_from_slice` calls memmove for each, which callers in C would have to link.
+    #[inline(always)]
     pub fn put_bytes(&mut self, bytes: &[u8])
         ensures { Writes self.old bytes.now self.new }
     {
@@ -62,9 +64,11 @@ impl<'a> Writer<'a> {
             self.put_some(bytes);
             return;
         }
-        let end = self.at + bytes.len();
-        text[self.at..end].copy_from_slice(bytes);
-        self.at = end;
+        let at = self.at;
+        for i in 0..bytes.len() {
+            text[at + i] = bytes[i];
+        }
+        self.at = at + bytes.len();
     }
 
     // A number in decimal, digit by digit and by no `write!`: what std's fmt leaves in a buffer that is too short is not known.
