@@ -6,7 +6,7 @@
 #![tactic(auto)]
 
 ghost use Rattle.std.specs.Prelude.{◌+◌, ◌≤◌, ◌<◌, ◌^◌, ◌≡◌, get_or, drop};
-ghost use Rattle.openqasm_reader.specs.Items.{digits_in, number_in, ccx_item, before, between, behind};
+ghost use Rattle.openqasm_reader.specs.Items.{is_digit, digits_in, number_in, ccx_item, before, between, behind};
 ghost use Rattle.openqasm_reader.specs.Items.{one_number, two_numbers, three_numbers, item_in};
 ghost use Rattle.openqasm_reader.specs.Bounds.{Bounded};
 
@@ -50,6 +50,14 @@ pub struct Reader<'a> {
     pub at: usize,
 }
 
+// Is the byte a digit, 48 to 57?
+#[tactic(auto, using(std::proofs::lemmas::Bool::Decides::nat_tests))]
+fn is_digit(byte: u8) -> bool
+    ensures { result ≡ is_digit byte }
+{
+    byte.is_ascii_digit()
+}
+
 // The number at a place.
 fn number_at(text: &[u8], at: usize) -> Number
     requires { at + 1 < 2 ^ 64 }
@@ -59,7 +67,7 @@ fn number_at(text: &[u8], at: usize) -> Number
 {
     let first = byte_at(text, at).saturating_sub(b'0') as usize;
     let next = byte_at(text, at + 1);
-    if next.is_ascii_digit() {
+    if is_digit(next) {
         return Number {
             value: 10 * first + next.saturating_sub(b'0') as usize,
             digits: 2,

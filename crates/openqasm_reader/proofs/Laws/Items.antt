@@ -2,24 +2,18 @@
 use Rattle.std.specs.Prelude.{ℕ, zero, suc, ◌+◌, ◌-◌, ◌*◌, ◌<◌, ◌≡◌, Bool, true, false, cond, List, [], ◌∷◌, eqb, length, get_or, drop}
 use Rattle.std.proofs.Common.{arith, sym, ◌∙◌, get_or-drop, drop-drop, ne_eqb}
 use Rattle.std.proofs.Math.Path.{ap}
-use Rattle.std.proofs.lemmas.Bool.Decides.{nat_tests}
-use Rattle.std.specs.Char.{is_ascii_digit}
 use Rattle.openqasm_reader.specs.Items.{is_digit, digits_in, number_in, ccx_item, kind_of, before, between}
 use Rattle.openqasm_reader.specs.Items.{behind, one_number, two_numbers, three_numbers, item_of, item_in}
 use Rattle.openqasm_reader.specs.Bounds.{Bounded}
 use Rattle.openqasm_reader.specs.declared.Item.{Item}
 
--- Std's test is the same.
-digit_told : (c : ℕ) → is_ascii_digit c ≡ is_digit c
-digit_told c = grind (arith, nat_tests)
-
 -- Is the byte behind a place a digit?
 pub digit_behind : (s : List ℕ) (at byte : ℕ) (r v : Bool)
     → byte ≡ get_or s (at + 1) 0
-    → r ≡ is_ascii_digit byte
+    → r ≡ is_digit byte
     → r ≡ v
     → is_digit (get_or (drop at s) 1 0) ≡ v
-digit_behind s at byte r v e d h = ap is_digit (get_or-drop at s 1 0 ∙ sym e) ∙ sym (digit_told byte) ∙ sym d ∙ h
+digit_behind s at byte r v e d h = ap is_digit (get_or-drop at s 1 0 ∙ sym e) ∙ sym d ∙ h
 
 -- A number of two digits, and of one.
 module _ (s : List ℕ) (at first : ℕ) (f : first ≡ get_or s at 0 - 48) where
