@@ -1,13 +1,13 @@
 -- The answer of an export, with the buffers that were lent.
-use Rattle.std.specs.Prelude.{ℕ, ◌≤◌, ◌<◌, ◌≡◌, refl, ◌⊎◌, Bool, true, false, ◌||◌, ltb, length, get_or, drop, Result, Ok, Err, Option as Found, Some, None}
-use Rattle.std.proofs.Common.{arith, ◌∙◌, ap₂, take_all, inl, inr, lt-ltb, le-ltb}
+use Rattle.std.specs.Prelude.{ℕ, ◌≤◌, ◌<◌, ◌≡◌, refl, Bool, true, false, ◌||◌, ltb, length, get_or, drop, Result, Ok, Err, Option as Found, Some, None}
+use Rattle.std.proofs.Common.{arith, ◌∙◌, ap₂, take_all, le-ltb}
 use Rattle.std.proofs.Math.Path.{sym, ap}
 use Rattle.std.proofs.Math.Bool.{cond}
 use mathlib.Core.List.{List, [], ◌∷◌, ◌++◌}
 use Rattle.std.proofs.Math.Option.{Option, none, some}
 use Rattle.std.proofs.Math.ListN.{replicate}
 use Rattle.lent.specs.Lent.{too_short}
-use Rattle.lent.proofs.Laws.Lent.{below_later, short_left, long_left}
+use Rattle.lent.proofs.Laws.Lent.{all_least, below_later, short_left, long_left}
 use Rattle.refusals.specs.declared.Refusal.{Refusal}
 use Rattle.refusals.specs.declared.Refusal.TheVariants.{Run}
 use Rattle.text.specs.Written.{Written}
@@ -122,18 +122,18 @@ module _ (b : List ℕ) where
     same_test : too_short export_lengths (out ∷ work ∷ []) ≡ tested
     same_test = ap (λ t. ltb (length out) most_text || t) (or_false (ltb (length work) most_wires))
 
-    pub short_answered : (length out < most_text) ⊎ ((most_text ≤ length out) × (length work < most_wires))
+    pub short_answered : (most_text ≤ length out → most_wires ≤ length work → ⊥)
         → (Err (Run 19 0) ≡ export_answer b (out ∷ work ∷ [])) × ((out ∷ work ∷ []) ≡ export_bytes b (out ∷ work ∷ []))
     unfolding export_answer
     short_answered short =
-        let e = same_test ∙ of short in (
+        let e = same_test ∙ of tested refl in (
           sym (ap (λ t. cond t (Err (Run 19 0)) (exported_as b (export_check_of b))) e),
           short_left export_lengths (out_after b (export_check_of b)) (out ∷ work ∷ []) e,
         )
       where
-        of : (length out < most_text) ⊎ ((most_text ≤ length out) × (length work < most_wires)) → tested ≡ true
-        of (inl s) = ap (λ t. t || ltb (length work) most_wires) (lt-ltb (length out) most_text s)
-        of (inr s) = ap₂ ◌||◌ (le-ltb (length out) most_text s.0) (lt-ltb (length work) most_wires s.1)
+        of : (t : Bool) → tested ≡ t → tested ≡ true
+        of true e = e
+        of false e = let long = all_least export_lengths (length out ∷ length work ∷ []) (same_test ∙ e) in absurd (short long.0 long.1.0)
 
     pub long_answered : {r : Result ℕ Refusal} (out' work' : List ℕ) (n : ℕ)
         → most_text ≤ length out
