@@ -5,10 +5,10 @@
 #![tactic(auto)]
 
 ghost use Rattle.std.specs.Prelude.{◌≤◌, length, OnOk};
-ghost use Rattle.streams.specs.Streamed.{WritesAnswer, WritesPart};
+ghost use Rattle.streams.specs.Streamed.{TakesFirst, WritesAnswer, WritesPart};
 ghost use Rattle.wirelist_lines.specs.Least.{refusal_bytes};
 ghost use Rattle.text.specs.Written.{Written};
-ghost use Rattle.listcheck_io.specs.Printing.{answer_line, checked_line};
+ghost use Rattle.listcheck_io.specs.Printing.{most_read, answer_line, checked_line};
 
 use listing::MOST_BYTES;
 use listing_check::{LEAST_WORK, ListingSizes, check_listing};
@@ -69,6 +69,7 @@ impl Answers for Listcheck {
 // is answered when that is printed.
 pub fn print_check<R: Read, W: Write>(input: &mut R, output: &mut W) -> io::Result<()>
     ensures whole { OnOk result (WritesAnswer checked_line (R.remaining input.old) (W.contents output.old) (W.contents output.new)) }
+    ensures taken { TakesFirst most_read result (R.remaining input.old) (R.remaining input.new) }
     ensures part { WritesPart checked_line (R.remaining input.old) (W.contents output.old) (W.contents output.new) }
 {
     let mut listing = [0u8; MOST_READ];

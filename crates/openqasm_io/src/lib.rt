@@ -6,10 +6,10 @@
 #![tactic(auto)]
 
 ghost use Rattle.std.specs.Prelude.{◌≤◌, ◌≡◌, length, take, OnOk};
-ghost use Rattle.streams.specs.Streamed.{WritesAnswer, WritesPart};
+ghost use Rattle.streams.specs.Streamed.{TakesFirst, WritesAnswer, WritesPart};
 ghost use Rattle.listing.specs.Listing.{most_bytes};
 ghost use Rattle.openqasm.specs.Layout.{most_text};
-ghost use Rattle.openqasm_io.specs.Printing.{exported_bytes, imported_bytes};
+ghost use Rattle.openqasm_io.specs.Printing.{most_listing_read, most_text_read, exported_bytes, imported_bytes};
 ghost use Rattle.openqasm_io.specs.Answered.{Ends};
 
 use listing::MOST_BYTES;
@@ -125,6 +125,7 @@ impl Answers for Qasmin {
 // when that is printed.
 pub fn export_all<R: Read, W: Write>(input: &mut R, output: &mut W) -> io::Result<()>
     ensures whole { OnOk result (WritesAnswer exported_bytes (R.remaining input.old) (W.contents output.old) (W.contents output.new)) }
+    ensures taken { TakesFirst most_listing_read result (R.remaining input.old) (R.remaining input.new) }
     ensures part { WritesPart exported_bytes (R.remaining input.old) (W.contents output.old) (W.contents output.new) }
 {
     let mut listing = [0u8; MOST_LISTING_READ];
@@ -135,6 +136,7 @@ pub fn export_all<R: Read, W: Write>(input: &mut R, output: &mut W) -> io::Resul
 // Reads a text and prints its listing, in the same way.
 pub fn import_all<R: Read, W: Write>(input: &mut R, output: &mut W) -> io::Result<()>
     ensures whole { OnOk result (WritesAnswer imported_bytes (R.remaining input.old) (W.contents output.old) (W.contents output.new)) }
+    ensures taken { TakesFirst most_text_read result (R.remaining input.old) (R.remaining input.new) }
     ensures part { WritesPart imported_bytes (R.remaining input.old) (W.contents output.old) (W.contents output.new) }
 {
     let mut text = [0u8; MOST_TEXT_READ];

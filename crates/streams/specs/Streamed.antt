@@ -1,11 +1,16 @@
 -- What is read from an input and written to an output, where their bytes are known.
-use Rattle.std.specs.Prelude.{ℕ, ◌≡◌, List, take, IfSome}
+use Rattle.std.specs.Prelude.{ℕ, ◌≤◌, ◌≡◌, List, length, take, IfSome, OnOk}
 use Rattle.std.specs.declared.option.Option.{Option}
-use Rattle.std.specs.Io.KnownBytes.{Appends}
+use Rattle.std.specs.declared.result.Result.{Result}
+use Rattle.std.specs.Io.KnownBytes.{Appends, Consumes}
 
 -- What is read is the first bytes of the input, so many, or all of them where there are fewer.
 abbrev pub ReadsFirst : ℕ → Option (List ℕ) → List ℕ → Type 0
 ReadsFirst most input read = IfSome input (λ all. read ≡ take most all)
+
+-- The input loses the bytes that are read, at most so many, and no others; where nothing fails, they are so many, or all.
+abbrev pub TakesFirst : {A E : Type 0} → ℕ → Result A E → Option (List ℕ) → Option (List ℕ) → Type 0
+TakesFirst most result input rest = (read : List ℕ) × (length read ≤ most) × Consumes input rest read × OnOk result (ReadsFirst most input read)
 
 -- The output grows by some of the first of these bytes, and by nothing else.
 abbrev pub AppendsPart : Option (List ℕ) → Option (List ℕ) → List ℕ → Type 0

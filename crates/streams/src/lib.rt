@@ -6,7 +6,7 @@
 
 ghost use Rattle.std.specs.Prelude.{ℕ, ◌≡◌, ◌≤◌, List, length, take, OnOk};
 ghost use Rattle.std.specs.Io.KnownBytes.{Appends, Consumes};
-ghost use Rattle.streams.specs.Streamed.{ReadsFirst, AppendsPart, NeedsFirst, WritesAnswer, WritesPart};
+ghost use Rattle.streams.specs.Streamed.{ReadsFirst, TakesFirst, AppendsPart, NeedsFirst, WritesAnswer, WritesPart};
 
 use std::io;
 use std::io::{ErrorKind, Read, Write};
@@ -61,8 +61,9 @@ pub trait Answers {
         ensures whole { most_written ≤ length text.old → take result text.new ≡ answer bytes.now };
 }
 
-// Reads an input, as much of it as the buffer holds, and writes its answer. Where a read fails, what was read until then is taken for
-// the whole, and the error is answered when that is written. The buffers are lent: one for what is read, one for the answer.
+// Reads an input, as much of it as the buffer holds and no byte more, and writes its answer. Where a read fails, what was read until
+// then is taken for the whole, and the error is answered when that is written. The buffers are lent: one for what is read, one for the
+// answer.
 pub fn answer_input<A: Answers, R: Read, W: Write>(
     program: &A,
     input: &mut R,
@@ -72,6 +73,7 @@ pub fn answer_input<A: Answers, R: Read, W: Write>(
 ) -> io::Result<()>
     ensures whole { NeedsFirst A.answer (length buffer.old) → A.most_written ≤ length text.old
         → OnOk result (WritesAnswer A.answer (R.remaining input.old) (W.contents output.old) (W.contents output.new)) }
+    ensures taken { TakesFirst (length buffer.old) result (R.remaining input.old) (R.remaining input.new) }
     ensures part { A.most_written ≤ length text.old
         → WritesPart A.answer (R.remaining input.old) (W.contents output.old) (W.contents output.new) }
 {

@@ -5,10 +5,10 @@
 #![tactic(auto)]
 
 ghost use Rattle.std.specs.Prelude.{◌≤◌, length, OnOk};
-ghost use Rattle.streams.specs.Streamed.{WritesAnswer, WritesPart};
+ghost use Rattle.streams.specs.Streamed.{TakesFirst, WritesAnswer, WritesPart};
 ghost use Rattle.wirelist_lines.specs.Least.{least_text};
 ghost use Rattle.text.specs.Written.{Written};
-ghost use Rattle.wirelist_io.specs.Printing.{printed};
+ghost use Rattle.wirelist_io.specs.Printing.{most_read, printed};
 ghost use Rattle.wirelist_io.specs.Answered.{answer_text, RefusalFits};
 
 use program::format::SIZES;
@@ -98,6 +98,7 @@ impl Answers for Wirelist {
 // error is answered when that is printed.
 pub fn print_run<R: Read, W: Write>(input: &mut R, output: &mut W) -> io::Result<()>
     ensures whole { OnOk result (WritesAnswer printed (R.remaining input.old) (W.contents output.old) (W.contents output.new)) }
+    ensures taken { TakesFirst most_read result (R.remaining input.old) (R.remaining input.new) }
     ensures part { WritesPart printed (R.remaining input.old) (W.contents output.old) (W.contents output.new) }
 {
     let mut file = [0u8; MOST_READ];

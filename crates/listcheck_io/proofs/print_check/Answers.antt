@@ -1,7 +1,16 @@
 -- `listcheck_io::print_check` meets its contract: the line for the bytes that are read is that for all. Assumes nothing.
+use Rattle.std.specs.Prelude.{◌+◌}
+use Rattle.std.proofs.Common.{arith}
 use borrow.Author.Rules.{rules}
+use Rattle.streams.specs.Streamed.{NeedsFirst}
+use Rattle.streams.proofs.Laws.Answered.{needs_more}
+use Rattle.listcheck_io.specs.Printing.{most_read, checked_line}
 use Rattle.listcheck_io.proofs.Theorems.Longest.{same_line}
 use Rattle.listcheck_io.proofs.print_check.Goals as goal
 
+-- To read one byte more would lose nothing either: that no more is read is held by `taken` alone.
+same_longer : NeedsFirst checked_line (most_read + 1)
+same_longer = needs_more checked_line most_read (most_read + 1) same_line (omega arith)
+
 pub returns-clause-whole : goal.returns-clause-whole
-returns-clause-whole g c = search (rules, same_line)
+returns-clause-whole g c = first_of (search (rules, same_line), search (rules, same_longer))

@@ -1,11 +1,15 @@
 -- What was written is the answer to what was read.
-use Rattle.std.specs.Prelude.{ℕ, ◌≡◌, List, length, take, None, Some, Ok, Err, OnOk}
+use Rattle.std.specs.Prelude.{ℕ, ◌≤◌, ◌≡◌, List, length, take, None, Some, Ok, Err, OnOk}
 use Rattle.std.specs.declared.option.Option.{Option}
 use Rattle.std.specs.declared.result.Result.{Result}
 use Rattle.std.specs.Io.KnownBytes.{Appends, Consumes}
-use Rattle.std.proofs.Common.{sym, ◌∙◌, ap, subst}
+use Rattle.std.proofs.Common.{sym, ◌∙◌, ap, subst, take-take}
 use Rattle.std.proofs.Math.Seq.{take-append_seam}
-use Rattle.streams.specs.Streamed.{ReadsFirst, AppendsPart, WritesAnswer, WritesPart}
+use Rattle.streams.specs.Streamed.{ReadsFirst, AppendsPart, NeedsFirst, WritesAnswer, WritesPart}
+
+-- To read more than is needed loses nothing either.
+pub needs_more : (f : List ℕ → List ℕ) (most more : ℕ) → NeedsFirst f most → most ≤ more → NeedsFirst f more
+needs_more f most more same within all = sym (same (take more all)) ∙ ap f (take-take most more all within) ∙ same all
 
 -- An f that needs no more than the first bytes, so many, is answered for all.
 pub answered : {A E : Type 0} (f : List ℕ → List ℕ) (most : ℕ) (result : Result A E) (input old new : Option (List ℕ)) (read bytes : List ℕ)
