@@ -39,9 +39,8 @@ fn write_answer(answer: Result<usize, Refusal>, out: &mut [u8]) -> usize
     }
 }
 
-// All that qasmout prints for a listing is put at the start of an output buffer that is long enough; answers how many bytes.
-fn put_export(listing: &[u8], out: &mut [u8]) -> usize
-    requires { most_text ≤ length out.old }
+// All that qasmout prints for a listing is written from the start of the output buffer; answers how many bytes.
+pub fn print_export(listing: &[u8], out: &mut [u8; MOST_TEXT]) -> usize
     ensures out_after { take result out.new ≡ exported_bytes listing.now }
     ensures upper_bound { result ≤ length out.new }
 {
@@ -51,8 +50,7 @@ fn put_export(listing: &[u8], out: &mut [u8]) -> usize
 }
 
 // The same of what qasmin prints for a text.
-fn put_import(text: &[u8], out: &mut [u8]) -> usize
-    requires { most_bytes ≤ length out.old }
+pub fn print_import(text: &[u8], out: &mut [u8; MOST_BYTES]) -> usize
     ensures out_after { take result out.new ≡ imported_bytes text.now }
     ensures upper_bound { result ≤ length out.new }
 {
@@ -71,22 +69,6 @@ fn put_import(text: &[u8], out: &mut [u8]) -> usize
     write_answer(answer, out)
 }
 
-// All that qasmout prints for a listing is written from the start of the output buffer; answers how many bytes.
-pub fn print_export(listing: &[u8], out: &mut [u8; MOST_TEXT]) -> usize
-    ensures out_after { take result out.new ≡ exported_bytes listing.now }
-    ensures upper_bound { result ≤ length out.new }
-{
-    put_export(listing, out)
-}
-
-// The same of what qasmin prints for a text.
-pub fn print_import(text: &[u8], out: &mut [u8; MOST_BYTES]) -> usize
-    ensures out_after { take result out.new ≡ imported_bytes text.now }
-    ensures upper_bound { result ≤ length out.new }
-{
-    put_import(text, out)
-}
-
 // What qasmout answers a listing with.
 #[derive(Clone, Copy)]
 struct Qasmout;
@@ -97,10 +79,10 @@ impl Answers for Qasmout {
     ghost most_written = { most_text };
 
     fn put_answer(&self, listing: &[u8], out: &mut [u8]) -> usize {
-        if out.len() < MOST_TEXT {
-            return 0;
+        match out.first_chunk_mut::<MOST_TEXT>() {
+            Some(out) => print_export(listing, out),
+            None => 0,
         }
-        put_export(listing, out)
     }
 }
 
@@ -114,10 +96,10 @@ impl Answers for Qasmin {
     ghost most_written = { most_bytes };
 
     fn put_answer(&self, text: &[u8], out: &mut [u8]) -> usize {
-        if out.len() < MOST_BYTES {
-            return 0;
+        match out.first_chunk_mut::<MOST_BYTES>() {
+            Some(out) => print_import(text, out),
+            None => 0,
         }
-        put_import(text, out)
     }
 }
 

@@ -1,8 +1,8 @@
--- `openqasm_io::put_export` meets its contract: the output buffer and the working memory are long enough. Assumes nothing.
+-- `openqasm_io::print_export` meets its contract: the output buffer and the working memory are long enough. Assumes nothing.
 use Rattle.std.proofs.Common.{arith}
 use Rattle.std.specs.Prelude.{refl}
 use Rattle.openqasm_io.proofs.Laws.Printed.{export_printed}
-use Rattle.openqasm_io.proofs.put_export.Goals as goal
+use Rattle.openqasm_io.proofs.print_export.Goals as goal
 
 pub returns : goal.returns
 returns c =
@@ -10,6 +10,6 @@ returns c =
     let x = c.export-answer in
     let w = c.write_answer in
     let p =
-    export_printed a.listing.now a.out.now w.new.out _ w.result c.requires refl x.ensures.answer x.ensures.bytes
+    export_printed a.listing.now a.out.now w.new.out _ w.result (omega arith) refl x.ensures.answer x.ensures.bytes
     w.ensures in
     record { out_after = p.0; upper_bound = p.1 }
