@@ -1,5 +1,6 @@
 -- What was written is the answer to what was read.
 use Rattle.std.specs.Prelude.{ℕ, ◌≤◌, ◌≡◌, List, length, take, None, Some, Ok, Err, OnOk}
+use Rattle.std.specs.Result.{result_and}
 use Rattle.std.specs.declared.option.Option.{Option}
 use Rattle.std.specs.declared.result.Result.{Result}
 use Rattle.std.specs.Io.KnownBytes.{Appends, Consumes}
@@ -33,3 +34,18 @@ answered_part f (Some all) None old new read bytes taken are written = absurd ta
 answered_part f (Some all) (Some more) old new read bytes taken are written =
     let first : take (length read) all ≡ read = ap (take (length read)) taken ∙ take-append_seam read more in
     (length read, subst (AppendsPart old new) (are ∙ ap f (sym first)) written)
+
+-- The same where more is read than is needed, and a read that failed is told behind the answer.
+pub answered_and : (f : List ℕ → List ℕ) (most : ℕ) → NeedsFirst f most
+    → (A B E : Type 0) (more : ℕ) (wrote : Result A E) (found result : Result B E) (input old new : Option (List ℕ)) (read bytes : List ℕ)
+    → result ≡ result_and wrote found
+    → OnOk found (ReadsFirst more input read)
+    → bytes ≡ f read
+    → OnOk wrote (Appends old new bytes)
+    → most ≤ more
+    → OnOk result (WritesAnswer f input old new)
+answered_and f most same A B E more (Err e) found result input old new read bytes is first are written within =
+    subst (λ r. OnOk r (WritesAnswer f input old new)) (sym is) tt
+answered_and f most same A B E more (Ok x) found result input old new read bytes is first are written within =
+    subst (λ r. OnOk r (WritesAnswer f input old new)) (sym is)
+    (answered f more found input old new read bytes (needs_more f most more same within) first are written)
