@@ -4,7 +4,7 @@
 // Called by the program listcheck.
 #![tactic(auto)]
 
-ghost use Rattle.std.specs.Prelude.{◌≤◌, length, OnOk};
+ghost use Rattle.std.specs.Prelude.{◌≤◌, ◌≡◌, length, take, OnOk};
 ghost use Rattle.streams.specs.Streamed.{TakesFirst, WritesAnswer, WritesPart};
 ghost use Rattle.wirelist_lines.specs.Least.{refusal_bytes};
 ghost use Rattle.text.specs.Written.{Written};
@@ -51,6 +51,14 @@ pub fn print_line(listing: &[u8], text: &mut [u8]) -> usize
     write_answer(answer, text)
 }
 
+// The same with a text that holds it: the bytes before the number that it answers are all that is printed.
+fn print_all(listing: &[u8], text: &mut [u8; REFUSAL_BYTES]) -> usize
+    ensures text_after { take result text.new ≡ checked_line listing.now }
+    ensures upper_bound { result ≤ length text.new }
+{
+    print_line(listing, text)
+}
+
 // What listcheck answers a listing with.
 #[derive(Clone, Copy)]
 struct Listcheck;
@@ -61,7 +69,10 @@ impl Answers for Listcheck {
     ghost most_written = { refusal_bytes };
 
     fn put_answer(&self, listing: &[u8], text: &mut [u8]) -> usize {
-        print_line(listing, text)
+        match text.first_chunk_mut::<REFUSAL_BYTES>() {
+            Some(text) => print_all(listing, text),
+            None => 0,
+        }
     }
 }
 
